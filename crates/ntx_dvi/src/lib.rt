@@ -1,0 +1,13 @@
+//! Writes DVI files, the device-independent output of TeX: the operations of a file as bytes, under a limit on its length.
+//!
+//! The format is that of "TeX: The Program", sections 583 to 591. The bytes come out in pieces, by [`Dvi::take`].
+#![tactic(auto)]
+
+mod dvi;
+mod encode;
+mod full;
+mod output;
+mod part;
+
+pub use dvi::Dvi;
+pub use full::DviFull;
