@@ -1,14 +1,16 @@
 //! The writer of DVI files.
 
-ghost use Rattle.std.specs.Prelude.{◌≡◌, ◌≤◌, ◌<◌, ◌^◌, ◌-◌, []};
+ghost use Rattle.std.specs.Prelude.{◌≡◌, ◌≤◌, ◌<◌, ◌^◌, ◌-◌, [], pos, IsOk};
 ghost use Rattle.ntx_num.specs.Answer.{Gives, Steps};
 ghost use Rattle.ntx_dvi.specs.Operation.{Begin, PageStart, Push, Pop, Right, Down, Rule, PageEnd, End};
 ghost use Rattle.ntx_dvi.specs.Writer.{new_writer, step, IsNew, IsBetweenPages, IsInPage, HasOpenPush, MayPush, HasNoOpenPush};
 
+use crate::encode;
 use crate::full::DviFull;
+use crate::movement::append_movement;
+use crate::opcode::{DOWN, EOP, POP, PUSH, RIGHT};
 use crate::output::Output;
 use crate::part::Part;
-use byteorder::{BigEndian, ByteOrder};
 use ntx_num::{Fail, NoMemory};
 use std::alloc::Global;
 use std::marker::Model;
@@ -69,15 +71,104 @@ impl Dvi {
         })
     }
 
+    /// Writes the preamble.
+    pub fn begin(&mut self) -> Result<(), Fail<DviFull>>
+        requires { IsNew self.old }
+        ensures { Steps result self.old self.new (step Begin self.old) }
+    {
+        self.output.append(&encode::preamble())?;
+        self.part = Part::BetweenPages;
+        Ok(())
+    }
+
+    /// Begins the page of this number.
+    pub fn page_start(&mut self, number: i32) -> Result<(), Fail<DviFull>>
+        requires { IsBetweenPages self.old }
+        ensures { Steps result self.old self.new (step (PageStart number) self.old) }
+    {
+        let place = self.output.place() as i32;
+        self.output.append(&encode::page_start(number, self.last_page))?;
+        self.part = Part::InPage;
+        self.last_page = place;
+        self.pages += 1;
+        Ok(())
+    }
+
     /// Puts the place on the page on the stack.
     pub fn push(&mut self) -> Result<(), Fail<DviFull>>
         requires in_page { IsInPage self.old }
         requires may_push { MayPush self.old }
         ensures { Steps result self.old self.new (step Push self.old) }
     {
-        self.output.append(&[141])?;
+        self.output.append(&[PUSH])?;
         self.open_pushes += 1;
         self.deepest = self.deepest.max(self.open_pushes);
         Ok(())
+    }
+
+    /// Takes the place on the page that was put on the stack last.
+    pub fn pop(&mut self) -> Result<(), Fail<DviFull>>
+        requires in_page { IsInPage self.old }
+        requires has_push { HasOpenPush self.old }
+        ensures { Steps result self.old self.new (step Pop self.old) }
+    {
+        self.output.append(&[POP])?;
+        self.open_pushes -= 1;
+        Ok(())
+    }
+
+    /// Moves the place on the page to the right by `x` scaled points. A movement by 0 writes nothing and is never refused.
+    pub fn right(&mut self, x: i32) -> Result<(), Fail<DviFull>>
+        requires { IsInPage self.old }
+        ensures steps { Steps result self.old self.new (step (Right x) self.old) }
+        ensures nothing { x ≡ pos 0 → IsOk result }
+    {
+        append_movement(&mut self.output, RIGHT, x)
+    }
+
+    /// Moves the place on the page down by `y` scaled points. A movement by 0 writes nothing and is never refused.
+    pub fn down(&mut self, y: i32) -> Result<(), Fail<DviFull>>
+        requires { IsInPage self.old }
+        ensures steps { Steps result self.old self.new (step (Down y) self.old) }
+        ensures nothing { y ≡ pos 0 → IsOk result }
+    {
+        append_movement(&mut self.output, DOWN, y)
+    }
+
+    /// A rule of this height and width in scaled points, with its left lower corner at the place on the page, which then moves right
+    /// by the width.
+    pub fn rule(&mut self, height: i32, width: i32) -> Result<(), Fail<DviFull>>
+        requires { IsInPage self.old }
+        ensures { Steps result self.old self.new (step (Rule height width) self.old) }
+    {
+        self.output.append(&encode::rule(height, width))
+    }
+
+    /// Ends the page. `total` is its height plus depth and `width` its width, both in scaled points.
+    pub fn page_end(&mut self, total: i32, width: i32) -> Result<(), Fail<DviFull>>
+        requires in_page { IsInPage self.old }
+        requires no_push { HasNoOpenPush self.old }
+        ensures { Steps result self.old self.new (step (PageEnd total width) self.old) }
+    {
+        self.output.append(&[EOP])?;
+        self.part = Part::BetweenPages;
+        self.tallest = self.tallest.max(total);
+        self.widest = self.widest.max(width);
+        Ok(())
+    }
+
+    /// The bytes that were not yet taken. It takes no memory.
+    pub fn take(&mut self) -> Vec<u8>
+        ensures taken { result.items ≡ self.old.waiting }
+        ensures rest { self.new ≡ record self.old { waiting = [] } }
+    {
+        self.output.take()
+    }
+
+    /// How many pages have begun.
+    pub fn pages(&self) -> u64
+        ensures { result ≡ self.now.progress.pages }
+    {
+        self.pages
     }
 }

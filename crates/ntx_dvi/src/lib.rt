@@ -6,8 +6,12 @@
 mod dvi;
 mod encode;
 mod full;
+mod movement;
+mod opcode;
 mod output;
 mod part;
+#[cfg(test)]
+mod tests;
 
 pub use dvi::Dvi;
 pub use full::DviFull;
