@@ -50,9 +50,13 @@ postamble p =
 abbrev pub ending : Progress → List ℕ
 ending p = postamble p ++ 249 ∷ big_bytes 4 p.place ++ 2 ∷ []
 
--- four bytes 223 after so many bytes, and up to three more to a length that is a multiple of four
-abbrev pub padding : ℕ → List ℕ
-padding count = replicate (4 + (4 - count % 4) % 4) 223
+-- how many bytes fill a file of so many up: four, and up to three more to a length that is a multiple of four
+abbrev pub filler_count : ℕ → ℕ
+filler_count count = 4 + (4 - count % 4) % 4
+
+-- the bytes that fill the file up
+abbrev pub fillers : ℕ → List ℕ
+fillers count = replicate (filler_count count) 223
 
 abbrev pub operation_bytes : Progress → Operation → List ℕ
 operation_bytes p Begin = preamble
@@ -63,4 +67,4 @@ operation_bytes p (Right distance) = movement_bytes 142 distance
 operation_bytes p (Down distance) = movement_bytes 156 distance
 operation_bytes p (Rule height width) = rule_bytes height width
 operation_bytes p (PageEnd total width) = 140 ∷ []
-operation_bytes p End = ending p ++ padding (p.place + length (ending p))
+operation_bytes p End = ending p ++ fillers (p.place + length (ending p))

@@ -1,16 +1,18 @@
 //! The writer of DVI files.
 
-ghost use Rattle.std.specs.Prelude.{◌≡◌, ◌≤◌, ◌<◌, ◌^◌, ◌-◌, [], pos, IsOk};
+ghost use Rattle.std.specs.Prelude.{◌≡◌, ◌<◌, ◌^◌, ◌++◌, [], pos, IsOk, replicate};
 ghost use Rattle.ntx_num.specs.Answer.{Gives, Steps};
 ghost use Rattle.ntx_dvi.specs.Operation.{Begin, PageStart, Push, Pop, Right, Down, Rule, PageEnd, End};
+ghost use Rattle.ntx_dvi.specs.Bytes.{postamble, ending};
 ghost use Rattle.ntx_dvi.specs.Writer.{new_writer, step, IsNew, IsBetweenPages, IsInPage, HasOpenPush, MayPush, HasNoOpenPush};
 
 use crate::encode;
 use crate::full::DviFull;
 use crate::movement::append_movement;
-use crate::opcode::{DOWN, EOP, POP, PUSH, RIGHT};
+use crate::opcode::{DOWN, EOP, FILLER, FORMAT, POP, POST, POST_POST, PUSH, RIGHT};
 use crate::output::Output;
 use crate::part::Part;
+use byteorder::{BigEndian, ByteOrder};
 use ntx_num::{Fail, NoMemory};
 use std::alloc::Global;
 use std::marker::Model;
@@ -157,6 +159,18 @@ impl Dvi {
         Ok(())
     }
 
+    /// Writes the postamble and what follows it.
+    pub fn end(&mut self) -> Result<(), Fail<DviFull>>
+        requires { IsBetweenPages self.old }
+        ensures { Steps result self.old self.new (step End self.old) }
+    {
+        let bytes = self.ending();
+        let length = 35 + encode::filler_count(self.output.place() + 35);
+        self.output.append(&bytes[..length])?;
+        self.part = Part::AfterEnd;
+        Ok(())
+    }
+
     /// The bytes that were not yet taken. It takes no memory.
     pub fn take(&mut self) -> Vec<u8>
         ensures taken { result.items ≡ self.old.waiting }
@@ -170,5 +184,32 @@ impl Dvi {
         ensures { result ≡ self.now.progress.pages }
     {
         self.pages
+    }
+
+    /// The postamble.
+    fn postamble(&self) -> [u8; 29]
+        ensures { result ≡ postamble self.now.progress }
+    {
+        let mut bytes = [0; 29];
+        bytes[0] = POST;
+        BigEndian::write_i32(&mut bytes[1..], self.last_page);
+        bytes[5..17].copy_from_slice(&encode::units());
+        BigEndian::write_i32(&mut bytes[17..], self.tallest);
+        BigEndian::write_i32(&mut bytes[21..], self.widest);
+        BigEndian::write_u16(&mut bytes[25..], self.deepest);
+        BigEndian::write_u16(&mut bytes[27..], (self.pages % 0x1_0000) as u16);
+        bytes
+    }
+
+    /// The postamble and what follows it, with as many fillers as there may be.
+    fn ending(&self) -> [u8; 42]
+        ensures { result ≡ ending self.now.progress ++ replicate 7 223 }
+    {
+        let mut bytes = [FILLER; 42];
+        bytes[..29].copy_from_slice(&self.postamble());
+        bytes[29] = POST_POST;
+        BigEndian::write_u32(&mut bytes[30..], self.output.place() as u32);
+        bytes[34] = FORMAT;
+        bytes
     }
 }

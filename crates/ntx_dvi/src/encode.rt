@@ -1,7 +1,7 @@
 //! The bytes of the operations that have numbers of several bytes, the highest byte first.
 
-ghost use Rattle.std.specs.Prelude.{◌≡◌, ◌++◌, ◌∷◌, []};
-ghost use Rattle.ntx_dvi.specs.Bytes.{units, preamble, page_start_bytes, rule_bytes};
+ghost use Rattle.std.specs.Prelude.{◌≡◌, ◌≤◌};
+ghost use Rattle.ntx_dvi.specs.Bytes.{units, preamble, page_start_bytes, rule_bytes, filler_count};
 
 use crate::opcode::{BOP, COMMENT, DENOMINATOR, FORMAT, MAGNIFICATION, NUMERATOR, PRE, SET_RULE};
 use byteorder::{BigEndian, ByteOrder};
@@ -50,4 +50,13 @@ pub fn rule(height: i32, width: i32) -> [u8; 9]
     BigEndian::write_i32(&mut bytes[1..], height);
     BigEndian::write_i32(&mut bytes[5..], width);
     bytes
+}
+
+/// How many fillers follow `count` bytes: four, and up to three more to a length that is a multiple of four.
+pub fn filler_count(count: u64) -> usize
+    ensures value { result ≡ filler_count count }
+    ensures least { 4 ≤ result }
+    ensures most { result ≤ 7 }
+{
+    (4 + (4 - count % 4) % 4) as usize
 }

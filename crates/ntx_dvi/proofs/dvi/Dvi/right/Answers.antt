@@ -1,6 +1,7 @@
 -- What the output appends is what the operation writes.
 use Rattle.std.proofs.Common.{FitsSigned, w32}
 use Rattle.std.proofs.lemmas.Int.{to_z-of_z}
+use Rattle.ntx_dvi.specs.Bytes.{movement_bytes}
 use Rattle.ntx_dvi.specs.contracts.dvi.Dvi.{the_view}
 use Rattle.ntx_dvi.proofs.Appended.{appending-steps}
 use Rattle.ntx_dvi.proofs.dvi.Dvi.right.Goals as goal
@@ -9,4 +10,5 @@ pub returns-clause-steps : goal.returns-clause-steps
 returns-clause-steps c =
     let distance_fits : FitsSigned w32 c.args.x = c.ranges.x in
     let appends = simp to_z-of_z at c.append_movement.ensures.steps in
-    rw (← c.self.view_is) (appending-steps c.append_movement.result _ (the_view c.self.inside).progress _ _ appends)
+    rw (← c.self.view_is) 
+    (appending-steps c.append_movement.result (movement_bytes 142 c.args.x) (the_view c.self.inside).progress c.self.inside.output c.append_movement.new.output appends)

@@ -1,0 +1,19 @@
+-- What is appended is the bytes of the operation.
+use Rattle.std.proofs.Common.{◌≡◌, ℕ, ap, sym, ◌∙◌, ◌+◌, ◌++◌, replicate}
+use Rattle.ntx_dvi.specs.Operation.{End}
+use Rattle.ntx_dvi.specs.Progress.{AfterEnd}
+use Rattle.ntx_dvi.specs.Bytes.{ending, filler_count, operation_bytes}
+use Rattle.ntx_dvi.specs.Writer.{Writer}
+use Rattle.ntx_dvi.specs.contracts.dvi.Dvi.{the_view}
+use Rattle.ntx_dvi.proofs.Appended.{appending-ok}
+use Rattle.ntx_dvi.proofs.Ending.{take-ending}
+use Rattle.ntx_dvi.proofs.dvi.Dvi.end.Goals as goal
+
+pub returns : goal.returns
+returns c =
+    let before = (the_view c.self.inside).progress in
+    let longest = c.ending-bytes.ensures ∙ ap (λ (w : Writer). ending w.progress ++ replicate 7 223) (sym c.self.view_is) in
+    let counted = c.filler_count-length.ensures.value ∙ ap (λ (n : ℕ). filler_count (n + 35)) c.place.ensures in
+    let bytes = take-ending before _ _ longest counted c.filler_count-length.ensures.most in
+    let written = rw bytes at c.in_ok-append.ensures.steps in
+    rw (← c.self.view_is) (appending-ok (operation_bytes before End) (record before { part = AfterEnd }) c.self.inside.output c.append.new.self _ written)
