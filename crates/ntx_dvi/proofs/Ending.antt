@@ -12,5 +12,6 @@ take-repeated front x count most h =
     take-append-add front (replicate most x) count ∙ ap (λ (xs : List ℕ). front ++ xs) (take-replicate count most x h)
 
 pub take-ending : (p : Progress) (count : ℕ) (bytes : List ℕ) → bytes ≡ ending p ++ replicate 7 223 → count ≡ filler_count (p.place + 35) → count ≤ 7 → take (35 + count) bytes ≡ operation_bytes p End
+unfolding operation_bytes
 take-ending p count bytes same counted most =
     ap (take (35 + count)) same ∙ take-repeated (ending p) 223 count 7 most ∙ ap (λ (n : ℕ). ending p ++ replicate n 223) counted

@@ -58,7 +58,8 @@ filler_count count = 4 + (4 - count % 4) % 4
 abbrev pub fillers : ℕ → List ℕ
 fillers count = replicate (filler_count count) 223
 
-abbrev pub operation_bytes : Progress → Operation → List ℕ
+-- The bytes of an operation. Proofs see into it only where they ask for it, since most need no more than that there are such bytes.
+unfoldable pub operation_bytes : Progress → Operation → List ℕ
 operation_bytes p Begin = preamble
 operation_bytes p (PageStart number) = page_start_bytes number p.last_page
 operation_bytes p Push = 141 ∷ []

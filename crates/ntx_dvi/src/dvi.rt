@@ -55,6 +55,7 @@ impl Model for Dvi {
     ghost invariant = { λ d. (d.output.place ≤ d.output.limit) × (d.output.limit < 2 ^ 31) × (d.pages ≤ d.output.place) };
 }
 
+#[tactic(auto, unfolding(crate::specs::Bytes::operation_bytes))]
 impl Dvi {
     /// A file of at most `limit` bytes, with nothing in it.
     pub fn new(alloc: Global, limit: u64) -> Result<Dvi, NoMemory>

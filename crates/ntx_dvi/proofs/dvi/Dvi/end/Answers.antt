@@ -10,6 +10,7 @@ use Rattle.ntx_dvi.proofs.Ending.{take-ending}
 use Rattle.ntx_dvi.proofs.dvi.Dvi.end.Goals as goal
 
 pub returns : goal.returns
+unfolding operation_bytes
 returns c =
     let before = (the_view c.self.inside).progress in
     let longest = c.ending-bytes.ensures ∙ ap (λ (w : Writer). ending w.progress ++ replicate 7 223) (sym c.self.view_is) in
