@@ -17,7 +17,7 @@ with_room p room = record { limit = room.limit; progress = record p { place = ro
 abbrev pub appending : List ℕ → Progress → Room → Result (Unit {0} × Writer) DviFull
 appending bytes p room =
     if nat_le (room.place + length bytes) room.limit then
-      Ok (tt, with_room p (record room { place = room.place + length bytes; waiting = room.waiting ++ bytes }))
+    Ok (tt, with_room p (record room { place = room.place + length bytes; waiting = room.waiting ++ bytes }))
     else Err (record {})
 
 -- an operation was written

@@ -28,6 +28,7 @@ place-after_all p (x ∷ xs) =
 
 -- a step that is not refused writes its operation
 pub step-ok : (operation : Operation) (w new : Writer) (unit : Unit {0}) → step operation w ≡ Ok (unit, new) → new ≡ with_operation w operation
+unfolding step
 step-ok operation w new unit h = grind arith
 
 -- one operation more

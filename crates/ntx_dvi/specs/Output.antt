@@ -14,5 +14,5 @@ pub record Room : Type 0 where
 abbrev pub appended : List ℕ → Room → Result (Unit {0} × Room) DviFull
 appended bytes room =
     if nat_le (room.place + length bytes) room.limit then
-      Ok (tt, record room { place = room.place + length bytes; waiting = room.waiting ++ bytes })
+    Ok (tt, record room { place = room.place + length bytes; waiting = room.waiting ++ bytes })
     else Err (record {})

@@ -34,7 +34,7 @@ start = record {
   open_pushes = 0;
   deepest = 0;
   tallest = pos 0;
-  widest = pos 0
+  widest = pos 0;
 }
 
 -- What an operation changes, but for the place, which every byte moves on.

@@ -29,7 +29,7 @@ with_operation w operation =
     record w { progress = after w.progress operation; waiting = w.waiting ++ operation_bytes w.progress operation }
 
 -- An operation is written where it ends within the limit, and is refused where it does not.
-abbrev pub step : Operation → Writer → Result (Unit {0} × Writer) DviFull
+unfoldable pub step : Operation → Writer → Result (Unit {0} × Writer) DviFull
 step operation w =
     if nat_le (w.progress.place + length (operation_bytes w.progress operation)) w.limit then Ok (tt, with_operation w operation)
     else Err (record {})

@@ -1,10 +1,10 @@
 //! The writer of DVI files.
 
-ghost use Rattle.std.specs.Prelude.{◌≡◌, ◌<◌, ◌^◌, ◌++◌, [], pos, IsOk, replicate};
+ghost use Rattle.std.specs.Prelude.{◌≡◌, ◌<◌, ◌^◌, ◌++◌, [], pos, IsOk, OnOk, replicate};
 ghost use Rattle.ntx_num.specs.Answer.{Gives, Steps};
 ghost use Rattle.ntx_dvi.specs.Operation.{Begin, PageStart, Push, Pop, Right, Down, Rule, PageEnd, End};
 ghost use Rattle.ntx_dvi.specs.Bytes.{postamble, ending};
-ghost use Rattle.ntx_dvi.specs.Writer.{new_writer, step, IsNew, IsBetweenPages, IsInPage, HasOpenPush, MayPush, HasNoOpenPush};
+ghost use Rattle.ntx_dvi.specs.Writer.{new_writer, step, with_operation, IsNew, IsBetweenPages, IsInPage, HasOpenPush, MayPush, HasNoOpenPush};
 
 use crate::encode;
 use crate::full::DviFull;
@@ -38,24 +38,24 @@ impl Model for Dvi {
     ghost Value = { Writer };
 
     ghost view = { λ d. record {
-        limit = d.output.limit;
-        progress = record {
-            part = part_seen d.part;
-            place = d.output.place;
-            last_page = d.last_page;
-            pages = d.pages;
-            open_pushes = d.open_pushes;
-            deepest = d.deepest;
-            tallest = d.tallest;
-            widest = d.widest
-        };
-        waiting = d.output.waiting
+      limit = d.output.limit;
+      progress = record {
+        part = part_seen d.part;
+        place = d.output.place;
+        last_page = d.last_page;
+        pages = d.pages;
+        open_pushes = d.open_pushes;
+        deepest = d.deepest;
+        tallest = d.tallest;
+        widest = d.widest;
+      };
+      waiting = d.output.waiting;
     } };
 
     ghost invariant = { λ d. (d.output.place ≤ d.output.limit) × (d.output.limit < 2 ^ 31) × (d.pages ≤ d.output.place) };
 }
 
-#[tactic(auto, unfolding(crate::specs::Bytes::operation_bytes))]
+#[tactic(auto, unfolding(crate::specs::Bytes::operation_bytes, crate::specs::Writer::step))]
 impl Dvi {
     /// A file of at most `limit` bytes, with nothing in it.
     pub fn new(alloc: Global, limit: u64) -> Result<Dvi, NoMemory>
@@ -77,7 +77,8 @@ impl Dvi {
     /// Writes the preamble.
     pub fn begin(&mut self) -> Result<(), Fail<DviFull>>
         requires { IsNew self.old }
-        ensures { Steps result self.old self.new (step Begin self.old) }
+        ensures steps { Steps result self.old self.new (step Begin self.old) }
+        ensures written { OnOk result (self.new ≡ with_operation self.old Begin) }
     {
         self.output.append(&encode::preamble())?;
         self.part = Part::BetweenPages;
@@ -87,10 +88,12 @@ impl Dvi {
     /// Begins the page of this number.
     pub fn page_start(&mut self, number: i32) -> Result<(), Fail<DviFull>>
         requires { IsBetweenPages self.old }
-        ensures { Steps result self.old self.new (step (PageStart number) self.old) }
+        ensures steps { Steps result self.old self.new (step (PageStart number) self.old) }
+        ensures written { OnOk result (self.new ≡ with_operation self.old (PageStart number)) }
     {
         let place = self.output.place() as i32;
-        self.output.append(&encode::page_start(number, self.last_page))?;
+        self.output
+            .append(&encode::page_start(number, self.last_page))?;
         self.part = Part::InPage;
         self.last_page = place;
         self.pages += 1;
@@ -101,7 +104,8 @@ impl Dvi {
     pub fn push(&mut self) -> Result<(), Fail<DviFull>>
         requires in_page { IsInPage self.old }
         requires may_push { MayPush self.old }
-        ensures { Steps result self.old self.new (step Push self.old) }
+        ensures steps { Steps result self.old self.new (step Push self.old) }
+        ensures written { OnOk result (self.new ≡ with_operation self.old Push) }
     {
         self.output.append(&[PUSH])?;
         self.open_pushes += 1;
@@ -113,7 +117,8 @@ impl Dvi {
     pub fn pop(&mut self) -> Result<(), Fail<DviFull>>
         requires in_page { IsInPage self.old }
         requires has_push { HasOpenPush self.old }
-        ensures { Steps result self.old self.new (step Pop self.old) }
+        ensures steps { Steps result self.old self.new (step Pop self.old) }
+        ensures written { OnOk result (self.new ≡ with_operation self.old Pop) }
     {
         self.output.append(&[POP])?;
         self.open_pushes -= 1;
@@ -124,6 +129,7 @@ impl Dvi {
     pub fn right(&mut self, x: i32) -> Result<(), Fail<DviFull>>
         requires { IsInPage self.old }
         ensures steps { Steps result self.old self.new (step (Right x) self.old) }
+        ensures written { OnOk result (self.new ≡ with_operation self.old (Right x)) }
         ensures nothing { x ≡ pos 0 → IsOk result }
     {
         append_movement(&mut self.output, RIGHT, x)
@@ -133,6 +139,7 @@ impl Dvi {
     pub fn down(&mut self, y: i32) -> Result<(), Fail<DviFull>>
         requires { IsInPage self.old }
         ensures steps { Steps result self.old self.new (step (Down y) self.old) }
+        ensures written { OnOk result (self.new ≡ with_operation self.old (Down y)) }
         ensures nothing { y ≡ pos 0 → IsOk result }
     {
         append_movement(&mut self.output, DOWN, y)
@@ -142,7 +149,8 @@ impl Dvi {
     /// by the width.
     pub fn rule(&mut self, height: i32, width: i32) -> Result<(), Fail<DviFull>>
         requires { IsInPage self.old }
-        ensures { Steps result self.old self.new (step (Rule height width) self.old) }
+        ensures steps { Steps result self.old self.new (step (Rule height width) self.old) }
+        ensures written { OnOk result (self.new ≡ with_operation self.old (Rule height width)) }
     {
         self.output.append(&encode::rule(height, width))
     }
@@ -151,7 +159,8 @@ impl Dvi {
     pub fn page_end(&mut self, total: i32, width: i32) -> Result<(), Fail<DviFull>>
         requires in_page { IsInPage self.old }
         requires no_push { HasNoOpenPush self.old }
-        ensures { Steps result self.old self.new (step (PageEnd total width) self.old) }
+        ensures steps { Steps result self.old self.new (step (PageEnd total width) self.old) }
+        ensures written { OnOk result (self.new ≡ with_operation self.old (PageEnd total width)) }
     {
         self.output.append(&[EOP])?;
         self.part = Part::BetweenPages;
@@ -163,7 +172,8 @@ impl Dvi {
     /// Writes the postamble and what follows it.
     pub fn end(&mut self) -> Result<(), Fail<DviFull>>
         requires { IsBetweenPages self.old }
-        ensures { Steps result self.old self.new (step End self.old) }
+        ensures steps { Steps result self.old self.new (step End self.old) }
+        ensures written { OnOk result (self.new ≡ with_operation self.old End) }
     {
         let bytes = self.ending();
         let length = 35 + encode::filler_count(self.output.place() + 35);

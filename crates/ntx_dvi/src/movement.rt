@@ -22,11 +22,7 @@ fn big_endian(number: i32) -> [u8; 4]
 }
 
 /// Appends a movement by this distance, or nothing where it is 0. `code` is the one before that of a movement of one byte.
-pub fn append_movement(
-    output: &mut Output,
-    code: u8,
-    distance: i32,
-) -> Result<(), Fail<DviFull>>
+pub fn append_movement(output: &mut Output, code: u8, distance: i32) -> Result<(), Fail<DviFull>>
     requires code_fits { code < 252 }
     requires was_within { output.old.place ≤ output.old.limit }
     ensures nothing { distance ≡ pos 0 → IsOk result }

@@ -39,11 +39,11 @@ fn a_page_of_one_rule_makes_a_file_of_120_bytes(rt: HostRuntime) -> Result<(), F
     assert_eq!(rt; dvi.pages(), 1);
     dvi.end()?;
     let rest = [
-        0x8b, 0, 0, 0, 1, 0, 0, 0, 0, 0, 0, 0, 0, 0, 0, 0, 0, 0, 0, 0, 0, 0, 0, 0, 0, 0, 0, 0, 0, 0,
-        0, 0, 0, 0, 0, 0, 0, 0, 0, 0, 0, 0xff, 0xff, 0xff, 0xff, 0x8d, 0x9f, 0x0a, 0, 0, 0x84, 0,
-        0x01, 0, 0, 0, 0x01, 0, 0, 0x8e, 0x8c, 0xf8, 0, 0, 0, 0x12, 0x01, 0x83, 0x92, 0xc0, 0x1c,
-        0x3b, 0, 0, 0, 0, 0x03, 0xe8, 0, 0x0a, 0, 0, 0, 0x01, 0, 0, 0, 1, 0, 1, 0xf9, 0, 0, 0,
-        0x4f, 2, 0xdf, 0xdf, 0xdf, 0xdf, 0xdf, 0xdf,
+        0x8b, 0, 0, 0, 1, 0, 0, 0, 0, 0, 0, 0, 0, 0, 0, 0, 0, 0, 0, 0, 0, 0, 0, 0, 0, 0, 0, 0, 0,
+        0, 0, 0, 0, 0, 0, 0, 0, 0, 0, 0, 0, 0xff, 0xff, 0xff, 0xff, 0x8d, 0x9f, 0x0a, 0, 0, 0x84,
+        0, 0x01, 0, 0, 0, 0x01, 0, 0, 0x8e, 0x8c, 0xf8, 0, 0, 0, 0x12, 0x01, 0x83, 0x92, 0xc0,
+        0x1c, 0x3b, 0, 0, 0, 0, 0x03, 0xe8, 0, 0x0a, 0, 0, 0, 0x01, 0, 0, 0, 1, 0, 1, 0xf9, 0, 0,
+        0, 0x4f, 2, 0xdf, 0xdf, 0xdf, 0xdf, 0xdf, 0xdf,
     ];
     assert_eq!(rt; dvi.take().as_slice(), rest.as_slice());
     Ok(())
@@ -66,7 +66,9 @@ fn an_empty_page_makes_a_file_of_104_bytes(rt: HostRuntime) -> Result<(), Fail> 
 }
 
 #[test]
-fn an_operation_is_written_up_to_the_limit_and_refused_past_it(rt: HostRuntime) -> Result<(), Fail> {
+fn an_operation_is_written_up_to_the_limit_and_refused_past_it(
+    rt: HostRuntime,
+) -> Result<(), Fail> {
     let mut short = Dvi::new(rt.alloc(), 17)?;
     assert_eq!(rt; short.begin(), Err(Is(DviFull)));
     assert_eq!(rt; short.take().len(), 0);
@@ -107,7 +109,11 @@ fn a_movement_has_the_fewest_bytes_that_its_distance_needs(rt: HostRuntime) -> R
     ];
     for (distance, count, bytes) in table {
         let (right, down) = movements(rt.alloc(), distance)?;
-        assert_eq!(rt; right.first().copied(), Some(142 + count), "right {distance}");
+        assert_eq!(rt;
+            right.first().copied(),
+            Some(142 + count),
+            "right {distance}"
+        );
         assert_eq!(rt; down.first().copied(), Some(156 + count), "down {distance}");
         assert_eq!(rt; right.as_slice().get(1..), Some(bytes), "right {distance}");
         assert_eq!(rt; down.as_slice().get(1..), Some(bytes), "down {distance}");
