@@ -1,7 +1,6 @@
 -- The laws of a file's bytes that its writers go by: what was written is the bytes of a list of operations, and the next operations go
 -- at its end.
-use Rattle.std.proofs.Common.{◌≡◌, ℕ, ◌+◌, List, [], ◌∷◌, ◌++◌, length, Result, Ok, refl, ap, sym, ◌∙◌, arith, length-append, append_assoc, add_assoc}
-use Rattle.ntx_dvi.specs.declared.full.DviFull.{DviFull}
+use Rattle.std.proofs.Common.{◌≡◌, ℕ, ◌+◌, List, [], ◌∷◌, ◌++◌, length, Ok, refl, ap, sym, ◌∙◌, arith, length-append, append_assoc}
 use Rattle.ntx_dvi.specs.Operation.{Operation}
 use Rattle.ntx_dvi.specs.Progress.{Progress}
 use Rattle.ntx_dvi.specs.Bytes.{operation_bytes}

@@ -1,5 +1,5 @@
 -- What is appended is the bytes of the operation.
-use Rattle.std.proofs.Common.{◌≡◌, ℕ, ap, sym, ◌∙◌, ◌+◌, ◌++◌, replicate}
+use Rattle.std.proofs.Common.{ℕ, ap, sym, ◌∙◌, ◌+◌, ◌++◌, replicate}
 use Rattle.ntx_dvi.specs.Operation.{End}
 use Rattle.ntx_dvi.specs.Progress.{AfterEnd}
 use Rattle.ntx_dvi.specs.Bytes.{ending, filler_count, operation_bytes}
