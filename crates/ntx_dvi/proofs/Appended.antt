@@ -1,31 +1,33 @@
 -- What the output does is the step of the writer: an operation whose bytes were appended is written, and what it changes besides is
 -- noted.
-use Rattle.std.proofs.Common.{◌≡◌, ℕ, ◌+◌, List, ◌++◌, length, Result, Ok, Err, nat_le, if◌then◌else◌, arith}
+use Rattle.std.proofs.Common.{◌≡◌, Result, Ok, Err, ap, ◌∙◌, arith}
 use Rattle.ntx_num.specs.declared.answer.Fail.{Fail}
 use Rattle.ntx_num.specs.declared.answer.Fail.TheVariants.{NoMemory, Is}
 use Rattle.ntx_num.specs.Answer.{Steps}
 use Rattle.ntx_dvi.specs.declared.full.DviFull.{DviFull}
-use Rattle.ntx_dvi.specs.Progress.{Progress}
-use Rattle.ntx_dvi.specs.Output.{Room, appended}
-use Rattle.ntx_dvi.specs.Writer.{Writer}
+use Rattle.ntx_dvi.specs.Operation.{Operation}
+use Rattle.ntx_dvi.specs.Progress.{Progress, apart_from_place}
+use Rattle.ntx_dvi.specs.Bytes.{operation_bytes}
+use Rattle.ntx_dvi.specs.Output.{Room, append_step}
+use Rattle.ntx_dvi.specs.Writer.{Writer, step}
 
--- the writer with this output, whose progress is this one but for the place
+-- the output of a writer
+abbrev pub room_of : Writer → Room
+room_of w = record { limit = w.limit; place = w.progress.place; waiting = w.waiting }
+
+-- the writer with this output, whose progress is this one apart from the place
 abbrev pub with_room : Progress → Room → Writer
 with_room p room = record { limit = room.limit; progress = record p { place = room.place }; waiting = room.waiting }
 
--- the step of an operation with these bytes, which leaves this progress but for the place
-abbrev pub appending : List ℕ → Progress → Room → Result (Unit {0} × Writer) DviFull
-appending bytes p room =
-    if nat_le (room.place + length bytes) room.limit then
-    Ok (tt, with_room p (record room { place = room.place + length bytes; waiting = room.waiting ++ bytes }))
-    else Err (record {})
-
 -- an operation was written
-pub appending-ok : (bytes : List ℕ) (p : Progress) (old new : Room) (unit : Unit {0}) → appended bytes old ≡ Ok (unit, new) → appending bytes p old ≡ Ok (tt, with_room p new)
-appending-ok bytes p old new unit h = grind arith
+pub step-appended : (operation : Operation) (w : Writer) (new : Room) (unit : Unit {0}) → append_step (operation_bytes w.progress operation) (room_of w) ≡ Ok (unit, new) → step operation w ≡ Ok (tt, with_room (apart_from_place w.progress operation) new)
+unfolding step
+step-appended operation w new unit h = grind arith
 
 -- an operation that changes no more than the file's length and bytes
-pub appending-steps : (r : Result (Unit {0}) (Fail DviFull)) (bytes : List ℕ) (p : Progress) (old new : Room) → Steps r old new (appended bytes old) → Steps r (with_room p old) (with_room p new) (appending bytes p old)
-appending-steps (Ok a) bytes p old new h = appending-ok bytes p old new a h
-appending-steps (Err (Is e)) bytes p old new h = grind arith
-appending-steps (Err NoMemory) bytes p old new h = grind arith
+pub Steps-appended : (r : Result (Unit {0}) (Fail DviFull)) (operation : Operation) (w : Writer) (new : Room) → apart_from_place w.progress operation ≡ w.progress → Steps r (room_of w) new (append_step (operation_bytes w.progress operation) (room_of w)) → Steps r w (with_room w.progress new) (step operation w)
+unfolding step
+Steps-appended (Ok a) operation w new same h =
+    step-appended operation w new a h ∙ ap (λ (p : Progress). Ok (tt, with_room p new)) same
+Steps-appended (Err (Is e)) operation w new same h = grind arith
+Steps-appended (Err NoMemory) operation w new same h = grind arith

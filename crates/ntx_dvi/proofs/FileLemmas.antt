@@ -1,6 +1,6 @@
 -- The laws of a file's bytes that its writers go by: what was written is the bytes of a list of operations, and the next operations go
 -- at its end.
-use Rattle.std.proofs.Common.{◌≡◌, ℕ, ◌+◌, List, [], ◌∷◌, ◌++◌, length, Ok, refl, ap, sym, ◌∙◌, arith, length-append, append_assoc}
+use Rattle.std.proofs.Common.{◌≡◌, ℕ, ◌+◌, List, [], ◌∷◌, ◌++◌, length, Ok, refl, ap, sym, ◌∙◌, arith, length-append, append_assoc, append-nil}
 use Rattle.ntx_dvi.specs.Operation.{Operation}
 use Rattle.ntx_dvi.specs.Progress.{Progress}
 use Rattle.ntx_dvi.specs.Bytes.{operation_bytes}
@@ -30,8 +30,15 @@ pub step-ok : (operation : Operation) (w new : Writer) (unit : Unit {0}) → ste
 unfolding step
 step-ok operation w new unit h = grind arith
 
--- one operation more
+-- operations, and then others
 pub with_operations-append : (w : Writer) (xs ys : List Operation) → with_operations w (xs ++ ys) ≡ with_operations (with_operations w xs) ys
-with_operations-append w xs ys =
-    rw (after_all-append w.progress xs ys, file_bytes-append w.progress xs ys)
-    (rw append_assoc refl)
+with_operations-append w [] ys = refl
+with_operations-append w (x ∷ xs) ys = with_operations-append (with_operation w x) xs ys
+
+-- what a writer has written is the bytes of the operations
+pub with_operations-is : (w : Writer) (xs : List Operation) → with_operations w xs ≡ record w { progress = after_all w.progress xs; waiting = w.waiting ++ file_bytes w.progress xs }
+with_operations-is w [] = ap (λ (bytes : List ℕ). record w { waiting = bytes }) (sym (append-nil w.waiting))
+with_operations-is w (x ∷ xs) =
+    with_operations-is (with_operation w x) xs
+    ∙ ap (λ (bytes : List ℕ). record w { progress = after_all w.progress (x ∷ xs); waiting = bytes })
+        (append_assoc w.waiting (operation_bytes w.progress x) (file_bytes (after w.progress x) xs))

@@ -1,4 +1,4 @@
--- The bytes of each operation ("TeX: The Program", sections 583 to 591 and 640 to 642; the programs DVItype and TeX agree on them).
+-- The bytes of each operation ("TeX: The Program", sections 583 to 591, 617, 640 and 642).
 -- A number of several bytes has its highest byte first, and one that may be negative is in two's complement.
 use Rattle.std.specs.Prelude.{ℕ, ◌+◌, ◌-◌, ◌*◌, ◌%◌, ◌^◌, ◌&&◌, Bool, if◌then◌else◌, List, [], ◌∷◌, ◌++◌, length, replicate, codes, ℤ, pos, neg_ℤ, int_le, int_lt}
 use Rattle.std.specs.Int.{w32, cast_unsigned}

@@ -2,12 +2,12 @@
 -- A file's bytes are `file_bytes start operations`.
 use Rattle.std.specs.Prelude.{ℕ, ◌+◌, List, [], ◌∷◌, ◌++◌, length}
 use Rattle.ntx_dvi.specs.Operation.{Operation}
-use Rattle.ntx_dvi.specs.Progress.{Progress, noted}
+use Rattle.ntx_dvi.specs.Progress.{Progress, apart_from_place}
 use Rattle.ntx_dvi.specs.Bytes.{operation_bytes}
 
 -- what an operation leaves
 abbrev pub after : Progress → Operation → Progress
-after p operation = record (noted p operation) { place = p.place + length (operation_bytes p operation) }
+after p operation = record (apart_from_place p operation) { place = p.place + length (operation_bytes p operation) }
 
 -- what several operations leave
 abbrev pub after_all : Progress → List Operation → Progress

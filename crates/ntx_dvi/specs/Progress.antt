@@ -1,4 +1,5 @@
--- What the operations so far leave for the later ones: all that the bytes of an operation depend on, besides the operation itself.
+-- What the operations so far leave for the later ones: all that the bytes and the conditions of an operation depend on, besides the
+-- operation itself.
 use Rattle.std.specs.Prelude.{ℕ, ◌+◌, ◌-◌, max, ℤ, pos, negsuc}
 use Rattle.std.specs.Int.{int_max}
 use Rattle.ntx_dvi.specs.Operation.{Operation, Begin, PageStart, Push, Pop, Right, Down, Rule, PageEnd, End}
@@ -37,15 +38,15 @@ start = record {
   widest = pos 0;
 }
 
--- What an operation changes, but for the place, which every byte moves on.
-abbrev pub noted : Progress → Operation → Progress
-noted p Begin = record p { part = BetweenPages }
-noted p (PageStart number) = record p { part = InPage; last_page = pos p.place; pages = p.pages + 1 }
-noted p Push = record p { open_pushes = p.open_pushes + 1; deepest = max p.deepest (p.open_pushes + 1) }
-noted p Pop = record p { open_pushes = p.open_pushes - 1 }
-noted p (Right distance) = p
-noted p (Down distance) = p
-noted p (Rule height width) = p
-noted p (PageEnd total width) =
+-- What an operation leaves, apart from the place, which every byte moves on. Each page begins with no push open.
+abbrev pub apart_from_place : Progress → Operation → Progress
+apart_from_place p Begin = record p { part = BetweenPages }
+apart_from_place p (PageStart number) = record p { part = InPage; last_page = pos p.place; pages = p.pages + 1; open_pushes = 0 }
+apart_from_place p Push = record p { open_pushes = p.open_pushes + 1; deepest = max p.deepest (p.open_pushes + 1) }
+apart_from_place p Pop = record p { open_pushes = p.open_pushes - 1 }
+apart_from_place p (Right distance) = p
+apart_from_place p (Down distance) = p
+apart_from_place p (Rule height width) = p
+apart_from_place p (PageEnd total width) =
     record p { part = BetweenPages; tallest = int_max p.tallest total; widest = int_max p.widest width }
-noted p End = record p { part = AfterEnd }
+apart_from_place p End = record p { part = AfterEnd }

@@ -1,11 +1,12 @@
 -- What a writer of a DVI file is, to its caller: how far the file has come, how long it may become, and the bytes that were not taken
 -- yet. A step writes one operation, where there is room for all of it.
-use Rattle.std.specs.Prelude.{◌≡◌, ℕ, ◌+◌, ◌-◌, ◌<◌, ◌^◌, nat_le, if◌then◌else◌, List, [], ◌++◌, length, Result, Ok, Err}
+use Rattle.std.specs.Prelude.{◌≡◌, ℕ, ◌-◌, ◌<◌, ◌^◌, if◌then◌else◌, List, [], ◌∷◌, ◌++◌, Result, Ok, Err}
 use Rattle.ntx_dvi.specs.declared.full.DviFull.{DviFull}
 use Rattle.ntx_dvi.specs.Operation.{Operation}
 use Rattle.ntx_dvi.specs.Progress as progress
 use Rattle.ntx_dvi.specs.Bytes.{operation_bytes}
-use Rattle.ntx_dvi.specs.File.{after, after_all, file_bytes}
+use Rattle.ntx_dvi.specs.File.{after}
+use Rattle.ntx_dvi.specs.Output.{ends_within}
 
 pub record Writer : Type 0 where
   -- the most bytes that the file may have
@@ -18,20 +19,20 @@ pub record Writer : Type 0 where
 abbrev pub new_writer : ℕ → Writer
 new_writer limit = record { limit = limit; progress = progress.start; waiting = [] }
 
--- the writer once it has written the operations, whatever the limit
-abbrev pub with_operations : Writer → List Operation → Writer
-with_operations w operations =
-    record w { progress = after_all w.progress operations; waiting = w.waiting ++ file_bytes w.progress operations }
-
 -- the writer once it has written the operation, whatever the limit
 abbrev pub with_operation : Writer → Operation → Writer
 with_operation w operation =
     record w { progress = after w.progress operation; waiting = w.waiting ++ operation_bytes w.progress operation }
 
+-- the writer once it has written the operations, one after another, whatever the limit
+abbrev pub with_operations : Writer → List Operation → Writer
+with_operations w [] = w
+with_operations w (operation ∷ operations) = with_operations (with_operation w operation) operations
+
 -- An operation is written where it ends within the limit, and is refused where it does not.
 unfoldable pub step : Operation → Writer → Result (Unit {0} × Writer) DviFull
 step operation w =
-    if nat_le (w.progress.place + length (operation_bytes w.progress operation)) w.limit then Ok (tt, with_operation w operation)
+    if ends_within w.limit w.progress.place (operation_bytes w.progress operation) then Ok (tt, with_operation w operation)
     else Err (record {})
 
 -- Nothing is written yet.

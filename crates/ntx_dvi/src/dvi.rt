@@ -17,7 +17,11 @@ use ntx_num::{Fail, NoMemory};
 use std::alloc::Global;
 use std::marker::Model;
 
-/// A DVI file in the making.
+/// A DVI file in the making. Its operations come in the order of the file: [`Dvi::begin`], then pages, then [`Dvi::end`]; a page is
+/// [`Dvi::page_start`], any of [`Dvi::push`], [`Dvi::pop`], [`Dvi::right`], [`Dvi::down`] and [`Dvi::rule`], and [`Dvi::page_end`].
+///
+/// Each operation is refused with [`DviFull`] exactly where its bytes would end past the limit on the file's length. Then, and where
+/// memory runs out, nothing has changed.
 #[derive(Drop)]
 pub struct Dvi {
     output: Output,
@@ -97,6 +101,7 @@ impl Dvi {
         self.part = Part::InPage;
         self.last_page = place;
         self.pages += 1;
+        self.open_pushes = 0;
         Ok(())
     }
 

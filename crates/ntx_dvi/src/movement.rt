@@ -4,7 +4,7 @@ ghost use Rattle.std.specs.Prelude.{◌≡◌, ◌≤◌, ◌<◌, pos, IsOk};
 ghost use Rattle.std.specs.Int.{w32, cast_unsigned};
 ghost use Rattle.byteorder.specs.Endian.{big_bytes};
 ghost use Rattle.ntx_num.specs.Answer.{Steps};
-ghost use Rattle.ntx_dvi.specs.Output.{appended};
+ghost use Rattle.ntx_dvi.specs.Output.{append_step};
 ghost use Rattle.ntx_dvi.specs.Bytes.{movement_bytes};
 
 use crate::full::DviFull;
@@ -26,7 +26,7 @@ pub fn append_movement(output: &mut Output, code: u8, distance: i32) -> Result<(
     requires code_fits { code < 252 }
     requires was_within { output.old.place ≤ output.old.limit }
     ensures nothing { distance ≡ pos 0 → IsOk result }
-    ensures steps { Steps result output.old output.new (appended (movement_bytes code distance) output.old) }
+    ensures steps { Steps result output.old output.new (append_step (movement_bytes code distance) output.old) }
     ensures within { output.new.place ≤ output.new.limit }
     ensures grows { output.old.place ≤ output.new.place }
     ensures limit_stays { output.new.limit ≡ output.old.limit }

@@ -2,7 +2,7 @@
 
 ghost use Rattle.std.specs.Prelude.{◌≡◌, ◌≤◌, []};
 ghost use Rattle.ntx_num.specs.Answer.{Steps};
-ghost use Rattle.ntx_dvi.specs.Output.{appended};
+ghost use Rattle.ntx_dvi.specs.Output.{append_step};
 
 use crate::full::DviFull;
 use ntx_num::Fail;
@@ -52,7 +52,7 @@ impl Output {
 
     /// Appends all the bytes, or none.
     pub fn append(&mut self, bytes: &[u8]) -> Result<(), Fail<DviFull>>
-        ensures steps { Steps result self.old self.new (appended bytes.now self.old) }
+        ensures steps { Steps result self.old self.new (append_step bytes.now self.old) }
         ensures within { self.new.place ≤ self.new.limit }
         ensures grows { self.old.place ≤ self.new.place }
         ensures limit_stays { self.new.limit ≡ self.old.limit }
