@@ -1,6 +1,6 @@
 //! The writer of DVI files.
 
-ghost use Rattle.std.specs.Prelude.{◌≡◌, ◌<◌, ◌^◌, ◌++◌, [], pos, IsOk, OnOk, replicate};
+ghost use Rattle.std.specs.Prelude.{◌≡◌, ◌<◌, ◌^◌, ◌%◌, ◌++◌, [], pos, IsOk, OnOk, replicate};
 ghost use Rattle.ntx_num.specs.Answer.{Gives, Steps};
 ghost use Rattle.ntx_dvi.specs.Operation.{Begin, PageStart, Push, Pop, Right, Down, Rule, PageEnd, End};
 ghost use Rattle.ntx_dvi.specs.Bytes.{postamble, ending};
@@ -174,11 +174,12 @@ impl Dvi {
         Ok(())
     }
 
-    /// Writes the postamble and what follows it.
+    /// Writes the postamble and what follows it, to a length that is a multiple of four bytes.
     pub fn end(&mut self) -> Result<(), Fail<DviFull>>
         requires { IsBetweenPages self.old }
         ensures steps { Steps result self.old self.new (step End self.old) }
         ensures written { OnOk result (self.new ≡ with_operation self.old End) }
+        ensures multiple_of_four { OnOk result (self.new.progress.place % 4 ≡ 0) }
     {
         let bytes = self.ending();
         let length = 35 + encode::filler_count(self.output.place() + 35);
