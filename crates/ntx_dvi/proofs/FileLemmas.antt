@@ -41,4 +41,4 @@ with_operations-is w [] = ap (λ (bytes : List ℕ). record w { waiting = bytes 
 with_operations-is w (x ∷ xs) =
     with_operations-is (with_operation w x) xs
     ∙ ap (λ (bytes : List ℕ). record w { progress = after_all w.progress (x ∷ xs); waiting = bytes })
-        (append_assoc w.waiting (operation_bytes w.progress x) (file_bytes (after w.progress x) xs))
+    (append_assoc w.waiting (operation_bytes w.progress x) (file_bytes (after w.progress x) xs))

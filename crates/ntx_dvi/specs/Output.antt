@@ -18,5 +18,5 @@ pub record Room : Type 0 where
 abbrev pub append_step : List ℕ → Room → Result (Unit {0} × Room) DviFull
 append_step bytes room =
     if ends_within room.limit room.place bytes then
-      Ok (tt, record room { place = room.place + length bytes; waiting = room.waiting ++ bytes })
+    Ok (tt, record room { place = room.place + length bytes; waiting = room.waiting ++ bytes })
     else Err (record {})

@@ -26,6 +26,7 @@ pub record Progress : Type 0 where
   pub tallest : ℤ
   pub widest : ℤ
 
+-- before any operation
 abbrev pub start : Progress
 start = record {
   part = BeforeBegin;
