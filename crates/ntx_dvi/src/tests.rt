@@ -66,6 +66,33 @@ fn an_empty_page_makes_a_file_of_104_bytes(rt: HostRuntime) -> Result<(), Fail> 
 }
 
 #[test]
+fn the_second_page_points_at_the_first_and_the_postamble_at_the_second(
+    rt: HostRuntime,
+) -> Result<(), Fail> {
+    let mut dvi = Dvi::new(rt.alloc(), 156)?;
+    dvi.begin()?;
+    dvi.page_start(1)?;
+    dvi.push()?;
+    dvi.push()?;
+    dvi.pop()?;
+    dvi.pop()?;
+    dvi.page_end(70000, 3)?;
+    assert_eq!(rt; dvi.take().len(), 68);
+    dvi.page_start(-2)?;
+    dvi.page_end(7, 80000)?;
+    dvi.end()?;
+    assert_eq!(rt; dvi.pages(), 2);
+    let rest = [
+        0x8b, 0xff, 0xff, 0xff, 0xfe, 0, 0, 0, 0, 0, 0, 0, 0, 0, 0, 0, 0, 0, 0, 0, 0, 0, 0, 0, 0,
+        0, 0, 0, 0, 0, 0, 0, 0, 0, 0, 0, 0, 0, 0, 0, 0, 0, 0, 0, 0x12, 0x8c, 0xf8, 0, 0, 0, 0x44,
+        0x01, 0x83, 0x92, 0xc0, 0x1c, 0x3b, 0, 0, 0, 0, 0x03, 0xe8, 0, 0x01, 0x11, 0x70, 0, 0x01,
+        0x38, 0x80, 0, 2, 0, 2, 0xf9, 0, 0, 0, 0x72, 2, 0xdf, 0xdf, 0xdf, 0xdf, 0xdf, 0xdf, 0xdf,
+    ];
+    assert_eq!(rt; dvi.take().as_slice(), rest.as_slice());
+    Ok(())
+}
+
+#[test]
 fn an_operation_is_written_up_to_the_limit_and_refused_past_it(
     rt: HostRuntime,
 ) -> Result<(), Fail> {
