@@ -1,0 +1,4 @@
+pub mod Position
+pub mod LinesLemmas
+pub mod FieldsLemmas
+pub mod DigitsLemmas

@@ -1,0 +1,7 @@
+use Rattle.std.proofs.Common.{◌≡◌, ◌+◌, ◌<◌, ◌^◌, take}
+use Rattle.std.specs.Str.Parse.{digits_value}
+use Rattle.ntx_doc.proofs.DigitsLemmas.{HasRead}
+use Rattle.ntx_doc.proofs.text.value.Given as goal
+
+abbrev pub invariant-loop-digit : goal.invariant-loop-digit
+invariant-loop-digit l = HasRead l.digits l.digit-index l.value

@@ -1,0 +1,54 @@
+//! Reading a document.
+
+ghost use Rattle.std.specs.Prelude.{IfOk};
+ghost use Rattle.ntx_num.specs.Answer.{Answers};
+ghost use Rattle.ntx_doc.specs.Document.{document_of};
+ghost use Rattle.ntx_doc.specs.Seen.{seen};
+ghost use Rattle.ntx_doc.specs.Shape.{IsBoxOfRules};
+
+use crate::command::Command;
+use crate::draft::Draft;
+use crate::fault::{DocFault, DocWhy};
+use crate::text::next_line;
+use ntx_num::Fail;
+use std::alloc::Global;
+
+/// The commands of a document, where `fonts` fonts are loaded.
+///
+/// Lines are ended by LF, and the last LF may be missing; one CR directly before an LF is dropped. A line has bytes
+/// 32 to 126 and tabs. Spaces and tabs separate its fields. A line without fields, or whose first field begins with
+/// `%`, is skipped. What remains is nothing, or `hbox`, up to 500 lines `rule W H D` with numbers from 0 to 2^20 in
+/// scaled points, and `end`. A number is 1 to 10 decimal digits, behind a `-` or not.
+///
+/// # Refusals
+///
+/// The first line that is refused decides, counted from 1, and in it the first reason of these: `Byte`, a byte that
+/// may not stand; `Command`, a first field that is no command, or one that may not stand here; `Fields`, a wrong
+/// number of fields; and then, field by field, `Number` and `Range`. `Open`, at the number of the last line: the box
+/// is not closed.
+pub fn read_doc(alloc: Global, bytes: &[u8], fonts: u64) -> Result<Vec<Command>, Fail<DocFault>>
+    ensures document { Answers (seen (λ commands. commands.items) result) (document_of bytes.now fonts) }
+    ensures shape { IfOk result (λ commands. IsBoxOfRules commands.items) }
+{
+    let _ = fonts;
+    let mut draft = Draft::new(alloc);
+    let mut number: u64 = 0;
+    let mut rest = bytes;
+    while let Some((line, behind)) = next_line(rest) {
+        number += 1;
+        draft = match draft.after_line(alloc, line) {
+            Ok(after) => after,
+            Err(Fail::NoMemory) => return Err(Fail::NoMemory),
+            Err(Fail::Is(why)) => return Err(Fail::Is(DocFault { line: number, why })),
+        };
+        rest = behind;
+    }
+    let Draft { done, group } = draft;
+    match group {
+        None => Ok(done),
+        Some(_) => Err(Fail::Is(DocFault {
+            line: number,
+            why: DocWhy::Open,
+        })),
+    }
+}
