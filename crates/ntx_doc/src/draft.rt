@@ -1,6 +1,6 @@
 //! A document that is read line by line.
 
-ghost use Rattle.std.specs.Prelude.{◌≡◌, ◌≢◌, [], ◌∷◌, length, MatchOption};
+ghost use Rattle.std.specs.Prelude.{◌≡◌, ◌≢◌, [], ◌∷◌, length, MatchOption, slice_index, ◌==◌};
 ghost use Rattle.ntx_num.specs.Answer.{Answers};
 ghost use Rattle.ntx_doc.specs.Text.{fields_of};
 ghost use Rattle.ntx_doc.specs.Document as document;
@@ -8,7 +8,7 @@ ghost use Rattle.ntx_doc.specs.Seen.{seen};
 
 use crate::command::{Command, PackTo};
 use crate::fault::DocWhy;
-use crate::text::{is_plain, next_field, number};
+use crate::text::{are_plain, next_field, number};
 use ntx_num::{Fail, Size, in_range};
 use sqlite_items::Items;
 use std::alloc::Global;
@@ -45,18 +45,28 @@ impl Draft {
     pub fn after_line(self, alloc: Global, line: &[u8]) -> Result<Draft, Fail<DocWhy>>
         ensures { Answers (seen place_of result) (document.leads line.now (place_of self)) }
     {
-        if !line.iter().all(|byte| is_plain(*byte)) {
+        if !are_plain(line) {
             return Err(Fail::Is(DocWhy::Byte));
         }
         match next_field(line) {
             None => Ok(self),
-            Some((word, arguments)) => {
-                if word.first() == Some(&b'%') {
-                    Ok(self)
-                } else {
-                    self.after_command(alloc, word, arguments)
-                }
-            }
+            Some((word, arguments)) => self.after_fields(alloc, word, arguments),
+        }
+    }
+
+    /// The draft behind a line of which `word` is the first field, and `arguments` has the others.
+    fn after_fields(
+        self,
+        alloc: Global,
+        word: &[u8],
+        arguments: &[u8],
+    ) -> Result<Draft, Fail<DocWhy>>
+        ensures { Answers (seen place_of result) (document.fields_lead (word.now ∷ fields_of arguments.now) (place_of self)) }
+    {
+        if is_comment(word) {
+            Ok(self)
+        } else {
+            self.after_command(alloc, word, arguments)
         }
     }
 
@@ -137,6 +147,13 @@ impl Draft {
         })?;
         Ok(Draft { done, group: None })
     }
+}
+
+/// Whether a line whose first field this is says nothing: it begins with a percent sign.
+fn is_comment(word: &[u8]) -> bool
+    ensures { result ≡ (slice_index word.now 0 == 37) }
+{
+    word.first() == Some(&b'%')
 }
 
 /// The three fields of a line, if it has just three.

@@ -11,10 +11,17 @@ ghost use Rattle.ntx_doc.specs.Text as text;
 const MAX_DIGITS: usize = 10;
 
 /// Whether a byte may stand in a line: a space, a printed character of ASCII, or a tab.
-pub fn is_plain(byte: u8) -> bool
+fn is_plain(byte: u8) -> bool
     ensures { result ≡ text.is_plain byte }
 {
     (32 <= byte && byte <= 126) || byte == b'\t'
+}
+
+/// Whether each byte may stand in a line.
+pub fn are_plain(line: &[u8]) -> bool
+    ensures { result ≡ list_all text.is_plain line.now }
+{
+    line.iter().all(|byte| is_plain(*byte))
 }
 
 /// Whether a byte separates fields: a space or a tab.
