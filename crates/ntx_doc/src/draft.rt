@@ -43,7 +43,7 @@ impl Draft {
 
     /// The draft behind this line.
     pub fn after_line(self, alloc: Global, line: &[u8]) -> Result<Draft, Fail<DocWhy>>
-        ensures { Answers (seen place_of result) (document.leads line.now (place_of self)) }
+        ensures { Answers (seen place_of result) (document.after_line line.now (place_of self)) }
     {
         if !are_plain(line) {
             return Err(Fail::Is(DocWhy::Byte));
@@ -61,7 +61,7 @@ impl Draft {
         word: &[u8],
         arguments: &[u8],
     ) -> Result<Draft, Fail<DocWhy>>
-        ensures { Answers (seen place_of result) (document.fields_lead (word.now ∷ fields_of arguments.now) (place_of self)) }
+        ensures { Answers (seen place_of result) (document.after_fields (word.now ∷ fields_of arguments.now) (place_of self)) }
     {
         if is_comment(word) {
             Ok(self)
@@ -77,7 +77,7 @@ impl Draft {
         word: &[u8],
         arguments: &[u8],
     ) -> Result<Draft, Fail<DocWhy>>
-        ensures { Answers (seen place_of result) (document.command word.now (fields_of arguments.now) (place_of self)) }
+        ensures { Answers (seen place_of result) (document.after_command word.now (fields_of arguments.now) (place_of self)) }
     {
         if word == b"hbox".as_slice() {
             self.after_hbox(alloc, arguments)

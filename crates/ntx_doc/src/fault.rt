@@ -18,7 +18,7 @@ pub enum DocWhy {
     Range,
     /// A group that the document does not close.
     Open,
-    /// More bytes than a document may have. Only who reads the bytes gives it.
+    /// More bytes than a document may have. It is given by who takes the bytes in.
     Size,
 }
 

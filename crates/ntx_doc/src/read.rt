@@ -13,7 +13,7 @@ use crate::text::next_line;
 use ntx_num::Fail;
 use std::alloc::Global;
 
-/// The commands of a document, where `fonts` fonts are loaded.
+/// The commands of a document. `fonts` is the number of fonts that are loaded; no line names one.
 ///
 /// Lines are ended by LF, and the last LF may be missing; one CR directly before an LF is dropped. A line has bytes
 /// 32 to 126 and tabs. Spaces and tabs separate its fields. A line without fields, or whose first field begins with
@@ -22,10 +22,14 @@ use std::alloc::Global;
 ///
 /// # Refusals
 ///
-/// The first line that is refused decides, counted from 1, and in it the first reason of these: `Byte`, a byte that
-/// may not stand; `Command`, a first field that is no command, or one that may not stand here; `Fields`, a wrong
-/// number of fields; and then, field by field, `Number` and `Range`. `Open`, at the number of the last line: the box
-/// is not closed.
+/// The first line that is refused decides, counted from 1 with the skipped ones, and in it the first of these reasons:
+///
+/// - `Byte`: a byte that may not stand, in a skipped line too;
+/// - `Command`: a first field that is no command, `rule` or `end` outside of the box, a second `hbox`, a 501st rule;
+/// - `Fields`: other fields than none behind `hbox` and `end`, or than three behind `rule`;
+/// - then, for each field from the left, `Number`: no number, and `Range`: a number outside of 0 to 2^20.
+///
+/// `Open`, at the number of the last line, is a box that the document does not close.
 pub fn read_doc(alloc: Global, bytes: &[u8], fonts: u64) -> Result<Vec<Command>, Fail<DocFault>>
     ensures document { Answers (seen (λ commands. commands.items) result) (document_of bytes.now fonts) }
     ensures shape { IfOk result (λ commands. IsBoxOfRules commands.items) }
