@@ -1,6 +1,6 @@
 -- The first field of a line.
-use Rattle.std.proofs.Common.{◌≡◌, ℕ, ◌+◌, ◌-◌, ◌<◌, ◌≤◌, List, [], ◌∷◌, length, take, drop, get_or, filter, nat_eq, suc, true, false, Option, Some, None, All, arith, position, ap, refl, ◌∙◌, sym, inl, inr, add-zero, length-drop}
-use Rattle.std.specs.List.{slice_split, position_or_len}
+use Rattle.std.proofs.Common.{◌≡◌, ℕ, ◌+◌, ◌-◌, ◌<◌, List, [], ◌∷◌, length, take, drop, get_or, filter, nat_eq, suc, true, false, Some, None, All, arith, position, ap, refl, ◌∙◌, sym, inl, inr, add-zero, length-drop}
+use Rattle.std.specs.List.{position_or_len}
 use Rattle.std.proofs.lemmas.Bool.{cases_Bool, cond-true, not-true, not-false}
 use Rattle.std.proofs.lemmas.Bool.Decides.{nat_tests}
 use Rattle.std.proofs.lemmas.List.{take_rest, length-take-le, get_or-drop}

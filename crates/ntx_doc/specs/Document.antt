@@ -2,7 +2,7 @@
 -- A line stands in a place, and is refused or leads to the place of the line after it. What a document says is what its lines
 -- lead to, one after the other. The form is this project's own; `hbox` and `rule` are TeX's \hbox and \vrule ("The TeXbook",
 -- chapter 21).
-use Rattle.std.specs.Prelude.{ℕ, ◌+◌, ◌^◌, ◌==◌, nat_lt, nat_le, ◌&&◌, Bool, true, false, List, [], ◌∷◌, ◌++◌, length, ℤ, pos, negsuc, Option, None, Some, is_none, Result, Ok, Err, if◌then◌else◌, bytes_eq, codes, slice_index}
+use Rattle.std.specs.Prelude.{ℕ, ◌+◌, ◌^◌, ◌==◌, nat_lt, nat_le, ◌&&◌, Bool, List, [], ◌∷◌, ◌++◌, length, ℤ, pos, negsuc, Option, None, Some, is_none, Result, Ok, Err, if◌then◌else◌, bytes_eq, codes, slice_index}
 use Rattle.std.specs.List.{list_all}
 use Rattle.std.specs.Str.Lines.{lines}
 use Rattle.ntx_num.specs.declared.size.Size.{Size}

@@ -1,5 +1,5 @@
 -- The shape of an accepted document: nothing, or one box of rules.
-use Rattle.std.specs.Prelude.{◌≡◌, ℕ, ◌≤◌, ◌≤ℤ◌, ◌⊎◌, ℤ, List, [], ◌∷◌, length, map, pos}
+use Rattle.std.specs.Prelude.{◌≡◌, ◌≤◌, ◌≤ℤ◌, ◌⊎◌, ℤ, List, [], ◌∷◌, length, map, pos}
 use Rattle.std.specs.List.{AllByRecursion}
 use Rattle.ntx_num.specs.declared.size.Size.{Size}
 use Rattle.ntx_doc.specs.declared.command.Command.{Command}

@@ -1,5 +1,3 @@
-use Rattle.std.proofs.Common.{◌≡◌, ◌+◌, ◌<◌, ◌^◌, take}
-use Rattle.std.specs.Str.Parse.{digits_value}
 use Rattle.ntx_doc.proofs.DigitsLemmas.{HasRead}
 use Rattle.ntx_doc.proofs.text.value.Given as goal
 
