@@ -6,6 +6,7 @@ use Rattle.std.proofs.lemmas.Bool.{leb-true, ltb-true}
 use Rattle.std.proofs.lemmas.Bool.Decides.{nat_tests}
 use Rattle.std.proofs.lemmas.Int.{ints}
 use Rattle.std.proofs.lemmas.List.{length_push, map_push, length-map}
+use Rattle.ntx_num.specs.Answer.{result_and_then}
 use Rattle.ntx_num.specs.declared.size.Size.{Size}
 use Rattle.ntx_doc.specs.declared.command.Command.{Command}
 use Rattle.ntx_doc.specs.declared.command.Command.TheVariants.{HBox, Rule}
@@ -14,14 +15,14 @@ use Rattle.ntx_doc.specs.declared.fault.DocWhy.{DocWhy}
 use Rattle.ntx_doc.specs.declared.fault.DocWhy.TheVariants as why
 use Rattle.ntx_doc.specs.declared.fault.DocFault.{DocFault}
 use Rattle.ntx_doc.specs.Text.{fields_of, number_of}
-use Rattle.ntx_doc.specs.Document.{◌>>=◌, refused_unless, Place, size_from, size_in, hbox, rule_in, rule_size, end_in, after_command, after_fields, after_line, at_end, at_line, commands_after, document_of, first_place}
+use Rattle.ntx_doc.specs.Document.{refused_unless, Place, size_from, size_in, hbox, rule_in, rule_size, end_in, after_command, after_fields, after_line, at_end, at_line, commands_after, document_of, first_place}
 use Rattle.ntx_doc.specs.Shape.{IsRuleLength, IsRuleSize, AreRuleSizes, IsBoxOfRules}
 
 holds_ok : {A : Type 0} (reason : DocWhy) (test : Bool) (next : Result A DocWhy) (a : A) → refused_unless reason test next ≡ Ok a → (test ≡ true) × (next ≡ Ok a)
 holds_ok reason true next a e = (refl, e)
 holds_ok reason false next a e = cc
 
-bind_ok : {A B : Type 0} (r : Result A DocWhy) (f : A → Result B DocWhy) (b : B) → (r >>= f) ≡ Ok b → (a : A) × (r ≡ Ok a) × (f a ≡ Ok b)
+bind_ok : {A B : Type 0} (r : Result A DocWhy) (f : A → Result B DocWhy) (b : B) → result_and_then r f ≡ Ok b → (a : A) × (r ≡ Ok a) × (f a ≡ Ok b)
 bind_ok (Ok a) f b e = (a, refl, e)
 bind_ok (Err reason) f b e = cc
 

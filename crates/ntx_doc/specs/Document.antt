@@ -5,6 +5,7 @@
 use Rattle.std.specs.Prelude.{ℕ, ◌+◌, ◌^◌, ◌==◌, nat_lt, nat_le, ◌&&◌, Bool, List, [], ◌∷◌, ◌++◌, length, ℤ, pos, negsuc, Option, None, Some, is_none, Result, Ok, Err, if◌then◌else◌, bytes_eq, codes, slice_index}
 use Rattle.std.specs.List.{list_all}
 use Rattle.std.specs.Str.Lines.{lines}
+use Rattle.ntx_num.specs.Answer.{result_and_then}
 use Rattle.ntx_num.specs.declared.size.Size.{Size}
 use Rattle.ntx_doc.specs.declared.command.Command.{Command}
 use Rattle.ntx_doc.specs.declared.command.Command.TheVariants.{HBox, Rule}
@@ -15,11 +16,6 @@ use Rattle.ntx_doc.specs.declared.fault.DocFault.{DocFault}
 use Rattle.ntx_doc.specs.Text.{is_plain, fields_of, number_of}
 
 -- ---- refusals
-
-infixl 10 ◌>>=◌
-abbrev pub ◌>>=◌ : {A B : Type 0} → Result A DocWhy → (A → Result B DocWhy) → Result B DocWhy
-(Ok a) >>= next = next a
-(Err reason) >>= next = Err reason
 
 -- a refusal for this reason, unless the test holds; then what follows
 abbrev pub refused_unless : {A : Type 0} → DocWhy → Bool → Result A DocWhy → Result A DocWhy
@@ -68,14 +64,16 @@ max_rules = 500
 
 abbrev pub rule_size : List (List ℕ) → Result Size DocWhy
 rule_size (width ∷ height ∷ depth ∷ []) =
-    size_in width >>= λ w. size_in height >>= λ h. size_in depth >>= λ d. Ok (record { w = w; h = h; d = d })
+    result_and_then (size_in width) (λ w.
+    result_and_then (size_in height) (λ h.
+    result_and_then (size_in depth) (λ d. Ok (record { w = w; h = h; d = d }))))
 rule_size _ = Err why.Fields
 
 abbrev pub rule_in : List (List ℕ) → List Command → Option (List Command) → Result Place DocWhy
 rule_in arguments done None = Err why.Command
 rule_in arguments done (Some body) =
     refused_unless why.Command (nat_lt (length body) max_rules)
-    (rule_size arguments >>= λ size. Ok (record { done = done; group = Some (body ++ Rule size ∷ []) }))
+    (result_and_then (rule_size arguments) (λ size. Ok (record { done = done; group = Some (body ++ Rule size ∷ []) })))
 
 abbrev pub rule : List (List ℕ) → Place → Result Place DocWhy
 rule arguments place = rule_in arguments place.done place.group

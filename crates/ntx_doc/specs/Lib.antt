@@ -2,5 +2,4 @@ pub mod Why
 pub mod Text
 pub mod Document
 pub mod Shape
-pub mod Seen
 pub mod Draft

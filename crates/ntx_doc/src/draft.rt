@@ -1,10 +1,9 @@
 //! A document that is read line by line.
 
 ghost use Rattle.std.specs.Prelude.{◌≡◌, ◌≢◌, [], ◌∷◌, length, MatchOption, slice_index, ◌==◌};
-ghost use Rattle.ntx_num.specs.Answer.{Answers};
+ghost use Rattle.ntx_num.specs.Answer.{Answers, result_map};
 ghost use Rattle.ntx_doc.specs.Text.{fields_of};
 ghost use Rattle.ntx_doc.specs.Document as document;
-ghost use Rattle.ntx_doc.specs.Seen.{seen};
 
 use crate::command::{Command, PackTo};
 use crate::fault::DocWhy;
@@ -43,7 +42,7 @@ impl Draft {
 
     /// The draft behind this line.
     pub fn after_line(self, alloc: Global, line: &[u8]) -> Result<Draft, Fail<DocWhy>>
-        ensures { Answers (seen place_of result) (document.after_line line.now (place_of self)) }
+        ensures { Answers (result_map place_of result) (document.after_line line.now (place_of self)) }
     {
         if !are_plain(line) {
             return Err(Fail::Is(DocWhy::Byte));
@@ -61,7 +60,7 @@ impl Draft {
         word: &[u8],
         arguments: &[u8],
     ) -> Result<Draft, Fail<DocWhy>>
-        ensures { Answers (seen place_of result) (document.after_fields (word.now ∷ fields_of arguments.now) (place_of self)) }
+        ensures { Answers (result_map place_of result) (document.after_fields (word.now ∷ fields_of arguments.now) (place_of self)) }
     {
         if is_comment(word) {
             Ok(self)
@@ -77,7 +76,7 @@ impl Draft {
         word: &[u8],
         arguments: &[u8],
     ) -> Result<Draft, Fail<DocWhy>>
-        ensures { Answers (seen place_of result) (document.after_command word.now (fields_of arguments.now) (place_of self)) }
+        ensures { Answers (result_map place_of result) (document.after_command word.now (fields_of arguments.now) (place_of self)) }
     {
         if word == b"hbox".as_slice() {
             self.after_hbox(alloc, arguments)
@@ -92,7 +91,7 @@ impl Draft {
 
     /// The draft behind `hbox`, which opens the box.
     fn after_hbox(self, alloc: Global, arguments: &[u8]) -> Result<Draft, Fail<DocWhy>>
-        ensures { Answers (seen place_of result) (document.hbox (fields_of arguments.now) (place_of self)) }
+        ensures { Answers (result_map place_of result) (document.hbox (fields_of arguments.now) (place_of self)) }
     {
         let Draft { done, group } = self;
         if group.is_some() || !done.is_empty() {
@@ -109,7 +108,7 @@ impl Draft {
 
     /// The draft behind `rule W H D`, which puts a rule into the box.
     fn after_rule(self, arguments: &[u8]) -> Result<Draft, Fail<DocWhy>>
-        ensures { Answers (seen place_of result) (document.rule (fields_of arguments.now) (place_of self)) }
+        ensures { Answers (result_map place_of result) (document.rule (fields_of arguments.now) (place_of self)) }
     {
         let Draft { done, group } = self;
         let Some(mut body) = group else {
@@ -132,7 +131,7 @@ impl Draft {
 
     /// The draft behind `end`, which closes the box.
     fn after_end(self, arguments: &[u8]) -> Result<Draft, Fail<DocWhy>>
-        ensures { Answers (seen place_of result) (document.end (fields_of arguments.now) (place_of self)) }
+        ensures { Answers (result_map place_of result) (document.end (fields_of arguments.now) (place_of self)) }
     {
         let Draft { mut done, group } = self;
         let Some(body) = group else {

@@ -1,9 +1,8 @@
 //! Reading a document.
 
 ghost use Rattle.std.specs.Prelude.{IfOk};
-ghost use Rattle.ntx_num.specs.Answer.{Answers};
+ghost use Rattle.ntx_num.specs.Answer.{Answers, result_map};
 ghost use Rattle.ntx_doc.specs.Document.{document_of};
-ghost use Rattle.ntx_doc.specs.Seen.{seen};
 ghost use Rattle.ntx_doc.specs.Shape.{IsBoxOfRules};
 
 use crate::command::Command;
@@ -31,7 +30,7 @@ use std::alloc::Global;
 ///
 /// `Open`, at the number of the last line, is a box that the document does not close.
 pub fn read_doc(alloc: Global, bytes: &[u8], fonts: u64) -> Result<Vec<Command>, Fail<DocFault>>
-    ensures document { Answers (seen (λ commands. commands.items) result) (document_of bytes.now fonts) }
+    ensures document { Answers (result_map (λ commands. commands.items) result) (document_of bytes.now fonts) }
     ensures shape { IfOk result (λ commands. IsBoxOfRules commands.items) }
 {
     let _ = fonts;
