@@ -39,7 +39,7 @@ pub fields_skip : (line : List ℕ) (start : ℕ) → Some start ≡ position is
 fields_skip line start found =
     skip line ∙ ap (λ n. fields_of (drop n line)) (sym (position_found is_filled line start (sym found)).0)
 
-is_field-filled : (part : List ℕ) → 0 < length part → is_field part ≡ true
+pub is_field-filled : (part : List ℕ) → 0 < length part → is_field part ≡ true
 is_field-filled part some = let e : nat_eq (length part) 0 ≡ false = grind (arith, nat_tests) in rw e refl
 
 -- A line without blanks is one field.

@@ -3,3 +3,4 @@ pub mod LinesLemmas
 pub mod FieldsLemmas
 pub mod DigitsLemmas
 pub mod ShapeLemmas
+pub mod SpellingLemmas

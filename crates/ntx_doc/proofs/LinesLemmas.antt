@@ -16,7 +16,7 @@ pub lines_last : (bytes : List ℕ) → 0 < length bytes → None ≡ position i
 lines_last bytes some missed =
     ap lines_of_parts (slice_split_none is_feed bytes (position_missed is_feed bytes (sym missed))) ∙ lone bytes some
 
-parts_behind : (part : List ℕ) (parts : List (List ℕ)) → 0 < length parts → lines_of_parts (part ∷ parts) ≡ strip_carriage_return part ∷ lines_of_parts parts
+pub parts_behind : (part : List ℕ) (parts : List (List ℕ)) → 0 < length parts → lines_of_parts (part ∷ parts) ≡ strip_carriage_return part ∷ lines_of_parts parts
 parts_behind part [] more = absurd (omega arith)
 parts_behind part (next ∷ others) more = refl
 

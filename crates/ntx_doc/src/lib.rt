@@ -12,7 +12,7 @@ mod text;
 
 pub use command::{Command, PackTo};
 pub use fault::{DocFault, DocWhy};
-pub use read::read_doc;
+pub use read::{each_box_has_a_document, read_doc};
 
 #[cfg(test)]
 mod tests;

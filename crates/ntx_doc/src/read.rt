@@ -1,9 +1,11 @@
 //! Reading a document.
 
-ghost use Rattle.std.specs.Prelude.{IfOk};
+ghost use Rattle.std.specs.Prelude.{◌≡◌, ℕ, List, [], ◌∷◌, IfOk, Ok};
 ghost use Rattle.ntx_num.specs.Answer.{Answers, result_map};
+ghost use Rattle.ntx_num.specs.declared.size.Size.{Size};
 ghost use Rattle.ntx_doc.specs.Document.{document_of};
-ghost use Rattle.ntx_doc.specs.Shape.{IsBoxOfRules};
+ghost use Rattle.ntx_doc.specs.Shape.{AreRuleSizes, IsBoxOfRules, box_of};
+ghost use Rattle.ntx_doc.specs.Spelling.{spelling};
 
 use crate::command::Command;
 use crate::draft::Draft;
@@ -55,3 +57,8 @@ pub fn read_doc(alloc: Global, bytes: &[u8], fonts: u64) -> Result<Vec<Command>,
         })),
     }
 }
+
+/// Each box of up to 500 rules, with sizes from 0 to 2^20, has a document that says it: a law of the format.
+pub fn each_box_has_a_document()
+    ensures { (sizes : List Size) (fonts : ℕ) → AreRuleSizes sizes → document_of (spelling sizes) fonts ≡ Ok (box_of sizes ∷ []) }
+{}
