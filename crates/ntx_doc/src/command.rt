@@ -22,6 +22,6 @@ pub enum Command {
         /// The commands between `hbox` and its `end`.
         body: Items<Command>,
     },
-    /// A rule of this size, each of width, height and depth from 0 to 2^20 scaled points.
+    /// A rule of this size.
     Rule(Size),
 }

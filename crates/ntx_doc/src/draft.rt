@@ -42,7 +42,8 @@ impl Draft {
 
     /// The draft behind this line.
     pub fn after_line(self, alloc: Global, line: &[u8]) -> Result<Draft, Fail<DocWhy>>
-        ensures { Answers (result_map place_of result) (document.after_line line.now (place_of self)) }
+        ensures { Answers (result_map place_of result)
+            (document.after_line line.now (place_of self)) }
     {
         if !are_plain(line) {
             return Err(Fail::Is(DocWhy::Byte));
@@ -60,7 +61,8 @@ impl Draft {
         word: &[u8],
         arguments: &[u8],
     ) -> Result<Draft, Fail<DocWhy>>
-        ensures { Answers (result_map place_of result) (document.after_fields (word.now ∷ fields_of arguments.now) (place_of self)) }
+        ensures { Answers (result_map place_of result)
+            (document.after_fields (word.now ∷ fields_of arguments.now) (place_of self)) }
     {
         if is_comment(word) {
             Ok(self)
@@ -76,7 +78,8 @@ impl Draft {
         word: &[u8],
         arguments: &[u8],
     ) -> Result<Draft, Fail<DocWhy>>
-        ensures { Answers (result_map place_of result) (document.after_command word.now (fields_of arguments.now) (place_of self)) }
+        ensures { Answers (result_map place_of result)
+            (document.after_command word.now (fields_of arguments.now) (place_of self)) }
     {
         if word == b"hbox".as_slice() {
             self.after_hbox(alloc, arguments)
@@ -91,7 +94,8 @@ impl Draft {
 
     /// The draft behind `hbox`, which opens the box.
     fn after_hbox(self, alloc: Global, arguments: &[u8]) -> Result<Draft, Fail<DocWhy>>
-        ensures { Answers (result_map place_of result) (document.hbox (fields_of arguments.now) (place_of self)) }
+        ensures { Answers (result_map place_of result)
+            (document.hbox (fields_of arguments.now) (place_of self)) }
     {
         let Draft { done, group } = self;
         if group.is_some() || !done.is_empty() {
@@ -108,7 +112,8 @@ impl Draft {
 
     /// The draft behind `rule W H D`, which puts a rule into the box.
     fn after_rule(self, arguments: &[u8]) -> Result<Draft, Fail<DocWhy>>
-        ensures { Answers (result_map place_of result) (document.rule (fields_of arguments.now) (place_of self)) }
+        ensures { Answers (result_map place_of result)
+            (document.rule (fields_of arguments.now) (place_of self)) }
     {
         let Draft { done, group } = self;
         let Some(mut body) = group else {
@@ -131,7 +136,8 @@ impl Draft {
 
     /// The draft behind `end`, which closes the box.
     fn after_end(self, arguments: &[u8]) -> Result<Draft, Fail<DocWhy>>
-        ensures { Answers (result_map place_of result) (document.end (fields_of arguments.now) (place_of self)) }
+        ensures { Answers (result_map place_of result)
+            (document.end (fields_of arguments.now) (place_of self)) }
     {
         let Draft { mut done, group } = self;
         let Some(body) = group else {
@@ -157,7 +163,8 @@ fn is_comment(word: &[u8]) -> bool
 
 /// The three fields of a line, if it has just three.
 fn three_fields(line: &[u8]) -> Option<(&[u8], &[u8], &[u8])>
-    ensures { MatchOption result (length (fields_of line.now) ≢ 3) (λ found. fields_of line.now ≡ found.0.now ∷ found.1.now ∷ found.2.now ∷ []) }
+    ensures { MatchOption result (length (fields_of line.now) ≢ 3)
+        (λ found. fields_of line.now ≡ found.0.now ∷ found.1.now ∷ found.2.now ∷ []) }
 {
     let (first, rest) = next_field(line)?;
     let (second, rest) = next_field(rest)?;

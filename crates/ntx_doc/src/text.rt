@@ -65,7 +65,8 @@ fn first_blank(line: &[u8]) -> Option<usize>
 
 /// The first line of a text, without what ends it, and the text behind.
 pub fn next_line(bytes: &[u8]) -> Option<(&[u8], &[u8])>
-    ensures lines { MatchOption result (lines bytes.now ≡ []) (λ found. lines bytes.now ≡ found.0.now ∷ lines found.1.now) }
+    ensures lines { MatchOption result (lines bytes.now ≡ [])
+        (λ found. lines bytes.now ≡ found.0.now ∷ lines found.1.now) }
     ensures shorter { IfSome result (λ found. length found.1.now < length bytes.now) }
 {
     if bytes.is_empty() {
@@ -79,7 +80,8 @@ pub fn next_line(bytes: &[u8]) -> Option<(&[u8], &[u8])>
 
 /// The first field of a line, and the line behind it.
 pub fn next_field(line: &[u8]) -> Option<(&[u8], &[u8])>
-    ensures { MatchOption result (text.fields_of line.now ≡ []) (λ found. text.fields_of line.now ≡ found.0.now ∷ text.fields_of found.1.now) }
+    ensures { MatchOption result (text.fields_of line.now ≡ [])
+        (λ found. text.fields_of line.now ≡ found.0.now ∷ text.fields_of found.1.now) }
 {
     let start = first_filled(line)?;
     let filled = &line[start..];
