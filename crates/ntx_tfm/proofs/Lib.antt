@@ -1,0 +1,4 @@
+pub mod EachLemmas
+pub mod FontLemmas
+pub mod ScalingLemmas
+pub mod SoundLemmas
