@@ -1,5 +1,5 @@
 -- The tables of a file without fault make a font.
-use Rattle.std.proofs.Common.{◌≡◌, ℕ, zero, suc, ◌+◌, ◌-◌, ◌*◌, ◌/◌, ◌<◌, ◌≤◌, ◌^◌, ◌≤ℤ◌, ℤ, pos, Bool, true, false, cond, nat_eq, nat_lt, nat_le, List, [], ◌∷◌, ◌++◌, length, Option, Some, None, slice_index, slice_index_or, lit<, unsigned_abs, All, refl, sym, ap, ◌∙◌, subst, arith}
+use Rattle.std.proofs.Common.{◌≡◌, ℕ, zero, suc, ◌+◌, ◌-◌, ◌*◌, ◌/◌, ◌<◌, ◌≤◌, ◌^◌, ◌≤ℤ◌, ℤ, pos, Bool, true, false, cond, nat_eq, nat_lt, nat_le, List, [], ◌∷◌, ◌++◌, length, Option, Some, None, slice_get, slice_index, slice_index_or, lit<, unsigned_abs, All, refl, sym, ap, ◌∙◌, subst, arith}
 use Rattle.std.proofs.lemmas.List.Elements.{All-nil, All-push}
 use Rattle.std.proofs.lemmas.Int.{ints}
 use Rattle.ntx_num.specs.declared.size.Size.{Size}
@@ -13,7 +13,7 @@ use Rattle.ntx_tfm.specs.Words.{word_at, signed_at, quad_at, info_at, step_at}
 use Rattle.ntx_tfm.specs.Layout.{lengths_of, infos_at, steps_at, kerns_at, parameters_at}
 use Rattle.ntx_tfm.specs.Scaling.{scaled}
 use Rattle.ntx_tfm.specs.Faults.{is_there, has_size, first_fault, IsSound}
-use Rattle.ntx_tfm.specs.Font.{FontTables, described, character_of, parameter_of, seven, design_of, definition_of, tables_of, IsDimension, IsSized, IsMeasured, IsDefinition, IsFont}
+use Rattle.ntx_tfm.specs.Font.{FontTables, described, character_of, parameter_of, seven, design_of, definition_of, tables_of, IsDimension, IsSized, IsMeasured, IsDefinition, IsGoodStep, IsFont, start_at, character_at}
 use Rattle.ntx_tfm.proofs.EachLemmas.{length-table}
 use Rattle.ntx_tfm.proofs.ScalingLemmas.{scaled_small}
 
@@ -82,6 +82,18 @@ unfolding tables_of
 tables_are bytes name z l def characters steps kerns parameters l-is def-is characters-are steps-are kerns-are parameters-are =
     rw (def-is, characters-are, steps-are, kerns-are, parameters-are, l-is) refl
 
+-- the step of a table at a place
+step_is : (bytes : List ℕ) (l : Lengths) (i : ℕ) (step : LigStep) → slice_get (table (λ i. step_at bytes (steps_at l + i)) l.nl) i ≡ Some step → (i < l.nl) × (step ≡ step_at bytes (steps_at l + i))
+step_is bytes l i step found = ?
+
+good_step : (bytes name : List ℕ) (z : ℕ) → IsSound bytes (lengths_of bytes) → (i : ℕ) (step : LigStep) → slice_get (tables_of bytes name z).steps i ≡ Some step → IsGoodStep (tables_of bytes name z) i step
+unfolding tables_of
+good_step bytes name z sound i step found = ?
+
+start_good : (bytes name : List ℕ) (z : ℕ) → IsSound bytes (lengths_of bytes) → (c place : ℕ) → start_at (tables_of bytes name z) c ≡ Some place → place < length (tables_of bytes name z).steps
+unfolding tables_of
+start_good bytes name z sound c place found = ?
+
 pub is_font : (bytes name : List ℕ) (z : ℕ) → IsBytes bytes → IsSound bytes (lengths_of bytes) → 1 ≤ length name → length name ≤ 255 → 1 ≤ z → z < 2 ^ 26 → IsFont (tables_of bytes name z)
 unfolding tables_of
 is_font bytes name z are-bytes sound given short least most =
@@ -92,6 +104,8 @@ is_font bytes name z are-bytes sound given short least most =
       characters = All-table IsMeasured (character_of bytes l z) 256 (λ code lt. character_small bytes l z code are-bytes most);
       steps = subst (λ (n : ℕ). n < 32768) (sym (length-table (λ i. step_at bytes (steps_at l + i)) l.nl)) sound.laid_out.steps;
       kerns = All-table IsDimension (λ k. scaled z (quad_at bytes (kerns_at l + k))) l.nk (λ k lt. number_small bytes z (kerns_at l + k) are-bytes most);
+      good_steps = good_step bytes name z sound;
+      starts = start_good bytes name z sound;
       parameters = λ k low high. subst IsDimension (sym (seven_at (parameter_of bytes l z) k low high)) (parameter_small bytes l z k are-bytes most low);
     }
 

@@ -1,5 +1,5 @@
 -- A font: what a TFM file, a name and a size give ("TeX: The Program", sections 539 to 546 and 560 to 576). Every size is in scaled points.
-use Rattle.std.specs.Prelude.{◌≡◌, ◌<◌, ◌≤◌, ℕ, ◌+◌, ◌-◌, ◌*◌, ◌/◌, ℤ, pos, unsigned_abs, Bool, ◌&&◌, nat_lt, nat_le, nat_eq, if◌then◌else◌, List, [], ◌∷◌, length, slice_get, slice_index_or, Option, Some, None, Result, Ok, Err, All, ◌≤ℤ◌}
+use Rattle.std.specs.Prelude.{◌≡◌, ◌<◌, ◌≤◌, ℕ, ◌+◌, ◌-◌, ◌*◌, ◌/◌, ℤ, pos, unsigned_abs, Bool, ◌&&◌, nat_lt, nat_le, nat_eq, if◌then◌else◌, List, [], ◌∷◌, length, slice_get, slice_index_or, Option, Some, None, Result, Ok, Err, All, IsTrue, IsSome, ◌≤ℤ◌}
 use Rattle.ntx_num.specs.declared.size.Size.{Size}
 use Rattle.ntx_tfm.specs.declared.def.FontDef.{FontDef}
 use Rattle.ntx_tfm.specs.declared.fault.FontFault.{FontFault}
@@ -11,7 +11,7 @@ use Rattle.ntx_tfm.specs.Each.{table}
 use Rattle.ntx_tfm.specs.Words.{word_at, signed_at, quad_at, info_at, step_at}
 use Rattle.ntx_tfm.specs.Layout.{lengths_of, infos_at, widths_at, heights_at, depths_at, steps_at, kerns_at, parameters_at}
 use Rattle.ntx_tfm.specs.Scaling.{scaled}
-use Rattle.ntx_tfm.specs.Faults.{is_there, first_fault}
+use Rattle.ntx_tfm.specs.Faults.{is_there, is_ligature, first_fault}
 
 -- The tables of a font: its definition; for each code from 0 to 255 the character, where there is one; the steps of its programs; its kerns; and
 -- its seven parameters.
@@ -119,15 +119,6 @@ pub record IsDefinition (def : FontDef) : Type 0 where
 abbrev pub parameter_at : FontTables → ℕ → ℤ
 parameter_at t k = slice_index_or t.parameters (k - 1) (pos 0)
 
--- What every font keeps.
-pub record IsFont (t : FontTables) : Type 0 where
-  pub definition : IsDefinition t.def
-  pub codes : length t.characters ≡ 256
-  pub characters : All IsMeasured t.characters
-  pub steps : length t.steps < 32768
-  pub kerns : All IsDimension t.kerns
-  pub parameters : (k : ℕ) → 2 ≤ k → k ≤ 7 → IsDimension (parameter_at t k)
-
 -- The character of a code, where there is one.
 abbrev pub character_at : FontTables → ℕ → Option Character
 character_at t c = slice_index_or t.characters c None
@@ -146,3 +137,22 @@ size_at t c = size_in (character_at t c)
 
 abbrev pub start_at : FontTables → ℕ → Option ℕ
 start_at t c = start_in (character_at t c)
+
+-- Step i of a font: where it only says where a program starts, there is a step there; otherwise its kern, or its ligature and the ligature's
+-- character, are there, and unless it ends the program there is a step after its skip.
+pub record IsGoodStep (t : FontTables) (i : ℕ) (step : LigStep) : Type 0 where
+  pub start : 128 < step.skip → 256 * step.op + step.rem < length t.steps
+  pub kern : step.skip ≤ 128 → 128 ≤ step.op → 256 * (step.op - 128) + step.rem < length t.kerns
+  pub ligature : step.skip ≤ 128 → step.op < 128 → IsTrue (is_ligature step.op) × IsSome (character_at t step.rem)
+  pub next : step.skip < 128 → i + step.skip + 1 < length t.steps
+
+-- What every font keeps.
+pub record IsFont (t : FontTables) : Type 0 where
+  pub definition : IsDefinition t.def
+  pub codes : length t.characters ≡ 256
+  pub characters : All IsMeasured t.characters
+  pub steps : length t.steps < 32768
+  pub kerns : All IsDimension t.kerns
+  pub parameters : (k : ℕ) → 2 ≤ k → k ≤ 7 → IsDimension (parameter_at t k)
+  pub good_steps : (i : ℕ) (step : LigStep) → slice_get t.steps i ≡ Some step → IsGoodStep t i step
+  pub starts : (c place : ℕ) → start_at t c ≡ Some place → place < length t.steps
