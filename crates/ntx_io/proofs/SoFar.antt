@@ -1,5 +1,5 @@
 -- Between two calls of a read to the end or of a whole write: what was given or taken so far.
-use Rattle.std.proofs.Common.{◌≡◌, ℕ, ◌+◌, ◌<◌, List, ◌++◌, length, take, drop, Option, Some, None, Ok, Err, subst, sym, ap, ◌∙◌, append_assoc, arith, length-append}
+use Rattle.std.proofs.Common.{◌≡◌, ℕ, ◌+◌, ◌<◌, ◌≤◌, List, ◌++◌, length, take, drop, Option, Some, None, Ok, Err, subst, sym, ap, ◌∙◌, append_assoc, arith, length-append}
 use Rattle.std.proofs.Math.Seq.{take-append_seam, drop-append-add}
 use Rattle.std.proofs.lemmas.List.{take-append-drop}
 use Rattle.ntx_io.specs.Outside.{GivesNext, Reads, Takes}
@@ -63,9 +63,9 @@ stops_too_large E (Some left) now new bytes buffer k limit so_far reads more =
 stops_too_large E None now new bytes buffer k limit so_far reads more =
     subst (λ n. Reads {E = E} n new buffer (Ok k)) so_far reads
 
-pub stops_without_memory : (E : Type 0) (old now new : Option (List ℕ)) (bytes buffer : List ℕ) (k limit : ℕ) → GivenSoFar old now bytes → Reads {E = E} now new buffer (Ok k) → ReadsWhole old new limit (Err NoMemory)
-stops_without_memory E (Some left) now new bytes buffer k limit so_far reads =
+pub stops_without_memory : (E : Type 0) (old now new : Option (List ℕ)) (bytes buffer : List ℕ) (k limit : ℕ) → GivenSoFar old now bytes → Reads {E = E} now new buffer (Ok k) → length bytes + k ≤ limit → ReadsWhole old new limit (Err NoMemory)
+stops_without_memory E (Some left) now new bytes buffer k limit so_far reads within =
     let step : Reads {E = E} (Some so_far.0) new buffer (Ok k) = subst (λ n. Reads {E = E} n new buffer (Ok k)) so_far.2 reads in
-    (length bytes + k, left_after E left so_far.0 new bytes buffer k so_far.1 step)
-stops_without_memory E None now new bytes buffer k limit so_far reads =
+    (length bytes + k, within, left_after E left so_far.0 new bytes buffer k so_far.1 step)
+stops_without_memory E None now new bytes buffer k limit so_far reads within =
     subst (λ n. Reads {E = E} n new buffer (Ok k)) so_far reads

@@ -1,6 +1,7 @@
 -- Sources and sinks over memory, as contracts see them. The calls of each are numbered from 1; at the end of its type, 2 ^ 64 - 1, that number
 -- stands still, as the count of faults does.
-use Rattle.std.specs.Prelude.{◌≡◌, ℕ, ◌+◌, ◌-◌, ◌^◌, ◌<◌, min, List, length, Contains}
+use Rattle.std.specs.Prelude.{◌≡◌, ℕ, ◌<◌, List, length, Contains}
+use Rattle.ntx_io.specs.Outside.{next_count}
 
 -- what is left of a source's bytes, the calls made so far, the numbers of the calls that fail, the faults so far
 pub record SourceState : Type 0 where
@@ -16,10 +17,6 @@ pub record SinkState : Type 0 where
   pub calls : ℕ
   pub fails : List ℕ
   pub faults : ℕ
-
--- one more, but not past the type's end
-abbrev pub next_count : ℕ → ℕ
-next_count n = min (n + 1) (2 ^ 64 - 1)
 
 -- The next call is one of those that fail.
 abbrev pub FailsNext : List ℕ → ℕ → Type 0

@@ -2,9 +2,13 @@
 -- An object either tells its bytes, and then always, or never does. A reader of a program over files can rely on the counts alone.
 use Rattle.std.specs.Prelude.{◌≡◌, ℕ, ◌+◌, ◌-◌, ◌^◌, ◌<◌, ◌≤◌, min, List, [], ◌++◌, length, take, drop, Option, Some, None, Result, Ok, Err, OnOk, OnErr, IfOk}
 
--- The count rose. At the end of its type, 2 ^ 64 - 1, it stands still, and is taken as risen.
+-- one more, but not past the end of a count's type
+abbrev pub next_count : ℕ → ℕ
+next_count n = min (n + 1) (2 ^ 64 - 1)
+
+-- The count rose. At the end of its type it can rise no further, and is taken as risen.
 abbrev pub Rose : ℕ → ℕ → Type 0
-Rose before now = min (before + 1) (2 ^ 64 - 1) ≤ now
+Rose before now = next_count before ≤ now
 
 -- A call that may fail tells so in the count: the count never falls, rises where the call fails, and else stays as it was.
 pub record HasCause {A E : Type 0} (before now : ℕ) (result : Result A E) : Type 0 where

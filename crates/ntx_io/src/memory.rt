@@ -1,8 +1,10 @@
-//! Sources and sinks over memory, which tell everything and fail at the calls that they are told to fail at.
+//! Sources and sinks over memory. [`MemSource`] and [`MemSink`] tell everything and fail at the calls that they are told to fail at;
+//! [`NullSink`] keeps nothing.
 
 ghost use Rattle.std.specs.Prelude.{◌≡◌, ◌+◌, ◌-◌, ◌<◌, ◌≤◌, ◌↔◌, ◌⊎◌, Some, None, Ok, [], IsErr, IfOk, min, length, vec_len};
-ghost use Rattle.ntx_io.specs.Outside.{HasCause, Reads, Takes, TakesSome};
-ghost use Rattle.ntx_io.specs.Memory.{FailsNext, IsFullFor, next_count};
+ghost use Rattle.ntx_num.specs.Answer.{Gives};
+ghost use Rattle.ntx_io.specs.Outside.{HasCause, Reads, Takes, TakesSome, next_count};
+ghost use Rattle.ntx_io.specs.Memory.{FailsNext, IsFullFor};
 
 use crate::outside::{Failed, Sink, Source};
 use ntx_num::NoMemory;
@@ -96,7 +98,7 @@ impl Model for MemSink {
 impl MemSink {
     /// A sink with room for `room` bytes, whose k-th write, counted from 1, fails where k is among `fails`.
     pub fn new(alloc: Global, room: u64, fails: Vec<u64>) -> Result<MemSink, NoMemory>
-        ensures { IfOk result (λ s. s ≡ record { taken = []; room = room; calls = 0; fails = fails.items; faults = 0 }) }
+        ensures { Gives result (record { taken = []; room = room; calls = 0; fails = fails.items; faults = 0 }) }
     {
         let room = room as usize;
         Ok(MemSink {

@@ -12,7 +12,7 @@ pub trait Source {
     /// The bytes not yet given, where the source tells them.
     ghost left: { Self → Option (List ℕ) };
 
-    /// How often a read has failed. The count stands still at 2^64-1.
+    /// How often a read has failed. At 2^64-1 the count is taken as risen.
     ghost faults: { Self → ℕ };
 
     /// Puts the next bytes to the front of `buf` and tells how many. It is 0 for a nonempty buffer at the end alone.
@@ -27,7 +27,7 @@ pub trait Sink {
     /// The bytes taken so far, where the sink tells them.
     ghost taken: { Self → Option (List ℕ) };
 
-    /// How often a write has failed. The count stands still at 2^64-1.
+    /// How often a write has failed. At 2^64-1 the count is taken as risen.
     ghost faults: { Self → ℕ };
 
     /// Takes the first bytes of the piece and tells how many, at least one of a nonempty piece.
@@ -45,7 +45,7 @@ pub trait Feed: Drop {
     /// The bytes not yet given, where the feed tells them.
     ghost left: { Self → Option (List ℕ) };
 
-    /// How often a read has failed. The count stands still at 2^64-1.
+    /// How often a read has failed. At 2^64-1 the count is taken as risen.
     ghost faults: { Self → ℕ };
 
     /// The name of what it feeds.

@@ -11,4 +11,4 @@ pub returns-in_err-extend_from_slice-clause-bytes :
     goal.returns-in_err-extend_from_slice-clause-bytes
 returns-in_err-extend_from_slice-clause-bytes g c =
     let p = err_from_is_err_and c.from_residual.result c.from_residual.ensures.1 in
-    rw (p.1, p.2) (stops_without_memory _ _ _ _ _ _ _ _ c.loop-count.invariant.1 c.in-Ok.ensures.bytes)
+    rw (p.1, p.2) (stops_without_memory _ _ _ _ _ _ _ _ c.loop-count.invariant.1 c.in-Ok.ensures.bytes (omega arith))
