@@ -15,6 +15,7 @@ use Rattle.ntx_tfm.specs.Scaling.{scaled}
 use Rattle.ntx_tfm.specs.Faults.{is_there, has_size, first_fault, IsSound}
 use Rattle.ntx_tfm.specs.Font.{FontTables, described, character_of, parameter_of, seven, design_of, definition_of, tables_of, IsDimension, IsSized, IsMeasured, IsDefinition, IsGoodStep, IsFont, start_at, character_at}
 use Rattle.ntx_tfm.proofs.EachLemmas.{length-table}
+use Rattle.ntx_tfm.proofs.StepLemmas.{good_step, start_good}
 use Rattle.ntx_tfm.proofs.ScalingLemmas.{scaled_small}
 
 -- each byte is a byte
@@ -81,18 +82,6 @@ pub tables_are : (bytes name : List ℕ) (z : ℕ) (l : Lengths) (def : FontDef)
 unfolding tables_of
 tables_are bytes name z l def characters steps kerns parameters l-is def-is characters-are steps-are kerns-are parameters-are =
     rw (def-is, characters-are, steps-are, kerns-are, parameters-are, l-is) refl
-
--- the step of a table at a place
-step_is : (bytes : List ℕ) (l : Lengths) (i : ℕ) (step : LigStep) → slice_get (table (λ i. step_at bytes (steps_at l + i)) l.nl) i ≡ Some step → (i < l.nl) × (step ≡ step_at bytes (steps_at l + i))
-step_is bytes l i step found = ?
-
-good_step : (bytes name : List ℕ) (z : ℕ) → IsSound bytes (lengths_of bytes) → (i : ℕ) (step : LigStep) → slice_get (tables_of bytes name z).steps i ≡ Some step → IsGoodStep (tables_of bytes name z) i step
-unfolding tables_of
-good_step bytes name z sound i step found = ?
-
-start_good : (bytes name : List ℕ) (z : ℕ) → IsSound bytes (lengths_of bytes) → (c place : ℕ) → start_at (tables_of bytes name z) c ≡ Some place → place < length (tables_of bytes name z).steps
-unfolding tables_of
-start_good bytes name z sound c place found = ?
 
 pub is_font : (bytes name : List ℕ) (z : ℕ) → IsBytes bytes → IsSound bytes (lengths_of bytes) → 1 ≤ length name → length name ≤ 255 → 1 ≤ z → z < 2 ^ 26 → IsFont (tables_of bytes name z)
 unfolding tables_of

@@ -1,10 +1,10 @@
 -- How large a scaled number is.
-use Rattle.std.proofs.Common.{◌≡◌, ℕ, zero, suc, ◌+◌, ◌*◌, ◌/◌, ◌<◌, ◌≤◌, ◌^◌, Bool, true, false, cond, nat_eq, ℤ, pos, ◌-ℤ◌, unsigned_abs, ap, arith}
+use Rattle.std.proofs.Common.{◌≡◌, ℕ, zero, suc, ◌+◌, ◌*◌, ◌/◌, ◌<◌, ◌≤◌, ◌^◌, Bool, true, false, cond, nat_eq, ℤ, pos, ◌-ℤ◌, unsigned_abs, ap, ◌∙◌, refl, arith}
 use Rattle.std.proofs.lemmas.Int.{ints}
 use Rattle.std.proofs.Math.Nat.{div-le_of_le-mul, div-mul-le_self}
 use Rattle.std.proofs.lemmas.Nat.{mul-le}
 use Rattle.ntx_tfm.specs.declared.words.Quad.{Quad}
-use Rattle.ntx_tfm.specs.Scaling.{divisor_of, reduced, magnitude, scaled}
+use Rattle.ntx_tfm.specs.Scaling.{divisor_of, reduced, magnitude, scaled, fraction_of, whole_size}
 
 -- three bytes times a number are below 256 times it
 three_bytes : (b c d y : ℕ) → b < 256 → c < 256 → d < 256 → (d * y / 256 + c * y) / 256 + b * y ≤ 256 * y
@@ -40,3 +40,25 @@ unfolding scaled
 scaled_small z q z-fits b-fits c-fits d-fits =
     let below : reduced z * divisor_of z ≤ z = div-mul-le_self z (divisor_of z) in
     signed_small (nat_eq q.a 255) (magnitude z q) (16 * divisor_of z * reduced z) (magnitude_below z q b-fits c-fits d-fits) (omega arith)
+
+-- rounding down in steps is rounding down once
+rounded_once : (x y w : ℕ) → (x / 256 + y) / 256 + w ≡ (w * 65536 + y * 256 + x) / 65536
+rounded_once x y w = omega arith
+
+quotient_is : (n z : ℕ) → n / 65536 / (16 / divisor_of z) ≡ n * divisor_of z / 1048576
+unfolding divisor_of
+quotient_is n z = grind arith
+
+magnitude_is : (z : ℕ) (q : Quad) → magnitude z q ≡ fraction_of q * whole_size z / 1048576
+unfolding magnitude
+magnitude_is z q =
+    let y : ℕ = reduced z in
+    let sum : q.b * y * 65536 + q.c * y * 256 + q.d * y ≡ fraction_of q * y = omega arith in
+    let product : fraction_of q * y * divisor_of z ≡ fraction_of q * whole_size z = omega arith in
+    ap (λ n. n / (16 / divisor_of z)) (rounded_once (q.d * y) (q.c * y) (q.b * y) ∙ ap (λ n. n / 65536) sum) ∙ quotient_is (fraction_of q * y) z ∙ ap (λ n. n / 1048576) product
+
+pub scaling_rounds_down_lem : (z : ℕ) (q : Quad) → scaled z q ≡ cond (nat_eq q.a 255) (pos (fraction_of q * whole_size z / 1048576) -ℤ pos (16 * whole_size z)) (pos (fraction_of q * whole_size z / 1048576))
+unfolding scaled
+scaling_rounds_down_lem z q =
+    let whole : 16 * divisor_of z * reduced z ≡ 16 * whole_size z = omega arith in
+    rw (magnitude_is z q, whole) refl

@@ -1,6 +1,6 @@
 //! Fonts.
 
-ghost use Rattle.std.specs.Prelude.{◌≡◌, ◌<◌, ◌≤◌, ◌^◌, IfOk, IfSome, OnSome, length, slice_get};
+ghost use Rattle.std.specs.Prelude.{◌≡◌, ◌<◌, ◌≤◌, ◌^◌, IfOk, IfSome, length, slice_get};
 ghost use Rattle.std.specs.Option.{ForSome};
 ghost use Rattle.ntx_num.specs.Answer.{Answers};
 ghost use Rattle.ntx_tfm.specs.Faults.{IsSound, IsFaultless};
@@ -38,7 +38,7 @@ impl Model for Font {
 }
 
 impl Font {
-    ghost use Rattle.ntx_tfm.specs.Font.{IsDefinition, IsDimension, IsSized, size_at, start_at, parameter_at};
+    ghost use Rattle.ntx_tfm.specs.Font.{IsDefinition, IsDimension, IsGoodStep, IsSized, size_at, start_at, parameter_at};
 
     /// What identifies the font, and its sizes.
     pub fn def(&self) -> &FontDef
@@ -60,7 +60,8 @@ impl Font {
     /// The step at which the program of the character `c` starts, from 0; `None` where the font has no such character or
     /// it has no program.
     pub fn start(&self, c: u8) -> Option<u64>
-        ensures { result ≡ start_at self.now c }
+        ensures value { result ≡ start_at self.now c }
+        ensures inside { IfSome result (λ place. place < length self.now.steps) }
     {
         self.characters[usize::from(c)].and_then(|character| character.start)
     }
@@ -68,7 +69,8 @@ impl Font {
     /// The `i`-th step of the programs, from 0; `None` where there are no more.
     pub fn lig_step(&self, i: u64) -> Option<LigStep>
         ensures value { result ≡ slice_get self.now.steps i }
-        ensures few { OnSome result (i < 32768) }
+        ensures good { IfSome result (IsGoodStep self.now i) }
+        ensures few { length self.now.steps < 32768 }
     {
         self.steps.get(i as usize).copied()
     }

@@ -18,4 +18,8 @@ mod words;
 pub use def::{FontDef, FontName};
 pub use fault::FontFault;
 pub use font::{Font, read_font};
+pub use scaling::scaling_rounds_down;
 pub use step::LigStep;
+
+#[cfg(test)]
+mod tests;

@@ -1,7 +1,7 @@
 //! A fix_word times a size ("TeX: The Program", sections 571 and 572).
 
 ghost use Rattle.std.specs.Prelude.{◌≡◌, ◌<◌, ◌≤◌, ◌*◌, ◌^◌};
-ghost use Rattle.ntx_tfm.specs.Scaling.{divisor_of, reduced, magnitude, scaled};
+ghost use Rattle.ntx_tfm.specs.Scaling.{divisor_of, reduced, magnitude, scaled, ScalingRoundsDown};
 
 use crate::words::Quad;
 
@@ -50,3 +50,10 @@ pub fn scaled(size: u32, word: Quad) -> i64
         part
     }
 }
+
+/// The law that a scaled fix_word is its product with the size, rounded down, but for the low bits of a size of 2^23 or
+/// more: up to three of them are cleared first.
+#[tactic(auto, using(crate::proofs::ScalingLemmas::scaling_rounds_down_lem))]
+pub fn scaling_rounds_down()
+    ensures { ScalingRoundsDown }
+{}
