@@ -1,19 +1,18 @@
 -- The tables of a file without fault make a font.
-use Rattle.std.proofs.Common.{◌≡◌, ℕ, zero, suc, ◌+◌, ◌-◌, ◌*◌, ◌/◌, ◌<◌, ◌≤◌, ◌^◌, ◌≤ℤ◌, ℤ, pos, Bool, true, false, cond, nat_eq, nat_lt, nat_le, List, [], ◌∷◌, ◌++◌, length, Option, Some, None, slice_get, slice_index, slice_index_or, lit<, unsigned_abs, All, refl, sym, ap, ◌∙◌, subst, arith}
+use Rattle.std.proofs.Common.{◌≡◌, ℕ, zero, suc, ◌+◌, ◌-◌, ◌*◌, ◌/◌, ◌<◌, ◌≤◌, ◌^◌, ℤ, pos, true, false, cond, nat_eq, nat_lt, List, length, Option, Some, None, slice_index, slice_index_or, lit<, All, refl, sym, ap, ◌∙◌, subst, arith}
 use Rattle.std.proofs.lemmas.List.Elements.{All-nil, All-push}
 use Rattle.std.proofs.lemmas.Int.{ints}
-use Rattle.ntx_num.specs.declared.size.Size.{Size}
 use Rattle.ntx_tfm.specs.declared.def.FontDef.{FontDef}
 use Rattle.ntx_tfm.specs.declared.layout.Lengths.{Lengths}
 use Rattle.ntx_tfm.specs.declared.words.CharInfo.{CharInfo}
 use Rattle.ntx_tfm.specs.declared.step.LigStep.{LigStep}
 use Rattle.ntx_tfm.specs.declared.tables.Character.{Character}
 use Rattle.ntx_tfm.specs.Each.{table}
-use Rattle.ntx_tfm.specs.Words.{word_at, signed_at, quad_at, info_at, step_at}
+use Rattle.ntx_tfm.specs.Words.{word_at, quad_at, info_at, step_at}
 use Rattle.ntx_tfm.specs.Layout.{lengths_of, infos_at, steps_at, kerns_at, parameters_at}
 use Rattle.ntx_tfm.specs.Scaling.{scaled}
-use Rattle.ntx_tfm.specs.Faults.{is_there, has_size, first_fault, IsSound}
-use Rattle.ntx_tfm.specs.Font.{FontTables, described, character_of, parameter_of, seven, design_of, definition_of, tables_of, IsDimension, IsSized, IsMeasured, IsDefinition, IsGoodStep, IsFont, start_at, character_at}
+use Rattle.ntx_tfm.specs.Faults.{is_there, has_size, IsSound}
+use Rattle.ntx_tfm.specs.Font.{described, character_of, parameter_of, seven, design_of, definition_of, tables_of, IsDimension, IsSized, IsMeasured, IsDefinition, IsFont}
 use Rattle.ntx_tfm.proofs.EachLemmas.{length-table}
 use Rattle.ntx_tfm.proofs.StepLemmas.{good_step, start_good}
 use Rattle.ntx_tfm.proofs.ScalingLemmas.{scaled_small}

@@ -1,5 +1,5 @@
 -- What a file without fault keeps.
-use Rattle.std.proofs.Common.{◌≡◌, ℕ, ◌+◌, ◌-◌, ◌*◌, ◌<◌, ◌≤◌, Bool, true, false, ◌&&◌, not, cond, nat_lt, nat_eq, List, length, Option, Some, None, refl, sym, ap, ◌∙◌, subst, arith}
+use Rattle.std.proofs.Common.{◌≡◌, ℕ, ◌+◌, ◌-◌, ◌*◌, ◌<◌, ◌≤◌, Bool, true, false, ◌&&◌, not, cond, nat_lt, nat_eq, List, length, Option, Some, None, refl, arith}
 use Rattle.ntx_tfm.specs.declared.fault.FontFault.{FontFault}
 use Rattle.ntx_tfm.specs.declared.fault.FontFault.TheVariants.{Short, Range, Header, Size, Index, FirstNotZero, FixWord, LigProgram}
 use Rattle.ntx_tfm.specs.declared.fault.FontFault.TheVariants as fault

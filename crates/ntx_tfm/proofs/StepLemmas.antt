@@ -1,18 +1,17 @@
 -- What the steps and programs of a file without fault keep.
-use Rattle.std.proofs.Common.{◌≡◌, ℕ, ◌+◌, ◌-◌, ◌*◌, ◌<◌, ◌≤◌, Bool, true, false, cond, nat_eq, nat_lt, List, length, Option, Some, None, slice_get, slice_index_or, is_some, IfSome, refl, sym, ap, ◌∙◌, subst, inl, inr, arith}
+use Rattle.std.proofs.Common.{◌≡◌, ℕ, ◌+◌, ◌-◌, ◌*◌, ◌<◌, ◌≤◌, true, nat_eq, List, length, Option, Some, None, slice_get, slice_index_or, is_some, IfSome, refl, sym, ap, ◌∙◌, subst, inl, inr, arith}
 use Rattle.std.proofs.lemmas.Bool.{cases_lt, cases_Bool}
 use Rattle.std.proofs.lemmas.List.{get_or_past}
 use Rattle.std.proofs.lemmas.Option.{get_or_from_slice_get, slice_get_within, cond_some}
 use Rattle.ntx_tfm.specs.declared.layout.Lengths.{Lengths}
 use Rattle.ntx_tfm.specs.declared.words.CharInfo.{CharInfo}
 use Rattle.ntx_tfm.specs.declared.step.LigStep.{LigStep}
-use Rattle.ntx_tfm.specs.declared.tables.Character.{Character}
 use Rattle.ntx_tfm.specs.Each.{table}
 use Rattle.ntx_tfm.specs.Words.{info_at, step_at, quad_at}
 use Rattle.ntx_tfm.specs.Layout.{lengths_of, infos_at, steps_at, kerns_at}
 use Rattle.ntx_tfm.specs.Scaling.{scaled}
 use Rattle.ntx_tfm.specs.Faults.{is_there, is_ligature, begins_at_step, has_operands, is_good_step, are_good_steps, IsSound}
-use Rattle.ntx_tfm.specs.Font.{described, start_of, start_from, character_of, tables_of, start_in, character_at, start_at, IsGoodStep}
+use Rattle.ntx_tfm.specs.Font.{start_of, start_from, character_of, tables_of, start_in, start_at, IsGoodStep}
 use Rattle.ntx_tfm.proofs.EachLemmas.{each_passes, length-table, get-table}
 use Rattle.ntx_tfm.proofs.SoundLemmas.{code_of, begins_of}
 

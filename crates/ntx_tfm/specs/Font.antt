@@ -1,5 +1,5 @@
 -- A font: what a TFM file, a name and a size give ("TeX: The Program", sections 539 to 546 and 560 to 576). Every size is in scaled points.
-use Rattle.std.specs.Prelude.{◌≡◌, ◌<◌, ◌≤◌, ℕ, ◌+◌, ◌-◌, ◌*◌, ◌/◌, ℤ, pos, unsigned_abs, Bool, ◌&&◌, nat_lt, nat_le, nat_eq, if◌then◌else◌, List, [], ◌∷◌, length, slice_get, slice_index_or, Option, Some, None, Result, Ok, Err, All, IsTrue, IsSome, ◌≤ℤ◌}
+use Rattle.std.specs.Prelude.{◌≡◌, ◌<◌, ◌≤◌, ℕ, ◌+◌, ◌-◌, ◌*◌, ◌/◌, ℤ, pos, unsigned_abs, nat_lt, nat_eq, if◌then◌else◌, List, [], ◌∷◌, length, slice_get, slice_index_or, Option, Some, None, Result, Ok, Err, All, IsTrue, IsSome, ◌≤ℤ◌}
 use Rattle.ntx_num.specs.declared.size.Size.{Size}
 use Rattle.ntx_tfm.specs.declared.def.FontDef.{FontDef}
 use Rattle.ntx_tfm.specs.declared.fault.FontFault.{FontFault}

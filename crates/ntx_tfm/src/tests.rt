@@ -165,9 +165,10 @@ fn damaged_fonts_are_refused_with_their_first_fault(rt: HostRuntime) -> Result<(
     let mut bytes = small_font(rt.alloc())?;
     assert_eq!(rt; bytes.len(), 404);
     assert_eq!(rt; fault_of(rt.alloc(), &bytes[..23]), "Short");
-    assert_eq!(rt; fault_of(rt.alloc(), &bytes[..403]), "Short");
     bytes.push(0)?;
     assert_eq!(rt; fault_of(rt.alloc(), &bytes), "");
+    bytes.truncate(403);
+    assert_eq!(rt; fault_of(rt.alloc(), &bytes), "Short");
     Ok(())
 }
 

@@ -1,5 +1,4 @@
-use Rattle.std.proofs.Common.{◌≡◌, sym, arith}
-use Rattle.ntx_tfm.specs.Layout.{code_count}
+use Rattle.std.proofs.Common.{sym, arith}
 use Rattle.ntx_tfm.specs.Faults.{are_fix_words}
 use Rattle.ntx_tfm.proofs.EachLemmas.{each_none, each_more, each_fails, each_ends}
 use Rattle.ntx_tfm.proofs.checks.are_fix_words.Goals as goal

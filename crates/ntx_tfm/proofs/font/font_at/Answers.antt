@@ -1,7 +1,7 @@
-use Rattle.std.proofs.Common.{◌≡◌, ◌∙◌, ap, pos, to_z, of_z, w64, subst, sym, arith}
+use Rattle.std.proofs.Common.{◌≡◌, pos, to_z, of_z, w64, subst, sym, arith}
 use Rattle.std.proofs.lemmas.Int.{ints}
 use Rattle.ntx_tfm.specs.Faults.{IsSound}
-use Rattle.ntx_tfm.specs.Font.{FontTables, IsFont, design_of}
+use Rattle.ntx_tfm.specs.Font.{IsFont, design_of}
 use Rattle.ntx_tfm.proofs.FontLemmas.{is_font, tables_are, definition_is}
 use Rattle.ntx_tfm.proofs.font.font_at.Goals as goal
 

@@ -1,4 +1,4 @@
-use Rattle.std.proofs.Common.{◌≤◌, ◌*◌, rules, subst, sym, arith}
+use Rattle.std.proofs.Common.{◌≤◌, ◌*◌, rules}
 use Rattle.ntx_tfm.specs.Scaling.{magnitude, divisor_of, reduced}
 use Rattle.ntx_tfm.proofs.ScalingLemmas.{magnitude_below}
 use Rattle.ntx_tfm.proofs.scaling.part.Goals as goal

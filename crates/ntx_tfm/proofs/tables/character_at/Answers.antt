@@ -1,4 +1,4 @@
-use Rattle.std.proofs.Common.{◌∙◌, sym, ap, ◌-◌, rules}
+use Rattle.std.proofs.Common.{◌∙◌, sym, ap, ◌-◌}
 use Rattle.ntx_tfm.proofs.SoundLemmas.{info_is, entries_of, begins_of}
 use Rattle.ntx_tfm.proofs.tables.character_at.Goals as goal
 
