@@ -25,7 +25,7 @@ pub enum FontFault {
     /// A program of ligatures and kerns begins or leads outside the steps, or a step has no kern, no operation or no
     /// character.
     LigProgram,
-    /// The file is larger than its reader takes. No function of this crate answers it.
+    /// The file is larger than its reader takes: for callers that read files.
     TooLarge,
 }
 

@@ -17,7 +17,7 @@ use ntx_num::{NoMemory, Size};
 use std::alloc::Global;
 
 /// A character that is in a font.
-#[derive(Clone, Copy, Debug, PartialEq, Eq)]
+#[derive(Clone, Copy, Debug)]
 pub struct Character {
     /// Its width, height and depth in scaled points.
     pub size: Size,

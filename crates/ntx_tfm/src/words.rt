@@ -7,7 +7,7 @@ use crate::step::LigStep;
 use byteorder::{BigEndian, ByteOrder};
 
 /// A word as its four bytes.
-#[derive(Clone, Copy, Debug, PartialEq, Eq)]
+#[derive(Clone, Copy)]
 pub struct Quad {
     pub a: u8,
     pub b: u8,
@@ -16,7 +16,7 @@ pub struct Quad {
 }
 
 /// A character's word ("TeX: The Program", section 543).
-#[derive(Clone, Copy, Debug, PartialEq, Eq)]
+#[derive(Clone, Copy)]
 pub struct CharInfo {
     /// The number of its width. A character that is not there has 0.
     pub width: u8,
