@@ -8,4 +8,4 @@ loop-rest-preserved g c =
 
 pub returns-in-Err-clause-bytes : goal.returns-in-Err-clause-bytes
 returns-in-Err-clause-bytes g c =
-    stops_written _ _ _ _ _ _ _ _ _ _ c.loop-rest.invariant.1 c.in-Err.ensures.bytes
+    stops_written _ _ _ _ _ _ _ c.loop-rest.invariant.1 c.in-Err.ensures.bytes
