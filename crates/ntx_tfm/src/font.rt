@@ -32,9 +32,21 @@ impl Model for Font {
 
     ghost Value = { FontTables };
 
-    ghost view = { λ f. record { def = f.def; characters = f.characters.items; steps = f.steps.items; kerns = f.kerns.items; parameters = f.parameters } };
+    ghost view = { λ f. record {
+      def = f.def;
+      characters = f.characters.items;
+      steps = f.steps.items;
+      kerns = f.kerns.items;
+      parameters = f.parameters;
+    } };
 
-    ghost invariant = { λ f. IsFont (record { def = f.def; characters = f.characters.items; steps = f.steps.items; kerns = f.kerns.items; parameters = f.parameters }) };
+    ghost invariant = { λ f. IsFont (record {
+      def = f.def;
+      characters = f.characters.items;
+      steps = f.steps.items;
+      kerns = f.kerns.items;
+      parameters = f.parameters;
+    }) };
 }
 
 impl Font {
@@ -83,8 +95,9 @@ impl Font {
         self.kerns.get(k as usize).copied()
     }
 
-    /// Parameter `k`, from 1 to 7 ("TeX: The Program", section 547): the slant as a signed multiple of 2^-20, and then space, stretch,
-    /// shrink, x-height, quad and extra space in scaled points, each within 2^30 - 1 in absolute value.
+    /// Parameter `k`, from 1 to 7 ("TeX: The Program", section 547): the slant as a signed multiple of 2^-20, and then
+    /// space, stretch, shrink, x-height, quad and extra space in scaled points, each within 2^30 - 1 in absolute value.
+    /// A parameter that the file has not is 0.
     pub fn param(&self, k: u8) -> i64
         requires from_one { 1 ≤ k }
         requires to_seven { k ≤ 7 }

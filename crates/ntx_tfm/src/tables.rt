@@ -104,7 +104,8 @@ pub fn characters(
 #[tactic(auto, using(crate::proofs::EachLemmas::table_none, crate::proofs::EachLemmas::table_more))]
 pub fn steps(alloc: Global, bytes: &[u8], lengths: Lengths) -> Result<Vec<LigStep>, NoMemory>
     requires { IsLaidOut bytes.now lengths }
-    ensures { IfOk result (λ v. v.items ≡ table (λ i. step_at bytes.now (steps_at lengths + i)) lengths.nl) }
+    ensures { IfOk result
+        (λ v. v.items ≡ table (λ i. step_at bytes.now (steps_at lengths + i)) lengths.nl) }
 {
     let mut steps = Vec::with_capacity(alloc, usize::from(lengths.nl))?;
     for i in 0..usize::from(lengths.nl) {
@@ -118,7 +119,8 @@ pub fn steps(alloc: Global, bytes: &[u8], lengths: Lengths) -> Result<Vec<LigSte
 pub fn kerns(alloc: Global, bytes: &[u8], lengths: Lengths, at: u32) -> Result<Vec<i64>, NoMemory>
     requires laid_out { IsLaidOut bytes.now lengths }
     requires at { at < 2 ^ 26 }
-    ensures { IfOk result (λ v. v.items ≡ table (λ k. scaled at (quad_at bytes.now (kerns_at lengths + k))) lengths.nk) }
+    ensures { IfOk result
+        (λ v. v.items ≡ table (λ k. scaled at (quad_at bytes.now (kerns_at lengths + k))) lengths.nk) }
 {
     let mut kerns = Vec::with_capacity(alloc, usize::from(lengths.nk))?;
     for k in 0..usize::from(lengths.nk) {
