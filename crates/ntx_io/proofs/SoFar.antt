@@ -1,10 +1,10 @@
 -- Between two calls of a read to the end or of a whole write: what was given or taken so far.
 use Rattle.std.specs.Prelude.{◌==◌, Bool, true, false}
 use Rattle.std.proofs.Common.{◌≡◌, ℕ, ◌+◌, ◌<◌, ◌≤◌, List, ◌++◌, length, take, drop, Option, Some, None, Ok, Err, subst, sym, ap, ◌∙◌, append_assoc, arith, length-append}
-use Rattle.std.proofs.Math.Seq.{take-append_seam, drop-append-add}
+use Rattle.std.proofs.Math.Seq.{drop-append-add}
 use Rattle.std.proofs.lemmas.List.{take-append-drop}
 use Rattle.ntx_io.specs.Outside.{GivesNext, Reads, Takes, Adds, AddsFront}
-use Rattle.ntx_io.specs.Whole.{IsLeftAfter, ReadsWhole, TakesWhole}
+use Rattle.ntx_io.specs.Whole.{IsLeftAfter, ReadsWhole}
 use Rattle.ntx_num.specs.declared.answer.Fail.TheVariants.{NoMemory, Is}
 use Rattle.ntx_io.specs.declared.whole.ReadWhy.TheVariants.{TooLarge}
 
