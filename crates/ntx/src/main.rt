@@ -5,7 +5,7 @@
 #![tactic(auto)]
 
 use ntx_io::{Feed, FileSink, FileSource, MemSource, NullSink, StdoutSink};
-use ntx_run::{Outcome, Status, are_words, run};
+use ntx_run::{Outcome, Status, are_paths, run};
 use std::alloc::Global;
 use std::env;
 use std::io::ErrorKind;
@@ -36,7 +36,7 @@ fn typeset<R: Files + Print + Alloc<A = Global>>(rt: &R, words: &[String]) -> Ou
     let mut fonts: Vec<Box<dyn Feed>> = Vec::new(alloc);
     let mut lines = StdoutSink::new(rt);
     match words {
-        [doc, script, patterns, dvi] if are_words(words, 0) => run(
+        [doc, script, patterns, dvi] if are_paths(words) => run(
             alloc,
             words,
             &mut FileSource::open(rt, doc.as_str()),
