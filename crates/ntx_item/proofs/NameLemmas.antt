@@ -51,12 +51,12 @@ glue_param_named-name_of Parfillskip = refl
 -- a look-up gives the parameter of the name, and no other
 pub named_exactly : (name : List ℕ) (r : Option Param) → r ≡ param_named name → (p : Param) → (r ≡ Some p) ↔ (name ≡ name_of p)
 named_exactly name r is p = (
-    (λ e. sym ((bytes_eq-Decides (name_of p) name).0 (find-passes (λ q. bytes_eq (name_of q) name) all_params p (sym is ∙ e)))),
-    (λ e. is ∙ subst (λ n. param_named n ≡ Some p) (sym e) (param_named-name_of p))
-  )
+  (λ e. sym ((bytes_eq-Decides (name_of p) name).0 (find-passes (λ q. bytes_eq (name_of q) name) all_params p (sym is ∙ e)))),
+  (λ e. is ∙ subst (λ n. param_named n ≡ Some p) (sym e) (param_named-name_of p)),
+)
 
 pub glue_named_exactly : (name : List ℕ) (r : Option GlueParam) → r ≡ glue_param_named name → (g : GlueParam) → (r ≡ Some g) ↔ (name ≡ glue_name_of g)
 glue_named_exactly name r is g = (
-    (λ e. sym ((bytes_eq-Decides (glue_name_of g) name).0 (find-passes (λ q. bytes_eq (glue_name_of q) name) all_glue_params g (sym is ∙ e)))),
-    (λ e. is ∙ subst (λ n. glue_param_named n ≡ Some g) (sym e) (glue_param_named-name_of g))
-  )
+  (λ e. sym ((bytes_eq-Decides (glue_name_of g) name).0 (find-passes (λ q. bytes_eq (glue_name_of q) name) all_glue_params g (sym is ∙ e)))),
+  (λ e. is ∙ subst (λ n. glue_param_named n ≡ Some g) (sym e) (glue_param_named-name_of g)),
+)

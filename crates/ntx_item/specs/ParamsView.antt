@@ -1,6 +1,6 @@
 -- The settings that a `Params` holds: its fields.
 use Rattle.ntx_item.specs.declared.params.Params.TheInside.{Inside}
-use Rattle.ntx_item.specs.Settings.{Settings, AreInRange}
+use Rattle.ntx_item.specs.Settings.{Settings, AreSettingsInRange}
 
 abbrev pub settings_seen : Inside → Settings
 settings_seen a = record {
@@ -64,4 +64,4 @@ fields_of s = record {
 
 -- each parameter is in its range
 abbrev pub IsLawful : Inside → Type 0
-IsLawful a = AreInRange (settings_seen a)
+IsLawful a = AreSettingsInRange (settings_seen a)

@@ -2,8 +2,9 @@
 --     value_of s p, glue_of s g             what the parameter is
 --     with_value s p v, with_glue s g spec  the settings with this parameter set to this value, and the others as they were
 --     plain_settings                        the defaults
---     AreInRange s                          each parameter is in its range
-use Rattle.std.specs.Prelude.{ℤ, pos}
+--     AreSettingsInRange s                  each parameter is in its range
+--     ChangesStandAlone                     a change of one parameter leaves all others
+use Rattle.std.specs.Prelude.{◌≡◌, ◌≢◌, ℤ, pos}
 use Rattle.ntx_item.specs.declared.param.Param.{Param}
 use Rattle.ntx_item.specs.declared.param.Param.TheVariants.{Pretolerance, Tolerance, Linepenalty, Hyphenpenalty, Exhyphenpenalty, Adjdemerits, Doublehyphendemerits, Finalhyphendemerits, Interlinepenalty, Clubpenalty, Widowpenalty, Brokenpenalty, Lefthyphenmin, Righthyphenmin, Hyphenchar, Hsize, Emergencystretch, Parindent, Lineskiplimit}
 use Rattle.ntx_item.specs.declared.glue_param.GlueParam.{GlueParam}
@@ -138,6 +139,15 @@ plain_settings = record {
   parfillskip = fil;
 }
 
-pub record AreInRange (s : Settings) : Type 0 where
+pub record AreSettingsInRange (s : Settings) : Type 0 where
   pub values : (p : Param) → IsInRange p (value_of s p)
   pub glues : (g : GlueParam) → IsGlueInRange (glue_of s g)
+
+-- A change of one parameter gives it the new value and leaves all others.
+pub record ChangesStandAlone : Type 0 where
+  pub value_here : (s : Settings) (p : Param) (v : ℤ) → value_of (with_value s p v) p ≡ v
+  pub value_elsewhere : (s : Settings) (p : Param) (v : ℤ) (q : Param) → q ≢ p → value_of (with_value s p v) q ≡ value_of s q
+  pub value_leaves_glue : (s : Settings) (p : Param) (v : ℤ) (g : GlueParam) → glue_of (with_value s p v) g ≡ glue_of s g
+  pub glue_here : (s : Settings) (g : GlueParam) (spec : GlueSpec) → glue_of (with_glue s g spec) g ≡ spec
+  pub glue_elsewhere : (s : Settings) (g : GlueParam) (spec : GlueSpec) (h : GlueParam) → h ≢ g → glue_of (with_glue s g spec) h ≡ glue_of s h
+  pub glue_leaves_values : (s : Settings) (g : GlueParam) (spec : GlueSpec) (p : Param) → value_of (with_glue s g spec) p ≡ value_of s p

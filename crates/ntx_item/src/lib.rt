@@ -13,7 +13,10 @@ mod params;
 
 pub use glue::GlueSpec;
 pub use glue_param::GlueParam;
-pub use item::Item;
+pub use item::{Item, parts_are_in_range, sums_are_bounded};
 pub use pack_to::PackTo;
 pub use param::Param;
-pub use params::{OutOfRange, Params};
+pub use params::{OutOfRange, Params, changes_stand_alone};
+
+#[cfg(test)]
+mod tests;

@@ -2,7 +2,7 @@
 
 ghost use Rattle.std.specs.Prelude.{◌≡◌, ◌↔◌, IsOk, OnOk, OnErr};
 ghost use Rattle.ntx_item.specs.Parameters.{IsInRange, IsGlueInRange};
-ghost use Rattle.ntx_item.specs.Settings.{value_of, with_value, glue_of, with_glue, plain_settings, rigid, fil};
+ghost use Rattle.ntx_item.specs.Settings.{value_of, with_value, glue_of, with_glue, plain_settings, rigid, ChangesStandAlone};
 
 use crate::glue::GlueSpec;
 use crate::glue_param::GlueParam;
@@ -128,7 +128,13 @@ impl Params {
             parskip: rigid(0),
             leftskip: rigid(0),
             rightskip: rigid(0),
-            parfillskip: GlueSpec { width: 0, stretch: 65_536, stretch_order: 1, shrink: 0, shrink_order: 0 },
+            parfillskip: GlueSpec {
+                width: 0,
+                stretch: 65_536,
+                stretch_order: 1,
+                shrink: 0,
+                shrink_order: 0,
+            },
         }
     }
 
@@ -255,3 +261,8 @@ impl Params {
         Ok(())
     }
 }
+
+/// The law that a change of one parameter leaves all others.
+pub fn changes_stand_alone()
+    ensures { ChangesStandAlone }
+{}
