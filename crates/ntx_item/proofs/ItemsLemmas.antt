@@ -4,10 +4,10 @@ use Rattle.std.specs.List.{All, sum_by}
 use Rattle.std.specs.Int.RustNames.{unsigned_abs}
 use Rattle.std.proofs.lemmas.Int.{ints}
 use Rattle.std.proofs.lemmas.List.{length-take, length-drop}
-use Rattle.std.proofs.lemmas.List.Elements.{All-take, All-drop, All-from_get_or}
+use Rattle.std.proofs.lemmas.List.Elements.{All-take, All-drop}
 use Rattle.std.proofs.lemmas.List.Sums.{sum_by-take-drop, sum_by_more_le, sum_by-cons}
 use Rattle.ntx_item.specs.declared.item.Item.{Item}
-use Rattle.ntx_item.specs.Items.{absolute_width, absolute_stretch, absolute_shrink, IsItemInRange, IsBounded, AreItemsInRange, signed_sum, PartsAreInRange, SumsAreBounded}
+use Rattle.ntx_item.specs.Items.{absolute_width, absolute_stretch, absolute_shrink, IsItemInRange, IsBounded, AreItemsInRange, PartsAreInRange, SumsAreBounded}
 
 take_le : (f : Item → ℕ) (items : List Item) (k : ℕ) (n : ℕ) → sum_by f items ≤ n → sum_by f (take k items) ≤ n
 take_le f items k n le = omega (arith, sum_by-take-drop f items k)

@@ -1,5 +1,5 @@
 -- Items in range: bounds of lists within which the sums of packing and line breaking stay far inside 64 bits. TeX's own sums are of 32 bits
--- ("TeX: The Program", sections 650, 651 and 839).
+-- ("TeX: The Program", sections 650 and 837).
 --     AreItemsInRange items             a list of items is in range
 --     signed_sum f items                a sum over the items
 --     PartsAreInRange, SumsAreBounded   what follows for parts and sums

@@ -1,5 +1,5 @@
--- The parameters of paragraphs and pages by name: what each may be set to. They are those of TeX of these names ("TeX: The Program", sections 224,
--- 236 and 247), hyphenchar (section 549) and, as parameters of their own, lefthyphenmin and righthyphenmin (section 1091).
+-- The parameters of paragraphs and pages: their names, and what each may be set to. They are TeX's of these names ("TeX: The Program", sections
+-- 224, 236 and 247), and hyphenchar, which TeX keeps with each font (section 549).
 --     name_of p, glue_name_of g               the name
 --     param_named name, glue_param_named name the parameter of this name
 --     range_of p                              the least and the greatest value, in scaled points where it is a dimension
@@ -14,6 +14,7 @@ use Rattle.ntx_item.specs.declared.glue.GlueSpec.{GlueSpec}
 
 -- ---- names
 
+-- the bytes of a parameter's name
 abbrev pub name_of : Param → List ℕ
 name_of Pretolerance = codes "pretolerance"
 name_of Tolerance = codes "tolerance"
@@ -37,8 +38,10 @@ name_of Lineskiplimit = codes "lineskiplimit"
 
 abbrev pub all_params : List Param
 all_params =
-    Pretolerance ∷ Tolerance ∷ Linepenalty ∷ Hyphenpenalty ∷ Exhyphenpenalty ∷ Adjdemerits ∷ Doublehyphendemerits ∷ Finalhyphendemerits ∷ Interlinepenalty ∷ Clubpenalty ∷ Widowpenalty ∷ Brokenpenalty ∷ Lefthyphenmin ∷ Righthyphenmin ∷ Hyphenchar ∷ Hsize ∷ Emergencystretch ∷ Parindent ∷ Lineskiplimit ∷ []
+    Pretolerance ∷ Tolerance ∷ Linepenalty ∷ Hyphenpenalty ∷ Exhyphenpenalty ∷ Adjdemerits ∷ Doublehyphendemerits ∷ Finalhyphendemerits ∷
+    Interlinepenalty ∷ Clubpenalty ∷ Widowpenalty ∷ Brokenpenalty ∷ Lefthyphenmin ∷ Righthyphenmin ∷ Hyphenchar ∷ Hsize ∷ Emergencystretch ∷ Parindent ∷ Lineskiplimit ∷ []
 
+-- the parameter of this name
 abbrev pub param_named : List ℕ → Option Param
 param_named name = find (λ p. bytes_eq (name_of p) name) all_params
 

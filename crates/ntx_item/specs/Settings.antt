@@ -1,4 +1,4 @@
--- What the parameters are set to, and the values that plain TeX gives most of them ("The TeXbook", appendix B).
+-- What the parameters are set to, and the values that plain TeX gives them ("The TeXbook", appendix B), where parskip alone stretches too.
 --     value_of s p, glue_of s g             what the parameter is
 --     with_value s p v, with_glue s g spec  the settings with this parameter set to this value, and the others as they were
 --     plain_settings                        the defaults

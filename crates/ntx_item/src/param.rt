@@ -1,4 +1,4 @@
-//! The parameters that are numbers ("TeX: The Program", sections 236, 247 and 1091).
+//! The parameters that are numbers ("TeX: The Program", sections 236, 247 and 549).
 
 ghost use Rattle.std.specs.Prelude.{◌≡◌, ◌↔◌, IsTrue, Some};
 ghost use Rattle.ntx_item.specs.Parameters.{name_of, param_named, range_of, IsInRange};

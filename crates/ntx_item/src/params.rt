@@ -1,4 +1,4 @@
-//! The parameters of paragraphs and pages ("TeX: The Program", sections 236 and 247).
+//! What the parameters of paragraphs and pages are set to ("TeX: The Program", sections 224, 236 and 247).
 
 ghost use Rattle.std.specs.Prelude.{◌≡◌, ◌↔◌, IsOk, OnOk, OnErr};
 ghost use Rattle.ntx_item.specs.Parameters.{IsInRange, IsGlueInRange};
@@ -98,7 +98,7 @@ fn rigid(width: i64) -> GlueSpec
 }
 
 impl Params {
-    /// The defaults.
+    /// The defaults: those of plain TeX ("The TeXbook", appendix B), but `parskip` does not stretch.
     pub fn plain() -> Params
         ensures { result ≡ plain_settings }
     {
