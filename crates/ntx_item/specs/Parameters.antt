@@ -3,8 +3,9 @@
 --     name_of p, glue_name_of g               the name
 --     param_named name, glue_param_named name the parameter of this name
 --     range_of p                              the least and the greatest value, in scaled points where it is a dimension
---     IsGlueInRange spec                      what each glue may be set to
-use Rattle.std.specs.Prelude.{ℕ, ◌-◌, ◌^◌, ◌≤◌, ℤ, pos, neg_ℤ, ◌≤ℤ◌, List, [], ◌∷◌, Option, bytes_eq, codes}
+--     IsInRange p v, IsGlueInRange spec       the value, the glue is one that the parameter, each glue parameter may be set to
+--     is_in_range p v, is_glue_in_range spec  the same as tests
+use Rattle.std.specs.Prelude.{ℕ, ◌-◌, ◌^◌, ◌≤◌, nat_le, ℤ, pos, neg_ℤ, ◌≤ℤ◌, int_le, Bool, ◌&&◌, List, [], ◌∷◌, Option, bytes_eq, codes}
 use Rattle.std.specs.List.{find}
 use Rattle.ntx_item.specs.declared.param.Param.{Param}
 use Rattle.ntx_item.specs.declared.param.Param.TheVariants.{Pretolerance, Tolerance, Linepenalty, Hyphenpenalty, Exhyphenpenalty, Adjdemerits, Doublehyphendemerits, Finalhyphendemerits, Interlinepenalty, Clubpenalty, Widowpenalty, Brokenpenalty, Lefthyphenmin, Righthyphenmin, Hyphenchar, Hsize, Emergencystretch, Parindent, Lineskiplimit}
@@ -70,6 +71,9 @@ pub record Range : Type 0 where
 abbrev pub IsIn : Range → ℤ → Type 0
 IsIn range z = (range.low ≤ℤ z) × (z ≤ℤ range.high)
 
+abbrev pub is_in : Range → ℤ → Bool
+is_in range z = int_le range.low z && int_le z range.high
+
 -- from -most to most
 abbrev pub within : ℕ → Range
 within most = record { low = neg_ℤ (pos most); high = pos most }
@@ -92,6 +96,9 @@ range_of _ = within (10 ^ 8)
 abbrev pub IsInRange : Param → ℤ → Type 0
 IsInRange p v = IsIn (range_of p) v
 
+abbrev pub is_in_range : Param → ℤ → Bool
+is_in_range p v = is_in (range_of p) v
+
 -- the greatest order of infinity
 abbrev pub max_order : ℕ
 max_order = 3
@@ -102,3 +109,8 @@ pub record IsGlueInRange (spec : GlueSpec) : Type 0 where
   pub stretch_order : spec.stretch_order ≤ max_order
   pub shrink : IsIn dimensions spec.shrink
   pub shrink_order : spec.shrink_order ≤ max_order
+
+abbrev pub is_glue_in_range : GlueSpec → Bool
+is_glue_in_range spec =
+    is_in dimensions spec.width && is_in dimensions spec.stretch && nat_le spec.stretch_order max_order && is_in dimensions spec.shrink &&
+    nat_le spec.shrink_order max_order

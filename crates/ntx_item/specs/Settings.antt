@@ -1,16 +1,18 @@
 -- What the parameters are set to, and the values that plain TeX gives them ("The TeXbook", appendix B), where parskip alone stretches too.
 --     value_of s p, glue_of s g             what the parameter is
 --     with_value s p v, with_glue s g spec  the settings with this parameter set to this value, and the others as they were
+--     put_step p v s, put_glue_step g spec s  the same, or OutOfRange where the value is not in the parameter's range
 --     plain_settings                        the defaults
 --     AreSettingsInRange s                  each parameter is in its range
 --     ChangesStandAlone                     a change of one parameter leaves all others
-use Rattle.std.specs.Prelude.{◌≡◌, ◌≢◌, ℤ, pos}
+use Rattle.std.specs.Prelude.{◌≡◌, ◌≢◌, ℤ, pos, Result, Ok, Err, if◌then◌else◌}
 use Rattle.ntx_item.specs.declared.param.Param.{Param}
 use Rattle.ntx_item.specs.declared.param.Param.TheVariants.{Pretolerance, Tolerance, Linepenalty, Hyphenpenalty, Exhyphenpenalty, Adjdemerits, Doublehyphendemerits, Finalhyphendemerits, Interlinepenalty, Clubpenalty, Widowpenalty, Brokenpenalty, Lefthyphenmin, Righthyphenmin, Hyphenchar, Hsize, Emergencystretch, Parindent, Lineskiplimit}
 use Rattle.ntx_item.specs.declared.glue_param.GlueParam.{GlueParam}
 use Rattle.ntx_item.specs.declared.glue_param.GlueParam.TheVariants.{Baselineskip, Lineskip, Topskip, Parskip, Leftskip, Rightskip, Parfillskip}
 use Rattle.ntx_item.specs.declared.glue.GlueSpec.{GlueSpec}
-use Rattle.ntx_item.specs.Parameters.{IsInRange, IsGlueInRange}
+use Rattle.ntx_item.specs.declared.out_of_range.OutOfRange.{OutOfRange}
+use Rattle.ntx_item.specs.Parameters.{IsInRange, IsGlueInRange, is_in_range, is_glue_in_range}
 
 -- Dimensions and glue are in scaled points.
 pub record Settings : Type 0 where
@@ -100,6 +102,13 @@ with_glue s Parskip spec = record s { parskip = spec }
 with_glue s Leftskip spec = record s { leftskip = spec }
 with_glue s Rightskip spec = record s { rightskip = spec }
 with_glue s Parfillskip spec = record s { parfillskip = spec }
+
+-- A parameter is put to a value in its range.
+abbrev pub put_step : Param → ℤ → Settings → Result (Unit {0} × Settings) OutOfRange
+put_step p v s = if is_in_range p v then Ok (tt, with_value s p v) else Err (record {})
+
+abbrev pub put_glue_step : GlueParam → GlueSpec → Settings → Result (Unit {0} × Settings) OutOfRange
+put_glue_step g spec s = if is_glue_in_range spec then Ok (tt, with_glue s g spec) else Err (record {})
 
 -- glue that neither stretches nor shrinks
 abbrev pub rigid : ℤ → GlueSpec

@@ -1,7 +1,7 @@
 //! Glue ("TeX: The Program", sections 149 and 150).
 
 ghost use Rattle.std.specs.Prelude.{◌≡◌, ◌↔◌, IsTrue};
-ghost use Rattle.ntx_item.specs.Parameters.{IsIn, dimensions, IsGlueInRange};
+ghost use Rattle.ntx_item.specs.Parameters.{IsIn, is_in, dimensions, IsGlueInRange, is_glue_in_range};
 
 use ntx_num::in_range;
 
@@ -29,7 +29,8 @@ pub struct GlueSpec {
 
 /// Whether it is a dimension of TeX.
 fn is_dimension(v: i64) -> bool
-    ensures { IsTrue result ↔ IsIn dimensions v }
+    ensures in_range { IsTrue result ↔ IsIn dimensions v }
+    ensures test { result ≡ is_in dimensions v }
 {
     in_range(v, -MAX_DIMENSION, MAX_DIMENSION)
 }
@@ -38,7 +39,8 @@ impl GlueSpec {
     /// Whether a parameter may be set to this glue: its width, stretch and shrink are within 2^30-1 in absolute value,
     /// and its orders are at most 3.
     pub fn is_in_range(&self) -> bool
-        ensures { IsTrue result ↔ IsGlueInRange self.now }
+        ensures in_range { IsTrue result ↔ IsGlueInRange self.now }
+        ensures test { result ≡ is_glue_in_range self.now }
     {
         is_dimension(self.width)
             && is_dimension(self.stretch)

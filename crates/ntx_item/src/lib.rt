@@ -7,6 +7,7 @@
 mod glue;
 mod glue_param;
 mod item;
+mod out_of_range;
 mod pack_to;
 mod param;
 mod params;
@@ -14,9 +15,10 @@ mod params;
 pub use glue::GlueSpec;
 pub use glue_param::GlueParam;
 pub use item::{Item, parts_are_in_range, sums_are_bounded};
+pub use out_of_range::OutOfRange;
 pub use pack_to::PackTo;
 pub use param::Param;
-pub use params::{OutOfRange, Params, changes_stand_alone};
+pub use params::{Params, changes_stand_alone};
 
 #[cfg(test)]
 mod tests;

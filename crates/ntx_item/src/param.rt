@@ -1,7 +1,7 @@
 //! The parameters that are numbers ("TeX: The Program", sections 236, 247 and 549).
 
 ghost use Rattle.std.specs.Prelude.{◌≡◌, ◌↔◌, IsTrue, Some};
-ghost use Rattle.ntx_item.specs.Parameters.{name_of, param_named, range_of, IsInRange};
+ghost use Rattle.ntx_item.specs.Parameters.{name_of, param_named, range_of, IsInRange, is_in_range};
 ghost use Rattle.ntx_item.specs.declared.param.Param.{Param};
 
 use crate::glue::MAX_DIMENSION;
@@ -135,7 +135,8 @@ impl Param {
 
     /// Whether it may be set to this value.
     pub fn accepts(self, value: i64) -> bool
-        ensures { IsTrue result ↔ IsInRange self value }
+        ensures in_range { IsTrue result ↔ IsInRange self value }
+        ensures test { result ≡ is_in_range self value }
     {
         let (low, high) = self.range();
         in_range(value, low, high)

@@ -1,17 +1,15 @@
 //! What the parameters of paragraphs and pages are set to ("TeX: The Program", sections 224, 236 and 247).
 
 ghost use Rattle.std.specs.Prelude.{◌≡◌, ◌↔◌, IsOk, OnOk, OnErr};
+ghost use Rattle.ntx_num.specs.Answer.{StepsAtOnce};
 ghost use Rattle.ntx_item.specs.Parameters.{IsInRange, IsGlueInRange};
-ghost use Rattle.ntx_item.specs.Settings.{value_of, with_value, glue_of, with_glue, plain_settings, rigid, ChangesStandAlone};
+ghost use Rattle.ntx_item.specs.Settings.{value_of, with_value, glue_of, with_glue, put_step, put_glue_step, plain_settings, rigid, ChangesStandAlone};
 
 use crate::glue::GlueSpec;
 use crate::glue_param::GlueParam;
+use crate::out_of_range::OutOfRange;
 use crate::param::Param;
 use std::marker::Model;
-
-/// The value is outside the parameter's range.
-#[derive(Clone, Copy, Debug, PartialEq, Eq)]
-pub struct OutOfRange;
 
 /// What the parameters are set to. Each is in its range. Dimensions and glue are in scaled points.
 #[derive(Clone, Copy, Debug)]
@@ -219,6 +217,7 @@ impl Params {
         ensures in_range { IsOk result ↔ IsInRange p v }
         ensures ok { OnOk result (self.new ≡ with_value self.old p v) }
         ensures err { OnErr result (self.new ≡ self.old) }
+        ensures step { StepsAtOnce result self.old self.new (put_step p v self.old) }
     {
         if !p.accepts(v) {
             return Err(OutOfRange);
@@ -253,6 +252,7 @@ impl Params {
         ensures in_range { IsOk result ↔ IsGlueInRange spec }
         ensures ok { OnOk result (self.new ≡ with_glue self.old g spec) }
         ensures err { OnErr result (self.new ≡ self.old) }
+        ensures step { StepsAtOnce result self.old self.new (put_glue_step g spec self.old) }
     {
         if !spec.is_in_range() {
             return Err(OutOfRange);
