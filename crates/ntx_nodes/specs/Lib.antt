@@ -1,0 +1,5 @@
+pub mod Answers
+pub mod Fields
+pub mod Heap
+pub mod Steps
+pub mod Walk

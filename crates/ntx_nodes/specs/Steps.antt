@@ -1,0 +1,134 @@
+-- What each call on a heap of nodes does: from the heap and its arguments to its answer and the new heap, or to its refusal
+-- (LuaTeX Reference Manual, chapter "Nodes"). What a step does not name stays as it is.
+use Rattle.std.specs.Prelude.{ℕ, ◌+◌, ℤ, pos, neg_ℤ, int_le, nat_le, ◌&&◌, ◌||◌, not, if◌then◌else◌, Option, None, Some, Result, Ok, Err, Bool, true, false}
+use Rattle.std.specs.FinMap as map
+use Rattle.std.specs.FinSet as set
+use Rattle.ntx_nodes.specs.Answers.{result_map, result_and_then}
+use Rattle.ntx_nodes.specs.Fields.{contents_field, contents_with, kind_of, last_subtype, link, number_to, fresh, unlinked}
+use Rattle.ntx_nodes.specs.Heap.{Attributes, Node, Heap, Names, name_limit, max_nodes, max_attributes}
+use Rattle.ntx_nodes.specs.declared.kind.Kind.{Kind}
+use Rattle.ntx_nodes.specs.declared.field.Field.{Field}
+use Rattle.ntx_nodes.specs.declared.field.Field.TheVariants as field
+use Rattle.ntx_nodes.specs.declared.field.FieldValue.{FieldValue}
+use Rattle.ntx_nodes.specs.declared.field.FieldValue.TheVariants.{Number, Link}
+use Rattle.ntx_nodes.specs.declared.fields.BoxFields.{BoxFields}
+use Rattle.ntx_nodes.specs.declared.fields.Contents.{Contents}
+use Rattle.ntx_nodes.specs.declared.fields.Contents.TheVariants as contents
+use Rattle.ntx_nodes.specs.declared.ratio.Ratio.{Ratio}
+use Rattle.ntx_nodes.specs.declared.trouble.Trouble.{Trouble}
+use Rattle.ntx_nodes.specs.declared.trouble.Trouble.TheVariants.{Stale, WrongKind, BadValue, NodesFull, NamesOut, AttrFull}
+
+-- a heap with no node, whose next name is given
+abbrev pub empty_heap : ℕ → Heap
+empty_heap first = record { next = first; nodes = map.empty; current = map.empty }
+
+-- What f makes of the node of that name, which has to be live.
+abbrev pub found : {A : Type 0} → ℕ → (Node → Result A Trouble) → Option Node → Result A Trouble
+found n f None = Err (Stale n)
+found n f (Some node) = f node
+
+abbrev pub at : {A : Type 0} → Heap → ℕ → (Node → Result A Trouble) → Result A Trouble
+at heap n f = found n f (map.get heap.nodes n)
+
+-- the heap with this node under this name
+abbrev pub put : Heap → ℕ → Node → Heap
+put heap n node = record heap { nodes = map.insert heap.nodes n node }
+
+-- A made node takes the next name. No name is given twice, since the next name never falls.
+abbrev pub making : Node → Heap → Result (ℕ × Heap) Trouble
+making node heap =
+    if nat_le max_nodes (map.len heap.nodes) then Err NodesFull
+    else if nat_le name_limit heap.next then Err NamesOut
+    else Ok (heap.next, record { next = heap.next + 1; nodes = map.insert heap.nodes heap.next node; current = heap.current })
+
+abbrev pub make_step : Kind → ℕ → Heap → Result (ℕ × Heap) Trouble
+make_step kind subtype heap = making (record { subtype = subtype; next = None; contents = fresh kind; attributes = map.empty }) heap
+
+abbrev pub copy_one_step : ℕ → Heap → Result (ℕ × Heap) Trouble
+copy_one_step n heap = at heap n (λ node. making (record node { next = None; contents = unlinked node.contents }) heap)
+
+abbrev pub free_one_step : ℕ → Heap → Result (Unit {0} × Heap) Trouble
+free_one_step n heap = at heap n (λ _. Ok (tt, record heap { nodes = map.remove heap.nodes n }))
+
+-- the kind and subtype of a node
+abbrev pub kind_answer : ℕ → Heap → Result (Kind × ℕ) Trouble
+kind_answer n heap = at heap n (λ node. Ok (kind_of node.contents, node.subtype))
+
+-- what a field holds
+abbrev pub field_of : Node → Field → Result FieldValue Trouble
+field_of node field.Subtype = Ok (Number (pos node.subtype))
+field_of node field.Next = Ok (Link node.next)
+field_of node f = contents_field node.contents f
+
+abbrev pub get_answer : ℕ → Field → Heap → Result FieldValue Trouble
+get_answer n f heap = at heap n (λ node. field_of node f)
+
+-- the node with the value in the field
+abbrev pub with_field : Node → Field → FieldValue → Result Node Trouble
+with_field node field.Subtype v = result_map (λ k. record node { subtype = k }) (number_to (last_subtype (kind_of node.contents)) v)
+with_field node field.Next v = result_map (λ to. record node { next = to }) (link v)
+with_field node f v = result_map (λ c. record node { contents = c }) (contents_with node.contents f v)
+
+-- a link that is set has to name a live node
+abbrev pub linkable : Heap → FieldValue → Result (Unit {0}) Trouble
+linkable heap (Number x) = Ok tt
+linkable heap (Link None) = Ok tt
+linkable heap (Link (Some m)) = at heap m (λ _. Ok tt)
+
+abbrev pub set_step : ℕ → Field → FieldValue → Heap → Result (Unit {0} × Heap) Trouble
+set_step n f v heap =
+    at heap n (λ node. result_and_then (with_field node f v) (λ changed. result_map (λ _. (tt, put heap n changed)) (linkable heap v)))
+
+-- the box with its glue set
+abbrev pub glued : BoxFields → ℕ → ℕ → Ratio → BoxFields
+glued b sign order r = record b { glue_sign = sign; glue_order = order; glue_num = r.num; glue_den = r.den }
+
+-- the box among the kinds
+abbrev pub with_ratio : ℕ → ℕ → ℕ → Ratio → Contents → Result Contents Trouble
+with_ratio n sign order r (contents.Hlist b) = Ok (contents.Hlist (glued b sign order r))
+with_ratio n sign order r (contents.Vlist b) = Ok (contents.Vlist (glued b sign order r))
+with_ratio n sign order r _ = Err (WrongKind n)
+
+abbrev pub set_ratio_step : ℕ → ℕ → ℕ → Ratio → Heap → Result (Unit {0} × Heap) Trouble
+set_ratio_step n sign order r heap =
+    at heap n (λ node. result_map (λ c. (tt, put heap n (record node { contents = c }))) (with_ratio n sign order r node.contents))
+
+abbrev pub attr_answer : ℕ → ℤ → Heap → Result (Option ℤ) Trouble
+attr_answer n id heap = at heap n (λ node. Ok (map.get node.attributes id))
+
+-- whether an id and a value are in their ranges
+abbrev pub is_attribute : ℤ → ℤ → Bool
+is_attribute id v = (int_le (pos 0) id && int_le id (pos 65535)) && (int_le (neg_ℤ (pos 2147483646)) v && int_le v (pos 2147483647))
+
+-- the attributes with this one
+abbrev pub with_attribute : Attributes → ℤ → ℤ → Result Attributes Trouble
+with_attribute attributes id v =
+    if not (is_attribute id v) then Err BadValue
+    else if not (map.contains_key attributes id) && nat_le max_attributes (map.len attributes) then Err AttrFull
+    else Ok (map.insert attributes id v)
+
+-- the heap with these attributes at a node
+abbrev pub dress : Heap → ℕ → Node → Attributes → Heap
+dress heap n node attributes = put heap n (record node { attributes = attributes })
+
+abbrev pub set_attr_step : ℕ → ℤ → ℤ → Heap → Result (Unit {0} × Heap) Trouble
+set_attr_step n id v heap = at heap n (λ node. result_map (λ a. (tt, dress heap n node a)) (with_attribute node.attributes id v))
+
+abbrev pub unset_attr_step : ℕ → ℤ → Heap → Result (Unit {0} × Heap) Trouble
+unset_attr_step n id heap = at heap n (λ node. Ok (tt, dress heap n node (map.remove node.attributes id)))
+
+abbrev pub same_attrs_step : ℕ → ℕ → Heap → Result (Unit {0} × Heap) Trouble
+same_attrs_step n from heap = at heap n (λ node. at heap from (λ other. Ok (tt, dress heap n node other.attributes)))
+
+abbrev pub set_current_step : ℤ → ℤ → Heap → Result (Unit {0} × Heap) Trouble
+set_current_step id v heap = result_map (λ a. (tt, record heap { current = a })) (with_attribute heap.current id v)
+
+abbrev pub unset_current_step : ℤ → Heap → Result (Unit {0} × Heap) Trouble
+unset_current_step id heap = Ok (tt, record heap { current = map.remove heap.current id })
+
+abbrev pub wear_current_step : ℕ → Heap → Result (Unit {0} × Heap) Trouble
+wear_current_step n heap = at heap n (λ node. Ok (tt, dress heap n node heap.current))
+
+-- whether this is the first visit since the walk began
+abbrev pub visit_answer : ℕ → Names → Heap → Result Bool Trouble
+visit_answer n visited heap = at heap n (λ _. Ok (not (set.contains visited n)))

@@ -1,0 +1,22 @@
+//! Nodes, the records that TeX's lists are made of: their kinds and fields, a heap of them under names, and walks
+//! through their lists (LuaTeX Reference Manual, chapter "Nodes").
+//!
+//! [`Nodes`] is a heap, whichever way it is kept; [`PlainHeap`] keeps each node as a record of its own. Each call on a
+//! heap is one step of a machine over the value that the heap stands for, which `specs/Steps.antt` states.
+//!
+//! It stands on `ntx_num` alone.
+#![tactic(auto)]
+
+mod field;
+mod fields;
+mod kind;
+mod nodes;
+mod ratio;
+mod trouble;
+
+pub use field::{Field, FieldValue};
+pub use fields::{BoxFields, Contents, DiscFields, GlueFields, GlyphFields, RuleFields};
+pub use kind::{Kind, ListKind};
+pub use nodes::Nodes;
+pub use ratio::Ratio;
+pub use trouble::{Phase, Trouble};
