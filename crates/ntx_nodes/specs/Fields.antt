@@ -1,7 +1,7 @@
 -- The fields of each kind of node, the numbers that they take, and what a node holds at first
 -- (LuaTeX Reference Manual, chapter "Nodes"; "TeX: The Program", sections 133 to 161).
---     field_of node f          what field f holds, or that there is none
---     with_field node f v      the node with v in field f, or why it may not be there
+--     field_of fields f        what field f holds, or that there is none
+--     with_field fields f v    the fields with v in field f, or why it may not be there
 --     kind_of contents         the kind of node with these fields
 --     fresh kind               the fields of a new node: zeros and nothings
 --     unlinked contents        the same numbers, and no links
@@ -13,13 +13,14 @@ use Rattle.ntx_nodes.specs.declared.field.Field.{Field}
 use Rattle.ntx_nodes.specs.declared.field.Field.TheVariants.{Subtype, Next, Width, Height, Depth, Shift, List, GlueSign, GlueOrder, GlueNum, GlueDen, Pre, Post, Replace, Stretch, StretchOrder, Shrink, ShrinkOrder, Kern, Penalty, Char, Font}
 use Rattle.ntx_nodes.specs.declared.field.FieldValue.{FieldValue}
 use Rattle.ntx_nodes.specs.declared.field.FieldValue.TheVariants.{Number, Link}
-use Rattle.ntx_nodes.specs.declared.fields.BoxFields.{BoxFields}
-use Rattle.ntx_nodes.specs.declared.fields.RuleFields.{RuleFields}
-use Rattle.ntx_nodes.specs.declared.fields.DiscFields.{DiscFields}
-use Rattle.ntx_nodes.specs.declared.fields.GlueFields.{GlueFields}
-use Rattle.ntx_nodes.specs.declared.fields.GlyphFields.{GlyphFields}
+use Rattle.ntx_nodes.specs.declared.contents.BoxFields.{BoxFields}
+use Rattle.ntx_nodes.specs.declared.contents.RuleFields.{RuleFields}
+use Rattle.ntx_nodes.specs.declared.contents.DiscFields.{DiscFields}
+use Rattle.ntx_nodes.specs.declared.contents.GlueFields.{GlueFields}
+use Rattle.ntx_nodes.specs.declared.contents.GlyphFields.{GlyphFields}
 use Rattle.ntx_nodes.specs.declared.fields.Contents.{Contents}
 use Rattle.ntx_nodes.specs.declared.fields.Contents.TheVariants as contents
+use Rattle.ntx_nodes.specs.declared.fields.Fields.{Fields}
 use Rattle.ntx_nodes.specs.declared.trouble.Trouble.{Trouble}
 use Rattle.ntx_nodes.specs.declared.trouble.Trouble.TheVariants.{NoField, BadValue}
 
@@ -195,3 +196,15 @@ unlinked (contents.Hlist b) = contents.Hlist (record b { list = None })
 unlinked (contents.Vlist b) = contents.Vlist (record b { list = None })
 unlinked (contents.Disc d) = contents.Disc (record { pre = None; post = None; replace = None })
 unlinked c = c
+
+-- what a field holds
+abbrev pub field_of : Fields → Field → Result FieldValue Trouble
+field_of fields Subtype = Ok (Number (pos fields.subtype))
+field_of fields Next = Ok (Link fields.next)
+field_of fields f = contents_field fields.contents f
+
+-- the fields with the value in the field
+abbrev pub with_field : Fields → Field → FieldValue → Result Fields Trouble
+with_field fields Subtype v = result_map (λ k. record fields { subtype = k }) (number_to (last_subtype (kind_of fields.contents)) v)
+with_field fields Next v = result_map (λ to. record fields { next = to }) (link v)
+with_field fields f v = result_map (λ c. record fields { contents = c }) (contents_with fields.contents f v)

@@ -1,5 +1,4 @@
 -- A heap of nodes as a value (LuaTeX Reference Manual, chapter "Nodes").
---     Node                 what one node holds; its kind is that of its contents
 --     Heap                 the next name, the live nodes by name, and the attributes that made nodes wear
 --     IsLawful heap        what is true of every heap
 use Rattle.std.specs.Prelude.{◌≡◌, ℕ, ◌+◌, ◌<◌, ◌≤◌, ◌^◌, ℤ, pos, neg_ℤ, ◌≤ℤ◌, Option, None, Some, Bool, true, is_some, ◌-◌}
@@ -7,19 +6,15 @@ use Rattle.std.specs.Ordering.{nat_cmp, int_cmp}
 use Rattle.std.specs.FinMap as map
 use Rattle.std.specs.FinSet as set
 use Rattle.ntx_nodes.specs.Fields.{max_dimension, kind_of, last_subtype, fresh}
-use Rattle.ntx_nodes.specs.declared.fields.BoxFields.{BoxFields}
+use Rattle.ntx_nodes.specs.declared.contents.BoxFields.{BoxFields}
+use Rattle.ntx_nodes.specs.declared.fields.Fields.{Fields}
 use Rattle.ntx_nodes.specs.declared.fields.Contents.{Contents}
+use Rattle.ntx_nodes.specs.declared.node.Node.{Node}
 use Rattle.ntx_nodes.specs.declared.fields.Contents.TheVariants as contents
 
 -- attributes: from an id to its value
 abbrev pub Attributes : Type 0
 Attributes = map.FinMap int_cmp ℤ
-
-pub record Node : Type 0 where
-  pub subtype : ℕ
-  pub next : Option ℕ
-  pub contents : Contents
-  pub attributes : Attributes
 
 pub record Heap : Type 0 where
   pub next : ℕ
@@ -86,9 +81,9 @@ pub record AreLawful (attributes : Attributes) : Type 0 where
   pub entries : (id v : ℤ) → map.get attributes id ≡ Some v → IsAttributeId id × IsAttributeValue v
 
 pub record IsLawfulNode (next : ℕ) (node : Node) : Type 0 where
-  pub subtype : node.subtype ≤ last_subtype (kind_of node.contents)
-  pub link : IsGiven next node.next
-  pub contents : IsLawfulContents next node.contents
+  pub subtype : node.fields.subtype ≤ last_subtype (kind_of node.fields.contents)
+  pub link : IsGiven next node.fields.next
+  pub contents : IsLawfulContents next node.fields.contents
   pub attributes : AreLawful node.attributes
 
 -- Every name that is live or linked has been given, no heap is too large, and each number is in its field's range.

@@ -4,14 +4,15 @@ use Rattle.std.specs.Prelude.{ℕ, ◌+◌, ℤ, pos, neg_ℤ, int_le, nat_le, �
 use Rattle.std.specs.FinMap as map
 use Rattle.std.specs.FinSet as set
 use Rattle.ntx_nodes.specs.Answers.{result_map, result_and_then}
-use Rattle.ntx_nodes.specs.Fields.{contents_field, contents_with, kind_of, last_subtype, link, number_to, fresh, unlinked}
-use Rattle.ntx_nodes.specs.Heap.{Attributes, Node, Heap, Names, name_limit, max_nodes, max_attributes}
+use Rattle.ntx_nodes.specs.Fields.{field_of, with_field, kind_of, fresh, unlinked}
+use Rattle.ntx_nodes.specs.Heap.{Attributes, Heap, Names, name_limit, max_nodes, max_attributes}
 use Rattle.ntx_nodes.specs.declared.kind.Kind.{Kind}
 use Rattle.ntx_nodes.specs.declared.field.Field.{Field}
-use Rattle.ntx_nodes.specs.declared.field.Field.TheVariants as field
 use Rattle.ntx_nodes.specs.declared.field.FieldValue.{FieldValue}
 use Rattle.ntx_nodes.specs.declared.field.FieldValue.TheVariants.{Number, Link}
-use Rattle.ntx_nodes.specs.declared.fields.BoxFields.{BoxFields}
+use Rattle.ntx_nodes.specs.declared.contents.BoxFields.{BoxFields}
+use Rattle.ntx_nodes.specs.declared.fields.Fields.{Fields}
+use Rattle.ntx_nodes.specs.declared.node.Node.{Node}
 use Rattle.ntx_nodes.specs.declared.fields.Contents.{Contents}
 use Rattle.ntx_nodes.specs.declared.fields.Contents.TheVariants as contents
 use Rattle.ntx_nodes.specs.declared.ratio.Ratio.{Ratio}
@@ -41,33 +42,29 @@ making node heap =
     else if nat_le name_limit heap.next then Err NamesOut
     else Ok (heap.next, record { next = heap.next + 1; nodes = map.insert heap.nodes heap.next node; current = heap.current })
 
+-- a new node
+abbrev pub made : Kind → ℕ → Node
+made kind subtype = record { fields = record { subtype = subtype; next = None; contents = fresh kind }; attributes = map.empty }
+
 abbrev pub make_step : Kind → ℕ → Heap → Result (ℕ × Heap) Trouble
-make_step kind subtype heap = making (record { subtype = subtype; next = None; contents = fresh kind; attributes = map.empty }) heap
+make_step kind subtype heap = making (made kind subtype) heap
+
+-- a copy of a node
+abbrev pub copied : Node → Node
+copied node = record { fields = record { subtype = node.fields.subtype; next = None; contents = unlinked node.fields.contents }; attributes = node.attributes }
 
 abbrev pub copy_one_step : ℕ → Heap → Result (ℕ × Heap) Trouble
-copy_one_step n heap = at heap n (λ node. making (record node { next = None; contents = unlinked node.contents }) heap)
+copy_one_step n heap = at heap n (λ node. making (copied node) heap)
 
 abbrev pub free_one_step : ℕ → Heap → Result (Unit {0} × Heap) Trouble
 free_one_step n heap = at heap n (λ _. Ok (tt, record heap { nodes = map.remove heap.nodes n }))
 
 -- the kind and subtype of a node
 abbrev pub kind_answer : ℕ → Heap → Result (Kind × ℕ) Trouble
-kind_answer n heap = at heap n (λ node. Ok (kind_of node.contents, node.subtype))
-
--- what a field holds
-abbrev pub field_of : Node → Field → Result FieldValue Trouble
-field_of node field.Subtype = Ok (Number (pos node.subtype))
-field_of node field.Next = Ok (Link node.next)
-field_of node f = contents_field node.contents f
+kind_answer n heap = at heap n (λ node. Ok (kind_of node.fields.contents, node.fields.subtype))
 
 abbrev pub get_answer : ℕ → Field → Heap → Result FieldValue Trouble
-get_answer n f heap = at heap n (λ node. field_of node f)
-
--- the node with the value in the field
-abbrev pub with_field : Node → Field → FieldValue → Result Node Trouble
-with_field node field.Subtype v = result_map (λ k. record node { subtype = k }) (number_to (last_subtype (kind_of node.contents)) v)
-with_field node field.Next v = result_map (λ to. record node { next = to }) (link v)
-with_field node f v = result_map (λ c. record node { contents = c }) (contents_with node.contents f v)
+get_answer n f heap = at heap n (λ node. field_of node.fields f)
 
 -- a link that is set has to name a live node
 abbrev pub linkable : Heap → FieldValue → Result (Unit {0}) Trouble
@@ -75,23 +72,30 @@ linkable heap (Number x) = Ok tt
 linkable heap (Link None) = Ok tt
 linkable heap (Link (Some m)) = at heap m (λ _. Ok tt)
 
+-- the heap with these fields at a node
+abbrev pub rewrite : Heap → ℕ → Node → Fields → Heap
+rewrite heap n node fields = put heap n (record node { fields = fields })
+
 abbrev pub set_step : ℕ → Field → FieldValue → Heap → Result (Unit {0} × Heap) Trouble
 set_step n f v heap =
-    at heap n (λ node. result_and_then (with_field node f v) (λ changed. result_map (λ _. (tt, put heap n changed)) (linkable heap v)))
+    at heap n (λ node. result_and_then (with_field node.fields f v) (λ fields. result_map (λ _. (tt, rewrite heap n node fields)) (linkable heap v)))
 
--- the box with its glue set
+-- a box with its glue set
 abbrev pub glued : BoxFields → ℕ → ℕ → Ratio → BoxFields
 glued b sign order r = record b { glue_sign = sign; glue_order = order; glue_num = r.num; glue_den = r.den }
 
--- the box among the kinds
-abbrev pub with_ratio : ℕ → ℕ → ℕ → Ratio → Contents → Result Contents Trouble
-with_ratio n sign order r (contents.Hlist b) = Ok (contents.Hlist (glued b sign order r))
-with_ratio n sign order r (contents.Vlist b) = Ok (contents.Vlist (glued b sign order r))
-with_ratio n sign order r _ = Err (WrongKind n)
+-- node n among the kinds
+abbrev pub contents_with_ratio : ℕ → ℕ → ℕ → Ratio → Contents → Result Contents Trouble
+contents_with_ratio n sign order r (contents.Hlist b) = Ok (contents.Hlist (glued b sign order r))
+contents_with_ratio n sign order r (contents.Vlist b) = Ok (contents.Vlist (glued b sign order r))
+contents_with_ratio n sign order r _ = Err (WrongKind n)
+
+abbrev pub with_ratio : ℕ → ℕ → ℕ → Ratio → Fields → Result Fields Trouble
+with_ratio n sign order r fields = result_map (λ c. record fields { contents = c }) (contents_with_ratio n sign order r fields.contents)
 
 abbrev pub set_ratio_step : ℕ → ℕ → ℕ → Ratio → Heap → Result (Unit {0} × Heap) Trouble
 set_ratio_step n sign order r heap =
-    at heap n (λ node. result_map (λ c. (tt, put heap n (record node { contents = c }))) (with_ratio n sign order r node.contents))
+    at heap n (λ node. result_map (λ fields. (tt, rewrite heap n node fields)) (with_ratio n sign order r node.fields))
 
 abbrev pub attr_answer : ℕ → ℤ → Heap → Result (Option ℤ) Trouble
 attr_answer n id heap = at heap n (λ node. Ok (map.get node.attributes id))

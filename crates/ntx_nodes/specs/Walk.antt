@@ -7,7 +7,8 @@ use Rattle.std.specs.List.{list_any}
 use Rattle.std.specs.FinMap as map
 use Rattle.ntx_nodes.specs.Answers.{result_and_then}
 use Rattle.ntx_nodes.specs.Fields.{kind_of}
-use Rattle.ntx_nodes.specs.Heap.{Node, Heap}
+use Rattle.ntx_nodes.specs.Heap.{Heap}
+use Rattle.ntx_nodes.specs.declared.node.Node.{Node}
 use Rattle.ntx_nodes.specs.Steps.{at}
 use Rattle.ntx_nodes.specs.declared.kind.Kind.{Kind}
 use Rattle.ntx_nodes.specs.declared.kind.Kind.TheVariants as kind
@@ -48,7 +49,7 @@ tested heap checked reached n depth k =
     at heap n (λ node.
     if is_reached reached n then Err (Loop n)
     else if nat_lt max_depth depth then Err Nest
-    else if checked && not (allows k (kind_of node.contents)) then Err (WrongKind n)
+    else if checked && not (allows k (kind_of node.fields.contents)) then Err (WrongKind n)
     else Ok node)
 
 -- one list after another, from the names reached before
@@ -63,8 +64,8 @@ walk heap checked zero reached n depth k = Ok reached
 walk heap checked (suc turns) reached None depth k = Ok reached
 walk heap checked (suc turns) reached (Some n) depth k =
     result_and_then (tested heap checked reached n depth k) (λ node.
-    result_and_then (in_turn (λ before to inner. walk heap checked turns before to (depth + 1) inner) (reached ++ n ∷ []) (inner_lists node.contents)) (λ before.
-    walk heap checked turns before node.next depth k))
+    result_and_then (in_turn (λ before to inner. walk heap checked turns before to (depth + 1) inner) (reached ++ n ∷ []) (inner_lists node.fields.contents)) (λ before.
+    walk heap checked turns before node.fields.next depth k))
 
 -- the walk of the list at a head
 abbrev pub walk_from : Heap → Bool → Option ℕ → ListKind → Result (List ℕ) Trouble

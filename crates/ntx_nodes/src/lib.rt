@@ -7,16 +7,23 @@
 //! It stands on `ntx_num` alone.
 #![tactic(auto)]
 
+mod attributes;
+mod contents;
 mod field;
 mod fields;
 mod kind;
+mod node;
 mod nodes;
 mod ratio;
 mod trouble;
+mod value;
 
+pub use attributes::{Attributes, is_attribute};
+pub use contents::{BoxFields, DiscFields, GlueFields, GlyphFields, RuleFields};
 pub use field::{Field, FieldValue};
-pub use fields::{BoxFields, Contents, DiscFields, GlueFields, GlyphFields, RuleFields};
+pub use fields::{Contents, Fields};
 pub use kind::{Kind, ListKind};
+pub use node::Node;
 pub use nodes::Nodes;
 pub use ratio::Ratio;
 pub use trouble::{Phase, Trouble};

@@ -5,8 +5,9 @@ ghost use Rattle.std.specs.FinMap as map;
 ghost use Rattle.std.specs.FinSet as set;
 ghost use Rattle.ntx_num.specs.Answer.{Steps, StepsAtOnce};
 ghost use Rattle.ntx_nodes.specs.declared.kind.Kind.{Kind};
+ghost use Rattle.ntx_nodes.specs.declared.node.Node.{Node};
 ghost use Rattle.ntx_nodes.specs.Fields.{kind_of, last_subtype};
-ghost use Rattle.ntx_nodes.specs.Heap.{Heap, Node, Names, IsLawful, AreLive, max_nodes};
+ghost use Rattle.ntx_nodes.specs.Heap.{Heap, Names, IsLawful, AreLive, max_nodes};
 ghost use Rattle.ntx_nodes.specs.Steps.{make_step, copy_one_step, free_one_step, kind_answer, get_answer, set_step, set_ratio_step, attr_answer, set_attr_step, unset_attr_step, same_attrs_step, set_current_step, unset_current_step, wear_current_step, visit_answer};
 
 use crate::{Field, FieldValue, Kind, Ratio, Trouble};
@@ -43,7 +44,7 @@ pub trait Nodes: Drop {
     fn copy_one(&mut self, n: u64) -> Result<u64, Fail<Trouble>>
         ensures step { Steps result (heap self.old) (heap self.new) (copy_one_step n (heap self.old)) }
         ensures visits { visited self.new ≡ visited self.old }
-        ensures memory { copies ≡ false → (node : Node) → map.get (heap self.old).nodes n ≡ Some node → 0 < spare_of self.old (kind_of node.contents) → result ≢ Err Fail.NoMemory };
+        ensures memory { copies ≡ false → (node : Node) → map.get (heap self.old).nodes n ≡ Some node → 0 < spare_of self.old (kind_of node.fields.contents) → result ≢ Err Fail.NoMemory };
 
     /// Takes a node out of the heap. Refuses with Stale of a dead `n`.
     fn free_one(&mut self, n: u64) -> Result<(), Trouble>
