@@ -1,2 +1,5 @@
 pub mod Maps
 pub mod AttributeSteps
+pub mod Oks
+pub mod Ranges
+pub mod Lawful

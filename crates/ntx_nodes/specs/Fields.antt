@@ -3,7 +3,7 @@
 --     field_of fields f        what field f holds, or that there is none
 --     with_field fields f v    the fields with v in field f, or why it may not be there
 --     kind_of contents         the kind of node with these fields
---     fresh kind               the fields of a new node: zeros and nothings
+--     fresh kind               the fields of a new node: zeros and nothings, and a box's ratio 0 over 1
 --     unlinked contents        the same numbers, and no links
 use Rattle.std.specs.Prelude.{ℕ, ◌-◌, ◌^◌, ℤ, pos, negsuc, neg_ℤ, nat_abs, int_le, nat_le, ◌&&◌, if◌then◌else◌, Option, None, Some, Result, Ok, Err}
 use Rattle.ntx_nodes.specs.Answers.{result_map}

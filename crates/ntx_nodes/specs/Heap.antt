@@ -1,16 +1,16 @@
 -- A heap of nodes as a value (LuaTeX Reference Manual, chapter "Nodes").
 --     Heap                 the next name, the live nodes by name, and the attributes that made nodes wear
 --     IsLawful heap        what is true of every heap
-use Rattle.std.specs.Prelude.{◌≡◌, ℕ, ◌+◌, ◌<◌, ◌≤◌, ◌^◌, ℤ, pos, neg_ℤ, ◌≤ℤ◌, Option, None, Some, Bool, true, is_some, ◌-◌}
+use Rattle.std.specs.Prelude.{◌≡◌, ℕ, ◌-◌, ◌<◌, ◌≤◌, ◌^◌, ℤ, pos, neg_ℤ, ◌≤ℤ◌, int_le, Some, Ok, Bool, true, ◌&&◌, is_some}
 use Rattle.std.specs.Ordering.{nat_cmp, int_cmp}
 use Rattle.std.specs.FinMap as map
 use Rattle.std.specs.FinSet as set
-use Rattle.ntx_nodes.specs.Fields.{max_dimension, kind_of, last_subtype, fresh}
-use Rattle.ntx_nodes.specs.declared.contents.BoxFields.{BoxFields}
-use Rattle.ntx_nodes.specs.declared.fields.Fields.{Fields}
-use Rattle.ntx_nodes.specs.declared.fields.Contents.{Contents}
+use Rattle.ntx_nodes.specs.Fields.{max_dimension, kind_of, last_subtype, field_of}
+use Rattle.ntx_nodes.specs.declared.kind.Kind.{Kind}
+use Rattle.ntx_nodes.specs.declared.field.Field.{Field}
+use Rattle.ntx_nodes.specs.declared.field.Field.TheVariants.{Subtype, Width, Height, Depth, Shift, GlueSign, GlueOrder, GlueNum, GlueDen, Stretch, StretchOrder, Shrink, ShrinkOrder, Kern, Penalty, Char, Font}
+use Rattle.ntx_nodes.specs.declared.field.FieldValue.TheVariants.{Number, Link}
 use Rattle.ntx_nodes.specs.declared.node.Node.{Node}
-use Rattle.ntx_nodes.specs.declared.fields.Contents.TheVariants as contents
 
 -- attributes: from an id to its value
 abbrev pub Attributes : Type 0
@@ -43,47 +43,50 @@ IsWithin most x = (neg_ℤ (pos most) ≤ℤ x) × (x ≤ℤ pos most)
 abbrev pub IsDimension : ℤ → Type 0
 IsDimension x = IsWithin max_dimension x
 
--- a link holds a name that has been given
-abbrev pub IsGiven : ℕ → Option ℕ → Type 0
-IsGiven next None = Unit {0}
-IsGiven next (Some n) = n < next
-
-pub record IsLawfulBox (next : ℕ) (b : BoxFields) : Type 0 where
-  pub width : IsDimension b.width
-  pub height : IsDimension b.height
-  pub depth : IsDimension b.depth
-  pub shift : IsDimension b.shift
-  pub list : IsGiven next b.list
-  pub glue_sign : b.glue_sign ≤ 2
-  pub glue_order : b.glue_order ≤ 3
-  pub glue_num : IsWithin (2 ^ 32) b.glue_num
-  pub glue_den : pos 1 ≤ℤ b.glue_den
-
-abbrev pub IsLawfulContents : ℕ → Contents → Type 0
-IsLawfulContents next (contents.Hlist b) = IsLawfulBox next b
-IsLawfulContents next (contents.Vlist b) = IsLawfulBox next b
-IsLawfulContents next (contents.Rule r) = IsDimension r.width × IsDimension r.height × IsDimension r.depth
-IsLawfulContents next (contents.Disc d) = IsGiven next d.pre × IsGiven next d.post × IsGiven next d.replace
-IsLawfulContents next (contents.Glue g) = IsDimension g.width × IsDimension g.stretch × (g.stretch_order ≤ 3) × IsDimension g.shrink × (g.shrink_order ≤ 3)
-IsLawfulContents next (contents.Kern size) = IsDimension size
-IsLawfulContents next (contents.Penalty cost) = IsWithin (2 ^ 31 - 1) cost
-IsLawfulContents next (contents.Glyph g) = (g.char ≤ 255) × (g.font ≤ 63)
+-- the numbers that a field of a kind may hold
+abbrev pub IsInRange : Kind → Field → ℤ → Type 0
+IsInRange kind Subtype x = (pos 0 ≤ℤ x) × (x ≤ℤ pos (last_subtype kind))
+IsInRange kind Width x = IsDimension x
+IsInRange kind Height x = IsDimension x
+IsInRange kind Depth x = IsDimension x
+IsInRange kind Shift x = IsDimension x
+IsInRange kind GlueSign x = (pos 0 ≤ℤ x) × (x ≤ℤ pos 2)
+IsInRange kind GlueOrder x = (pos 0 ≤ℤ x) × (x ≤ℤ pos 3)
+IsInRange kind GlueNum x = IsWithin (2 ^ 32) x
+IsInRange kind GlueDen x = pos 1 ≤ℤ x
+IsInRange kind Stretch x = IsDimension x
+IsInRange kind StretchOrder x = (pos 0 ≤ℤ x) × (x ≤ℤ pos 3)
+IsInRange kind Shrink x = IsDimension x
+IsInRange kind ShrinkOrder x = (pos 0 ≤ℤ x) × (x ≤ℤ pos 3)
+IsInRange kind Kern x = IsDimension x
+IsInRange kind Penalty x = IsWithin (2 ^ 31 - 1) x
+IsInRange kind Char x = (pos 0 ≤ℤ x) × (x ≤ℤ pos 255)
+IsInRange kind Font x = (pos 0 ≤ℤ x) × (x ≤ℤ pos 63)
+-- the other fields hold links
+IsInRange kind _ x = ⊥
 
 -- the ids and values that attributes take
-abbrev pub IsAttributeId : ℤ → Type 0
-IsAttributeId id = (pos 0 ≤ℤ id) × (id ≤ℤ pos 65535)
+abbrev pub last_attribute_id : ℤ
+last_attribute_id = pos 65535
 
-abbrev pub IsAttributeValue : ℤ → Type 0
-IsAttributeValue v = (neg_ℤ (pos 2147483646) ≤ℤ v) × (v ≤ℤ pos 2147483647)
+abbrev pub least_attribute_value : ℤ
+least_attribute_value = neg_ℤ (pos 2147483646)
+
+abbrev pub greatest_attribute_value : ℤ
+greatest_attribute_value = pos 2147483647
+
+-- whether an id and a value are in their ranges
+abbrev pub is_attribute : ℤ → ℤ → Bool
+is_attribute id v = (int_le (pos 0) id && int_le id last_attribute_id) && (int_le least_attribute_value v && int_le v greatest_attribute_value)
 
 pub record AreLawful (attributes : Attributes) : Type 0 where
   pub few : map.len attributes ≤ max_attributes
-  pub entries : (id v : ℤ) → map.get attributes id ≡ Some v → IsAttributeId id × IsAttributeValue v
+  pub entries : (id v : ℤ) → map.get attributes id ≡ Some v → is_attribute id v ≡ true
 
+-- each number is in its field's range, and each link holds a name that has been given
 pub record IsLawfulNode (next : ℕ) (node : Node) : Type 0 where
-  pub subtype : node.fields.subtype ≤ last_subtype (kind_of node.fields.contents)
-  pub link : IsGiven next node.fields.next
-  pub contents : IsLawfulContents next node.fields.contents
+  pub numbers : (f : Field) (x : ℤ) → field_of node.fields f ≡ Ok (Number x) → IsInRange (kind_of node.fields.contents) f x
+  pub links : (f : Field) (n : ℕ) → field_of node.fields f ≡ Ok (Link (Some n)) → n < next
   pub attributes : AreLawful node.attributes
 
 -- Every name that is live or linked has been given, no heap is too large, and each number is in its field's range.
@@ -97,6 +100,6 @@ pub record IsLawful (heap : Heap) : Type 0 where
 abbrev pub is_live : Heap → ℕ → Bool
 is_live heap n = is_some (map.get heap.nodes n)
 
--- the live nodes of a set
+-- each name of the set is live
 abbrev pub AreLive : Heap → Names → Type 0
 AreLive heap names = (n : ℕ) → set.contains names n ≡ true → is_live heap n ≡ true

@@ -3,3 +3,4 @@ pub mod Fields
 pub mod Heap
 pub mod Steps
 pub mod Walk
+pub mod Plain

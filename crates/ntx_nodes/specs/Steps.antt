@@ -5,7 +5,7 @@ use Rattle.std.specs.FinMap as map
 use Rattle.std.specs.FinSet as set
 use Rattle.ntx_nodes.specs.Answers.{result_map, result_and_then}
 use Rattle.ntx_nodes.specs.Fields.{field_of, with_field, kind_of, fresh, unlinked}
-use Rattle.ntx_nodes.specs.Heap.{Attributes, Heap, Names, name_limit, max_nodes, max_attributes}
+use Rattle.ntx_nodes.specs.Heap.{Attributes, Heap, Names, name_limit, max_nodes, max_attributes, is_attribute}
 use Rattle.ntx_nodes.specs.declared.kind.Kind.{Kind}
 use Rattle.ntx_nodes.specs.declared.field.Field.{Field}
 use Rattle.ntx_nodes.specs.declared.field.FieldValue.{FieldValue}
@@ -23,13 +23,13 @@ use Rattle.ntx_nodes.specs.declared.trouble.Trouble.TheVariants.{Stale, WrongKin
 abbrev pub empty_heap : ℕ → Heap
 empty_heap first = record { next = first; nodes = map.empty; current = map.empty }
 
--- What f makes of the node of that name, which has to be live.
-abbrev pub found : {A : Type 0} → ℕ → (Node → Result A Trouble) → Option Node → Result A Trouble
-found n f None = Err (Stale n)
-found n f (Some node) = f node
+-- What f makes of the node of this name, which has to be live.
+abbrev pub of_found : {A : Type 0} → ℕ → (Node → Result A Trouble) → Option Node → Result A Trouble
+of_found n f None = Err (Stale n)
+of_found n f (Some node) = f node
 
 abbrev pub at : {A : Type 0} → Heap → ℕ → (Node → Result A Trouble) → Result A Trouble
-at heap n f = found n f (map.get heap.nodes n)
+at heap n f = of_found n f (map.get heap.nodes n)
 
 -- the heap with this node under this name
 abbrev pub put : Heap → ℕ → Node → Heap
@@ -43,18 +43,18 @@ making node heap =
     else Ok (heap.next, record { next = heap.next + 1; nodes = map.insert heap.nodes heap.next node; current = heap.current })
 
 -- a new node
-abbrev pub made : Kind → ℕ → Node
-made kind subtype = record { fields = record { subtype = subtype; next = None; contents = fresh kind }; attributes = map.empty }
+abbrev pub new_node : Kind → ℕ → Node
+new_node kind subtype = record { fields = record { subtype = subtype; next = None; contents = fresh kind }; attributes = map.empty }
 
 abbrev pub make_step : Kind → ℕ → Heap → Result (ℕ × Heap) Trouble
-make_step kind subtype heap = making (made kind subtype) heap
+make_step kind subtype heap = making (new_node kind subtype) heap
 
 -- a copy of a node
-abbrev pub copied : Node → Node
-copied node = record { fields = record { subtype = node.fields.subtype; next = None; contents = unlinked node.fields.contents }; attributes = node.attributes }
+abbrev pub copy_of : Node → Node
+copy_of node = record { fields = record { subtype = node.fields.subtype; next = None; contents = unlinked node.fields.contents }; attributes = node.attributes }
 
 abbrev pub copy_one_step : ℕ → Heap → Result (ℕ × Heap) Trouble
-copy_one_step n heap = at heap n (λ node. making (copied node) heap)
+copy_one_step n heap = at heap n (λ node. making (copy_of node) heap)
 
 abbrev pub free_one_step : ℕ → Heap → Result (Unit {0} × Heap) Trouble
 free_one_step n heap = at heap n (λ _. Ok (tt, record heap { nodes = map.remove heap.nodes n }))
@@ -73,21 +73,21 @@ linkable heap (Link None) = Ok tt
 linkable heap (Link (Some m)) = at heap m (λ _. Ok tt)
 
 -- the heap with these fields at a node
-abbrev pub rewrite : Heap → ℕ → Node → Fields → Heap
-rewrite heap n node fields = put heap n (record node { fields = fields })
+abbrev pub with_fields : Heap → ℕ → Node → Fields → Heap
+with_fields heap n node fields = put heap n (record node { fields = fields })
 
 abbrev pub set_step : ℕ → Field → FieldValue → Heap → Result (Unit {0} × Heap) Trouble
 set_step n f v heap =
-    at heap n (λ node. result_and_then (with_field node.fields f v) (λ fields. result_map (λ _. (tt, rewrite heap n node fields)) (linkable heap v)))
+    at heap n (λ node. result_and_then (with_field node.fields f v) (λ fields. result_map (λ _. (tt, with_fields heap n node fields)) (linkable heap v)))
 
 -- a box with its glue set
-abbrev pub glued : BoxFields → ℕ → ℕ → Ratio → BoxFields
-glued b sign order r = record b { glue_sign = sign; glue_order = order; glue_num = r.num; glue_den = r.den }
+abbrev pub with_glue_set : BoxFields → ℕ → ℕ → Ratio → BoxFields
+with_glue_set b sign order r = record b { glue_sign = sign; glue_order = order; glue_num = r.num; glue_den = r.den }
 
--- node n among the kinds
+-- the contents with the glue set, where they are a box's; else WrongKind of n
 abbrev pub contents_with_ratio : ℕ → ℕ → ℕ → Ratio → Contents → Result Contents Trouble
-contents_with_ratio n sign order r (contents.Hlist b) = Ok (contents.Hlist (glued b sign order r))
-contents_with_ratio n sign order r (contents.Vlist b) = Ok (contents.Vlist (glued b sign order r))
+contents_with_ratio n sign order r (contents.Hlist b) = Ok (contents.Hlist (with_glue_set b sign order r))
+contents_with_ratio n sign order r (contents.Vlist b) = Ok (contents.Vlist (with_glue_set b sign order r))
 contents_with_ratio n sign order r _ = Err (WrongKind n)
 
 abbrev pub with_ratio : ℕ → ℕ → ℕ → Ratio → Fields → Result Fields Trouble
@@ -95,14 +95,10 @@ with_ratio n sign order r fields = result_map (λ c. record fields { contents = 
 
 abbrev pub set_ratio_step : ℕ → ℕ → ℕ → Ratio → Heap → Result (Unit {0} × Heap) Trouble
 set_ratio_step n sign order r heap =
-    at heap n (λ node. result_map (λ fields. (tt, rewrite heap n node fields)) (with_ratio n sign order r node.fields))
+    at heap n (λ node. result_map (λ fields. (tt, with_fields heap n node fields)) (with_ratio n sign order r node.fields))
 
 abbrev pub attr_answer : ℕ → ℤ → Heap → Result (Option ℤ) Trouble
 attr_answer n id heap = at heap n (λ node. Ok (map.get node.attributes id))
-
--- whether an id and a value are in their ranges
-abbrev pub is_attribute : ℤ → ℤ → Bool
-is_attribute id v = (int_le (pos 0) id && int_le id (pos 65535)) && (int_le (neg_ℤ (pos 2147483646)) v && int_le v (pos 2147483647))
 
 -- the attributes with this one
 abbrev pub with_attribute : Attributes → ℤ → ℤ → Result Attributes Trouble
@@ -112,17 +108,17 @@ with_attribute attributes id v =
     else Ok (map.insert attributes id v)
 
 -- the heap with these attributes at a node
-abbrev pub dress : Heap → ℕ → Node → Attributes → Heap
-dress heap n node attributes = put heap n (record node { attributes = attributes })
+abbrev pub with_attributes : Heap → ℕ → Node → Attributes → Heap
+with_attributes heap n node attributes = put heap n (record node { attributes = attributes })
 
 abbrev pub set_attr_step : ℕ → ℤ → ℤ → Heap → Result (Unit {0} × Heap) Trouble
-set_attr_step n id v heap = at heap n (λ node. result_map (λ a. (tt, dress heap n node a)) (with_attribute node.attributes id v))
+set_attr_step n id v heap = at heap n (λ node. result_map (λ a. (tt, with_attributes heap n node a)) (with_attribute node.attributes id v))
 
 abbrev pub unset_attr_step : ℕ → ℤ → Heap → Result (Unit {0} × Heap) Trouble
-unset_attr_step n id heap = at heap n (λ node. Ok (tt, dress heap n node (map.remove node.attributes id)))
+unset_attr_step n id heap = at heap n (λ node. Ok (tt, with_attributes heap n node (map.remove node.attributes id)))
 
 abbrev pub same_attrs_step : ℕ → ℕ → Heap → Result (Unit {0} × Heap) Trouble
-same_attrs_step n from heap = at heap n (λ node. at heap from (λ other. Ok (tt, dress heap n node other.attributes)))
+same_attrs_step n from heap = at heap n (λ node. at heap from (λ other. Ok (tt, with_attributes heap n node other.attributes)))
 
 abbrev pub set_current_step : ℤ → ℤ → Heap → Result (Unit {0} × Heap) Trouble
 set_current_step id v heap = result_map (λ a. (tt, record heap { current = a })) (with_attribute heap.current id v)
@@ -131,8 +127,8 @@ abbrev pub unset_current_step : ℤ → Heap → Result (Unit {0} × Heap) Troub
 unset_current_step id heap = Ok (tt, record heap { current = map.remove heap.current id })
 
 abbrev pub wear_current_step : ℕ → Heap → Result (Unit {0} × Heap) Trouble
-wear_current_step n heap = at heap n (λ node. Ok (tt, dress heap n node heap.current))
+wear_current_step n heap = at heap n (λ node. Ok (tt, with_attributes heap n node heap.current))
 
--- whether this is the first visit since the walk began
-abbrev pub visit_answer : ℕ → Names → Heap → Result Bool Trouble
-visit_answer n visited heap = at heap n (λ _. Ok (not (set.contains visited n)))
+-- A visit: whether it is the first since the walk began, and the names visited then.
+abbrev pub visit_step : ℕ → Heap → Names → Result (Bool × Names) Trouble
+visit_step n heap visited = at heap n (λ _. Ok (not (set.contains visited n), set.insert visited n))

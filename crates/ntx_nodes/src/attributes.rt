@@ -4,8 +4,8 @@ ghost use Rattle.std.specs.Prelude.{◌≡◌, ◌&&◌, not, nat_le, IfOk};
 ghost use Rattle.std.specs.FinMap as map;
 ghost use Rattle.ntx_num.specs.Answer.{Steps};
 ghost use Rattle.ntx_nodes.specs.Answers.{result_map};
-ghost use Rattle.ntx_nodes.specs.Heap.{max_attributes};
-ghost use Rattle.ntx_nodes.specs.Steps.{with_attribute, is_attribute};
+ghost use Rattle.ntx_nodes.specs.Heap.{max_attributes, is_attribute};
+ghost use Rattle.ntx_nodes.specs.Steps.{with_attribute};
 
 use crate::Trouble;
 use ntx_num::{Fail, NoMemory, in_range};
@@ -16,11 +16,20 @@ use std::marker::Model;
 /// The most attributes that one node may have.
 const MAX_ATTRIBUTES: usize = 64;
 
+/// The last id of an attribute.
+const LAST_ATTRIBUTE_ID: i64 = 65535;
+
+/// The least value of an attribute.
+const LEAST_ATTRIBUTE_VALUE: i64 = -2147483646;
+
+/// The greatest value of an attribute.
+const GREATEST_ATTRIBUTE_VALUE: i64 = 2147483647;
+
 /// Whether an attribute may have this id and this value.
 pub fn is_attribute(id: i64, v: i64) -> bool
     ensures { result ≡ is_attribute id v }
 {
-    in_range(id, 0, 65535) && in_range(v, -2147483646, 2147483647)
+    in_range(id, 0, LAST_ATTRIBUTE_ID) && in_range(v, LEAST_ATTRIBUTE_VALUE, GREATEST_ATTRIBUTE_VALUE)
 }
 
 /// From attributes' ids to their values. It is seen as a finite map.

@@ -35,7 +35,7 @@ pub enum Contents {
 }
 
 impl Contents {
-    /// The fields of a new node: zeros and nothings.
+    /// The fields of a new node: zeros and nothings, and a box's ratio 0 over 1.
     pub fn fresh(kind: Kind) -> Contents
         ensures { result ≡ fresh kind }
     {

@@ -31,3 +31,14 @@ pub enum ListKind {
     /// A part of a discretionary, which holds boxes, rules, kerns and glyphs.
     Part,
 }
+
+/// How a walk goes through lists.
+#[derive(Clone, Copy, Debug, PartialEq, Eq)]
+pub enum Way {
+    /// Through the inner lists too, and each list may hold only nodes of kinds that it allows.
+    Checked,
+    /// Through the inner lists too.
+    Plain,
+    /// Along one list alone.
+    Flat,
+}

@@ -3,7 +3,7 @@
 ghost use Rattle.std.specs.Prelude.{◌≡◌, ◌≤◌, IfOk, None};
 ghost use Rattle.std.specs.FinMap as map;
 ghost use Rattle.ntx_nodes.specs.Fields.{fresh};
-ghost use Rattle.ntx_nodes.specs.Steps.{made, copied};
+ghost use Rattle.ntx_nodes.specs.Steps.{new_node, copy_of};
 
 use crate::{Attributes, Contents, Fields, Kind};
 use ntx_num::NoMemory;
@@ -19,9 +19,9 @@ pub struct Node {
 }
 
 impl Node {
-    /// A node of zeros and nothings, with no attributes.
+    /// A node of zeros and nothings, of a box with a ratio of 0 over 1, with no attributes.
     pub fn new(alloc: Global, kind: Kind, subtype: u8) -> Node
-        ensures { result ≡ made kind subtype }
+        ensures { result ≡ new_node kind subtype }
     {
         Node {
             fields: Fields {
@@ -35,7 +35,7 @@ impl Node {
 
     /// A node of the same kind, subtype, numbers and attributes, with no links.
     pub fn copy(&self) -> Result<Node, NoMemory>
-        ensures { IfOk result (λ node. node ≡ copied self.now) }
+        ensures { IfOk result (λ node. node ≡ copy_of self.now) }
     {
         let fields = self.fields;
         Ok(Node {

@@ -1,6 +1,6 @@
 //! The heap of nodes as a trait.
 
-ghost use Rattle.std.specs.Prelude.{◌≡◌, ◌≢◌, ℕ, ◌≤◌, ◌<◌, ◌-◌, Bool, false, OnOk, OnErr, Some, Err};
+ghost use Rattle.std.specs.Prelude.{◌≡◌, ◌≢◌, ℕ, ◌≤◌, ◌<◌, ◌+◌, ◌-◌, Bool, false, OnOk, OnErr, Some, Err};
 ghost use Rattle.std.specs.FinMap as map;
 ghost use Rattle.std.specs.FinSet as set;
 ghost use Rattle.ntx_num.specs.Answer.{Steps, StepsAtOnce};
@@ -8,7 +8,7 @@ ghost use Rattle.ntx_nodes.specs.declared.kind.Kind.{Kind};
 ghost use Rattle.ntx_nodes.specs.declared.node.Node.{Node};
 ghost use Rattle.ntx_nodes.specs.Fields.{kind_of, last_subtype};
 ghost use Rattle.ntx_nodes.specs.Heap.{Heap, Names, IsLawful, AreLive, max_nodes};
-ghost use Rattle.ntx_nodes.specs.Steps.{make_step, copy_one_step, free_one_step, kind_answer, get_answer, set_step, set_ratio_step, attr_answer, set_attr_step, unset_attr_step, same_attrs_step, set_current_step, unset_current_step, wear_current_step, visit_answer};
+ghost use Rattle.ntx_nodes.specs.Steps.{make_step, copy_one_step, free_one_step, kind_answer, get_answer, set_step, set_ratio_step, attr_answer, set_attr_step, unset_attr_step, same_attrs_step, set_current_step, unset_current_step, wear_current_step, visit_step};
 
 use crate::{Field, FieldValue, Kind, Ratio, Trouble};
 use ntx_num::Fail;
@@ -29,14 +29,15 @@ pub trait Nodes: Drop {
     /// Whether a copy has attributes of its own, for which it takes memory.
     ghost copies: { Bool };
 
-    /// Makes a node of zeros and nothings, with no attributes, under the next name.
+    /// Makes a node of zeros and nothings, of a box with a ratio of 0 over 1, with no attributes, under the next name.
     ///
     /// Refuses with NodesFull where 2^18 nodes are live, and else with NamesOut where the next name is 2^48.
     fn make(&mut self, kind: Kind, subtype: u8) -> Result<u64, Fail<Trouble>>
         requires { subtype ≤ last_subtype kind }
         ensures step { Steps result (heap self.old) (heap self.new) (make_step kind subtype (heap self.old)) }
         ensures visits { visited self.new ≡ visited self.old }
-        ensures memory { copies ≡ false → 0 < spare_of self.old kind → result ≢ Err Fail.NoMemory };
+        ensures memory { 0 < spare_of self.old kind → result ≢ Err Fail.NoMemory }
+        ensures spare { OnOk result ((each : Kind) → spare_of self.old each ≤ spare_of self.new each + 1) };
 
     /// Makes a node of the same kind, subtype, numbers and attributes, with no links, under the next name.
     ///
@@ -44,7 +45,8 @@ pub trait Nodes: Drop {
     fn copy_one(&mut self, n: u64) -> Result<u64, Fail<Trouble>>
         ensures step { Steps result (heap self.old) (heap self.new) (copy_one_step n (heap self.old)) }
         ensures visits { visited self.new ≡ visited self.old }
-        ensures memory { copies ≡ false → (node : Node) → map.get (heap self.old).nodes n ≡ Some node → 0 < spare_of self.old (kind_of node.fields.contents) → result ≢ Err Fail.NoMemory };
+        ensures memory { copies ≡ false → (node : Node) → map.get (heap self.old).nodes n ≡ Some node → 0 < spare_of self.old (kind_of node.fields.contents) → result ≢ Err Fail.NoMemory }
+        ensures spare { OnOk result ((each : Kind) → spare_of self.old each ≤ spare_of self.new each + 1) };
 
     /// Takes a node out of the heap. Refuses with Stale of a dead `n`.
     fn free_one(&mut self, n: u64) -> Result<(), Trouble>
@@ -123,16 +125,15 @@ pub trait Nodes: Drop {
 
     /// Visits a node: true at its first visit since the walk began. Refuses with Stale of a dead `n`.
     fn visit(&mut self, n: u64) -> Result<bool, Trouble>
-        ensures answer { result ≡ visit_answer n (visited self.old) (heap self.old) }
-        ensures same { heap self.new ≡ heap self.old }
-        ensures visits { OnOk result (visited self.new ≡ set.insert (visited self.old) n) }
-        ensures refused { OnErr result (visited self.new ≡ visited self.old) };
+        ensures step { StepsAtOnce result (visited self.old) (visited self.new) (visit_step n (heap self.old) (visited self.old)) }
+        ensures same { heap self.new ≡ heap self.old };
 
     /// How many nodes are live.
     fn live(&self) -> u64
         ensures { result ≡ map.len (heap self.now).nodes };
 
-    /// How many nodes of a kind can be made without memory, no more than may be live beside those that are.
+    /// How many nodes of a kind are sure to be made without memory, one after another; no more than may be live beside those
+    /// that are.
     fn spare(&self, kind: Kind) -> u64
         ensures spare { result ≡ spare_of self.now kind }
         ensures few { result ≤ max_nodes - map.len (heap self.now).nodes };

@@ -7,7 +7,7 @@ pub enum Trouble {
     Stale(u64),
     /// This node is of a kind that may not stand there.
     WrongKind(u64),
-    /// A walk reached this node a second time.
+    /// A walk reached this node a second time, or the node that was to be inserted is in the list already.
     Loop(u64),
     /// The list does not reach this node.
     NotInList(u64),
@@ -15,23 +15,23 @@ pub enum Trouble {
     NoField,
     /// The value is outside the field's range, or not of the field's sort.
     BadValue,
-    /// As many nodes are live as may be.
+    /// 2^18 nodes are live, as many as may be.
     NodesFull,
-    /// No name is left.
+    /// No name below 2^48 is left.
     NamesOut,
-    /// A node would have more attributes than it may.
+    /// There would be a 65th attribute.
     AttrFull,
-    /// A size is larger than TeX's largest dimension.
+    /// A size, or a position on the page, is beyond TeX's largest dimension, 2^30 - 1.
     Dimension,
-    /// Too many ligature steps without a move.
+    /// The 256th ligature step without a move.
     LigLoop,
     /// This glyph names a font or a character that is not there.
     NoChar(u64),
-    /// The paragraph's lines hold no box.
+    /// The paragraph's lines have no hlist at their top level.
     NoBox,
-    /// Too many jobs run inside one another.
+    /// A ninth job would run inside the others.
     Deep,
-    /// Lists lie too deep inside one another.
+    /// A list lies at depth 101 inside others.
     Nest,
 }
 

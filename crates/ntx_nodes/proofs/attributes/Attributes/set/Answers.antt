@@ -2,8 +2,7 @@ use Rattle.std.proofs.Common.{◌≡◌, true, false, not, ◌&&◌, arith}
 use Rattle.std.proofs.lemmas.Int.{to_z-of_z}
 use Rattle.std.specs.Prelude.{nat_le}
 use Rattle.std.specs.FinMap as map
-use Rattle.ntx_nodes.specs.Heap.{max_attributes}
-use Rattle.ntx_nodes.specs.Steps.{is_attribute}
+use Rattle.ntx_nodes.specs.Heap.{max_attributes, is_attribute}
 use Rattle.ntx_nodes.proofs.AttributeSteps.{set-entries}
 use Rattle.ntx_nodes.proofs.attributes.Attributes.set.Goals as goal
 
