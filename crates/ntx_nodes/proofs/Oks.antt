@@ -64,7 +64,7 @@ in_bounds low high x a b = (grind (arith, ints), grind (arith, ints))
 pub number_within_Ok : (most : ℕ) (v : FieldValue) (x : ℤ) → number_within most v ≡ Ok x → IsWithin most x
 number_within_Ok most (Number y) x e =
     let t = taken (int_le (neg_ℤ (pos most)) y && int_le y (pos most)) _ _ x e in
-    let b = both_true _ _ t.0 in
+    let b = both_true (int_le (neg_ℤ (pos most)) y) (int_le y (pos most)) t.0 in
     let same : y ≡ x = cc in
     subst (λ z. IsWithin most z) same (in_bounds _ _ y b.0 b.1)
 number_within_Ok most (Link to) x e = cc
