@@ -11,7 +11,7 @@ use Rattle.ntx_nodes.specs.Fields.{dimension, order, number_within, number_to, l
 use Rattle.ntx_nodes.specs.Heap.{Attributes, Heap, IsWithin, IsDimension, IsInRange, IsLawfulNode, IsLawful, AreLawful, is_attribute, max_nodes, max_attributes}
 use Rattle.ntx_nodes.proofs.Ranges.{IsGiven, IsLawfulBox, IsLawfulContents, IsLawfulFields, fields_numbers, fields_links, lawful_fields}
 use Rattle.ntx_nodes.specs.Heap.{name_limit}
-use Rattle.ntx_nodes.specs.Steps.{put, making, with_attribute, empty_heap}
+use Rattle.ntx_nodes.specs.Steps.{put, next_name, making, with_attribute, empty_heap}
 use Rattle.ntx_nodes.specs.declared.kind.Kind.{Kind}
 use Rattle.ntx_nodes.specs.declared.kind.Kind.TheVariants as kind
 use Rattle.ntx_nodes.specs.declared.field.Field.{Field}
@@ -255,12 +255,14 @@ put-lawful heap n old node l live new = record {
 
 pub making-lawful : (heap : Heap) (node : Node) (r : ℕ × Heap) → IsLawful heap → IsLawfulNode heap.next node → making node heap ≡ Ok r → IsLawful r.1
 making-lawful heap node r l new e =
-    let few = not_taken (nat_le max_nodes (map.len heap.nodes)) _ _ r e in
-    let left = not_taken (nat_le name_limit heap.next) _ _ r few.1 in
+    let made : ℕ → Heap = λ n. record { next = n + 1; nodes = map.insert heap.nodes n node; current = heap.current } in
+    let m = mapped_Ok (λ n. (n, made n)) (next_name heap) r e in
+    let few = not_taken (nat_le max_nodes (map.len heap.nodes)) _ _ m.value m.is in
+    let left = not_taken (nat_le name_limit heap.next) _ _ m.value few.1 in
     let room : map.len heap.nodes < max_nodes = leb-false max_nodes (map.len heap.nodes) few.0 in
     let names : heap.next < name_limit = leb-false name_limit heap.next left.0 in
-    let made : Heap = record { next = heap.next + 1; nodes = map.insert heap.nodes heap.next node; current = heap.current } in
-    let is : made ≡ r.1 = cc in
+    let named : heap.next ≡ m.value = cc in
+    let is : made heap.next ≡ r.1 = ap made named ∙ ap (λ p. p.1) m.gives in
     subst IsLawful is (record {
       next = omega arith;
       few = rw (map.len-insert nat_cmp_total heap.nodes heap.next node) (one_more_le (map.contains_key heap.nodes heap.next) (map.len heap.nodes) room);

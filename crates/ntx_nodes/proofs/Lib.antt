@@ -3,3 +3,5 @@ pub mod AttributeSteps
 pub mod Oks
 pub mod Ranges
 pub mod Lawful
+pub mod Tables
+pub mod StepLaws

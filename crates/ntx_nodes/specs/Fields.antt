@@ -172,6 +172,17 @@ kind_of (contents.Kern size) = kind.Kern
 kind_of (contents.Penalty cost) = kind.Penalty
 kind_of (contents.Glyph g) = kind.Glyph
 
+-- the number of a kind
+abbrev pub number_of : Kind → ℕ
+number_of kind.Hlist = 1
+number_of kind.Vlist = 2
+number_of kind.Rule = 3
+number_of kind.Disc = 4
+number_of kind.Glue = 5
+number_of kind.Kern = 6
+number_of kind.Penalty = 7
+number_of kind.Glyph = 8
+
 -- the last subtype of a kind, from 0
 abbrev pub last_subtype : Kind → ℕ
 last_subtype kind.Disc = 3

@@ -4,3 +4,4 @@ pub mod Heap
 pub mod Steps
 pub mod Walk
 pub mod Plain
+pub mod Table

@@ -35,12 +35,16 @@ at heap n f = of_found n f (map.get heap.nodes n)
 abbrev pub put : Heap → ℕ → Node → Heap
 put heap n node = record heap { nodes = map.insert heap.nodes n node }
 
--- A made node takes the next name. No name is given twice, since the next name never falls.
-abbrev pub making : Node → Heap → Result (ℕ × Heap) Trouble
-making node heap =
+-- The name that a making takes, or why there is none.
+abbrev pub next_name : Heap → Result ℕ Trouble
+next_name heap =
     if nat_le max_nodes (map.len heap.nodes) then Err NodesFull
     else if nat_le name_limit heap.next then Err NamesOut
-    else Ok (heap.next, record { next = heap.next + 1; nodes = map.insert heap.nodes heap.next node; current = heap.current })
+    else Ok heap.next
+
+-- A made node takes the next name. No name is given twice, since the next name never falls.
+abbrev pub making : Node → Heap → Result (ℕ × Heap) Trouble
+making node heap = result_map (λ n. (n, record { next = n + 1; nodes = map.insert heap.nodes n node; current = heap.current })) (next_name heap)
 
 -- a new node
 abbrev pub new_node : Kind → ℕ → Node
@@ -73,12 +77,15 @@ linkable heap (Link None) = Ok tt
 linkable heap (Link (Some m)) = at heap m (λ _. Ok tt)
 
 -- the heap with these fields at a node
-abbrev pub with_fields : Heap → ℕ → Node → Fields → Heap
-with_fields heap n node fields = put heap n (record node { fields = fields })
+abbrev pub put_fields : Heap → ℕ → Node → Fields → Heap
+put_fields heap n node fields = put heap n (record node { fields = fields })
+
+-- the fields with the value in one of them, where it takes the value and what that links to is live
+abbrev pub changed : Heap → Fields → Field → FieldValue → Result Fields Trouble
+changed heap fields f v = result_and_then (with_field fields f v) (λ written. result_map (λ _. written) (linkable heap v))
 
 abbrev pub set_step : ℕ → Field → FieldValue → Heap → Result (Unit {0} × Heap) Trouble
-set_step n f v heap =
-    at heap n (λ node. result_and_then (with_field node.fields f v) (λ fields. result_map (λ _. (tt, with_fields heap n node fields)) (linkable heap v)))
+set_step n f v heap = at heap n (λ node. result_map (λ fields. (tt, put_fields heap n node fields)) (changed heap node.fields f v))
 
 -- a box with its glue set
 abbrev pub with_glue_set : BoxFields → ℕ → ℕ → Ratio → BoxFields
@@ -95,7 +102,7 @@ with_ratio n sign order r fields = result_map (λ c. record fields { contents = 
 
 abbrev pub set_ratio_step : ℕ → ℕ → ℕ → Ratio → Heap → Result (Unit {0} × Heap) Trouble
 set_ratio_step n sign order r heap =
-    at heap n (λ node. result_map (λ fields. (tt, with_fields heap n node fields)) (with_ratio n sign order r node.fields))
+    at heap n (λ node. result_map (λ fields. (tt, put_fields heap n node fields)) (with_ratio n sign order r node.fields))
 
 abbrev pub attr_answer : ℕ → ℤ → Heap → Result (Option ℤ) Trouble
 attr_answer n id heap = at heap n (λ node. Ok (map.get node.attributes id))
@@ -108,17 +115,17 @@ with_attribute attributes id v =
     else Ok (map.insert attributes id v)
 
 -- the heap with these attributes at a node
-abbrev pub with_attributes : Heap → ℕ → Node → Attributes → Heap
-with_attributes heap n node attributes = put heap n (record node { attributes = attributes })
+abbrev pub put_attributes : Heap → ℕ → Node → Attributes → Heap
+put_attributes heap n node attributes = put heap n (record node { attributes = attributes })
 
 abbrev pub set_attr_step : ℕ → ℤ → ℤ → Heap → Result (Unit {0} × Heap) Trouble
-set_attr_step n id v heap = at heap n (λ node. result_map (λ a. (tt, with_attributes heap n node a)) (with_attribute node.attributes id v))
+set_attr_step n id v heap = at heap n (λ node. result_map (λ a. (tt, put_attributes heap n node a)) (with_attribute node.attributes id v))
 
 abbrev pub unset_attr_step : ℕ → ℤ → Heap → Result (Unit {0} × Heap) Trouble
-unset_attr_step n id heap = at heap n (λ node. Ok (tt, with_attributes heap n node (map.remove node.attributes id)))
+unset_attr_step n id heap = at heap n (λ node. Ok (tt, put_attributes heap n node (map.remove node.attributes id)))
 
 abbrev pub same_attrs_step : ℕ → ℕ → Heap → Result (Unit {0} × Heap) Trouble
-same_attrs_step n from heap = at heap n (λ node. at heap from (λ other. Ok (tt, with_attributes heap n node other.attributes)))
+same_attrs_step n from heap = at heap n (λ node. at heap from (λ other. Ok (tt, put_attributes heap n node other.attributes)))
 
 abbrev pub set_current_step : ℤ → ℤ → Heap → Result (Unit {0} × Heap) Trouble
 set_current_step id v heap = result_map (λ a. (tt, record heap { current = a })) (with_attribute heap.current id v)
@@ -127,7 +134,7 @@ abbrev pub unset_current_step : ℤ → Heap → Result (Unit {0} × Heap) Troub
 unset_current_step id heap = Ok (tt, record heap { current = map.remove heap.current id })
 
 abbrev pub wear_current_step : ℕ → Heap → Result (Unit {0} × Heap) Trouble
-wear_current_step n heap = at heap n (λ node. Ok (tt, with_attributes heap n node heap.current))
+wear_current_step n heap = at heap n (λ node. Ok (tt, put_attributes heap n node heap.current))
 
 -- A visit: whether it is the first since the walk began, and the names visited then.
 abbrev pub visit_step : ℕ → Heap → Names → Result (Bool × Names) Trouble

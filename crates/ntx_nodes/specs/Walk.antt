@@ -1,4 +1,4 @@
--- Walks through the lists of a heap (LuaTeX Reference Manual, chapter "Nodes"; "TeX: The Program", sections 199 to 204).
+-- Walks through the lists of a heap (LuaTeX Reference Manual, chapter "Nodes"; "TeX: The Program", sections 199 to 206).
 --     allows k kind            whether a list may hold nodes of this kind
 --     inner_lists contents     the lists of a node, each with its kind, in the order in which a walk enters them
 --     checked_walk, plain_walk, flat_walk, tree_walk      the names that a walk reaches, in its order, or the first trouble

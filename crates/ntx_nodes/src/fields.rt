@@ -175,17 +175,10 @@ impl Fields {
         ensures { result ≡ with_field self f v }
     {
         match f {
-            Field::Subtype => {
-                let last = if self.contents.kind() == Kind::Disc {
-                    3
-                } else {
-                    255
-                };
-                Ok(Fields {
-                    subtype: number_to(last, v)?,
-                    ..self
-                })
-            }
+            Field::Subtype => Ok(Fields {
+                subtype: number_to(self.contents.kind().last_subtype(), v)?,
+                ..self
+            }),
             Field::Next => Ok(Fields {
                 next: link(v)?,
                 ..self

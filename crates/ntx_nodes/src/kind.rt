@@ -1,4 +1,9 @@
-//! Kinds of nodes, and kinds of lists.
+//! Kinds of nodes, kinds of lists, and ways of walking.
+
+ghost use Rattle.std.specs.Prelude.{◌≡◌, ◌≢◌, pos, IfSome, IfNone};
+ghost use Rattle.ntx_nodes.specs.declared.kind.Kind.{Kind};
+ghost use Rattle.ntx_nodes.specs.Fields.{number_of, last_subtype};
+ghost use Rattle.ntx_nodes.specs.Walk.{allows};
 
 /// The kind of a node, with the number by which scripts know it (LuaTeX Reference Manual, chapter "Nodes").
 #[derive(Clone, Copy, Debug, PartialEq, Eq)]
@@ -21,6 +26,43 @@ pub enum Kind {
     Glyph = 8,
 }
 
+impl Kind {
+    /// The number of the kind, from 1 to 8.
+    pub fn number(self) -> u8
+        ensures { result ≡ number_of self }
+    {
+        self as u8
+    }
+
+    /// The kind that has a number, where there is one.
+    pub fn from_number(number: i64) -> Option<Kind>
+        ensures found { IfSome result (λ kind. pos (number_of kind) ≡ number) }
+        ensures unknown { IfNone result ((kind : Kind) → pos (number_of kind) ≢ number) }
+    {
+        match number {
+            1 => Some(Kind::Hlist),
+            2 => Some(Kind::Vlist),
+            3 => Some(Kind::Rule),
+            4 => Some(Kind::Disc),
+            5 => Some(Kind::Glue),
+            6 => Some(Kind::Kern),
+            7 => Some(Kind::Penalty),
+            8 => Some(Kind::Glyph),
+            _ => None,
+        }
+    }
+
+    /// The greatest subtype of nodes of the kind: 3 of a discretionary, else 255.
+    pub fn last_subtype(self) -> u8
+        ensures { result ≡ last_subtype self }
+    {
+        match self {
+            Kind::Disc => 3,
+            _ => 255,
+        }
+    }
+}
+
 /// What a list may hold.
 #[derive(Clone, Copy, Debug, PartialEq, Eq)]
 pub enum ListKind {
@@ -30,6 +72,19 @@ pub enum ListKind {
     V,
     /// A part of a discretionary, which holds boxes, rules, kerns and glyphs.
     Part,
+}
+
+impl ListKind {
+    /// Whether such a list may hold nodes of a kind.
+    pub fn allows(self, kind: Kind) -> bool
+        ensures { result ≡ allows self kind }
+    {
+        match self {
+            ListKind::H => true,
+            ListKind::V => !matches!(kind, Kind::Disc | Kind::Glyph),
+            ListKind::Part => !matches!(kind, Kind::Disc | Kind::Glue | Kind::Penalty),
+        }
+    }
 }
 
 /// How a walk goes through lists.

@@ -16,6 +16,7 @@ mod node;
 mod nodes;
 mod plain;
 mod ratio;
+mod table;
 mod trouble;
 mod value;
 
@@ -26,5 +27,6 @@ pub use fields::{Contents, Fields};
 pub use kind::{Kind, ListKind, Way};
 pub use node::Node;
 pub use nodes::Nodes;
+pub use plain::PlainHeap;
 pub use ratio::Ratio;
 pub use trouble::{Phase, Trouble};
