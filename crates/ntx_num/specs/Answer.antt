@@ -2,11 +2,20 @@
 --     Gives, Answers      a call that changes nothing and gives the value of a stated function
 --     Steps, StepsAtOnce  a call that is one step of a stated machine
 --     Traces              a call that goes through several states and may stop among them
+--     result_map, result_and_then      as Rust's `map` and `and_then`: an answer with its value seen in another way; one answer after another
 -- Want of memory is the one answer that no definition predicts: each word says what stands after it.
 use Rattle.std.specs.Prelude.{◌≡◌, List, ◌∷◌, [], ◌++◌, Contains, Result, Ok, Err}
 use Rattle.ntx_num.specs.declared.answer.Fail.{Fail}
 use Rattle.ntx_num.specs.declared.answer.Fail.TheVariants.{NoMemory, Is}
 use Rattle.ntx_num.specs.declared.answer.NoMemory as memory
+
+abbrev pub result_map : {A B E : Type 0} → (A → B) → Result A E → Result B E
+result_map f (Ok a) = Ok (f a)
+result_map f (Err e) = Err e
+
+abbrev pub result_and_then : {A B E : Type 0} → Result A E → (A → Result B E) → Result B E
+result_and_then (Ok a) f = f a
+result_and_then (Err e) f = Err e
 
 -- The call gives this value, or memory ran out.
 abbrev pub Gives : {A : Type 0} → Result A memory.NoMemory → A → Type 0

@@ -1,1 +1,4 @@
 pub mod Answer
+pub mod Badness
+pub mod Demerits
+pub mod Ratio

@@ -1,13 +1,22 @@
 //! Numbers and answers that every crate of `ntx` speaks of: want of memory and refusals as values, sizes in scaled
-//! points, and tests of ranges.
+//! points, tests of ranges, and the arithmetic of glue and lines: badness, rounded ratios and demerits.
 //!
-//! It stands on `std` alone.
+//! It stands on `std` alone. The arithmetic is that of "TeX: The Program".
 #![tactic(auto)]
 
 mod answer;
 mod range;
+mod ratio;
+mod shortfall;
 mod size;
+mod squares;
 
 pub use answer::{Fail, NoMemory};
 pub use range::in_range;
+pub use ratio::{round_ratio, round_ratio_is_odd};
+pub use shortfall::{badness, badness_grows};
 pub use size::Size;
+pub use squares::demerits;
+
+#[cfg(test)]
+mod tests;

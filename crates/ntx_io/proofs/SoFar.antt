@@ -1,0 +1,71 @@
+-- Between two calls of a read to the end or of a whole write: what was given or taken so far.
+use Rattle.std.proofs.Common.{◌≡◌, ℕ, ◌+◌, ◌<◌, ◌≤◌, List, ◌++◌, length, take, drop, Option, Some, None, Ok, Err, subst, sym, ap, ◌∙◌, append_assoc, arith, length-append}
+use Rattle.std.proofs.Math.Seq.{take-append_seam, drop-append-add}
+use Rattle.std.proofs.lemmas.List.{take-append-drop}
+use Rattle.ntx_io.specs.Outside.{GivesNext, Reads, Takes}
+use Rattle.ntx_io.specs.Whole.{IsLeftAfter, ReadsWhole, TakesWhole}
+use Rattle.ntx_num.specs.declared.answer.Fail.TheVariants.{NoMemory, Is}
+use Rattle.ntx_io.specs.declared.whole.ReadWhy.TheVariants.{TooLarge}
+
+-- the first k bytes of the text were taken, the others are the rest
+abbrev pub TakenSoFar : Option (List ℕ) → Option (List ℕ) → List ℕ → Type 0
+TakenSoFar (Some taken) now front = now ≡ Some (taken ++ front)
+TakenSoFar None now front = now ≡ None
+
+pub record WrittenSoFar (old now : Option (List ℕ)) (text rest : List ℕ) : Type 0 where
+  pub front : List ℕ
+  pub parts : text ≡ front ++ rest
+  pub taken : TakenSoFar old now front
+
+-- the bytes given so far and those that are left are those that were left at first
+abbrev pub GivenSoFar : Option (List ℕ) → Option (List ℕ) → List ℕ → Type 0
+GivenSoFar (Some left) now bytes = (rest : List ℕ) × (left ≡ bytes ++ rest) × (now ≡ Some rest)
+GivenSoFar None now bytes = now ≡ None
+
+taken_more : (E : Type 0) (old now new : Option (List ℕ)) (front rest : List ℕ) (k : ℕ) → TakenSoFar old now front → Takes {E = E} now new rest (Ok k) → TakenSoFar old new (front ++ take k rest)
+taken_more E (Some taken) now new front rest k so_far takes =
+    let step : Takes {E = E} (Some (taken ++ front)) new rest (Ok k) = subst (λ n. Takes {E = E} n new rest (Ok k)) so_far takes in
+    step ∙ ap Some (append_assoc taken front (take k rest))
+taken_more E None now new front rest k so_far takes =
+    subst (λ n. Takes {E = E} n new rest (Ok k)) so_far takes
+
+-- A write of the rest that took k bytes of it goes on.
+pub WrittenSoFar-more : (E : Type 0) (old now new : Option (List ℕ)) (text rest : List ℕ) (k : ℕ) → WrittenSoFar old now text rest → Takes {E = E} now new rest (Ok k) → WrittenSoFar old new text (drop k rest)
+WrittenSoFar-more E old now new text rest k so_far takes = record {
+  front = so_far.front ++ take k rest;
+  parts = so_far.parts ∙ ap (λ r. so_far.front ++ r) (sym (take-append-drop k rest)) ∙ sym (append_assoc so_far.front (take k rest) (drop k rest));
+  taken = taken_more E old now new so_far.front rest k so_far.taken takes;
+}
+
+-- A write that fails stops with what was taken so far.
+pub stops_written : (A E F : Type 0) (old now new : Option (List ℕ)) (text rest : List ℕ) (e : E) (f : F) → WrittenSoFar old now text rest → Takes {E = F} now new rest (Err f) → TakesWhole {A = A} {E = E} old new text (Err e)
+stops_written A E F (Some taken) now new text rest e f so_far takes =
+    let step : Takes {E = F} (Some (taken ++ so_far.front)) new rest (Err f) = subst (λ n. Takes {E = F} n new rest (Err f)) so_far.taken takes in (
+      length so_far.front,
+      rw (so_far.parts, length-append) (omega arith),
+      step ∙ ap (λ t. Some (taken ++ t)) (sym (ap (take (length so_far.front)) so_far.parts ∙ take-append_seam so_far.front rest)),
+    )
+stops_written A E F None now new text rest e f so_far takes =
+    subst (λ n. Takes {E = F} n new rest (Err f)) so_far.taken takes
+
+-- A read after bytes were given leaves what lies behind those that it gave.
+left_after : (E : Type 0) (left rest : List ℕ) (new : Option (List ℕ)) (bytes buffer : List ℕ) (k : ℕ) → left ≡ bytes ++ rest → GivesNext rest new buffer k → IsLeftAfter (length bytes + k) left new
+left_after E left rest new bytes buffer k parts gives = (
+  rw (parts, length-append) (let enough = gives.enough in omega arith),
+  gives.rest ∙ ap Some (sym (ap (drop (length bytes + k)) parts ∙ drop-append-add bytes rest k)),
+)
+
+-- Reading stops past the limit, or where memory ran out, behind the bytes of its last read.
+pub stops_too_large : (E : Type 0) (old now new : Option (List ℕ)) (bytes buffer : List ℕ) (k limit : ℕ) → GivenSoFar old now bytes → Reads {E = E} now new buffer (Ok k) → limit < length bytes + k → ReadsWhole old new limit (Err (Is TooLarge))
+stops_too_large E (Some left) now new bytes buffer k limit so_far reads more =
+    let step : Reads {E = E} (Some so_far.0) new buffer (Ok k) = subst (λ n. Reads {E = E} n new buffer (Ok k)) so_far.2 reads in
+    (length bytes + k, more, left_after E left so_far.0 new bytes buffer k so_far.1 step)
+stops_too_large E None now new bytes buffer k limit so_far reads more =
+    subst (λ n. Reads {E = E} n new buffer (Ok k)) so_far reads
+
+pub stops_without_memory : (E : Type 0) (old now new : Option (List ℕ)) (bytes buffer : List ℕ) (k limit : ℕ) → GivenSoFar old now bytes → Reads {E = E} now new buffer (Ok k) → length bytes + k ≤ limit → ReadsWhole old new limit (Err NoMemory)
+stops_without_memory E (Some left) now new bytes buffer k limit so_far reads within =
+    let step : Reads {E = E} (Some so_far.0) new buffer (Ok k) = subst (λ n. Reads {E = E} n new buffer (Ok k)) so_far.2 reads in
+    (length bytes + k, within, left_after E left so_far.0 new bytes buffer k so_far.1 step)
+stops_without_memory E None now new bytes buffer k limit so_far reads within =
+    subst (λ n. Reads {E = E} n new buffer (Ok k)) so_far reads

@@ -1,0 +1,2 @@
+pub mod BadnessLemmas
+pub mod RatioLemmas
