@@ -6,7 +6,7 @@ use Rattle.std.specs.Ordering.{int_cmp}
 use Rattle.std.specs.Map.{lookup}
 use Rattle.std.specs.BTreeMap.{is_at}
 use Rattle.std.specs.FinMap as map
-use Rattle.ntx_nodes.specs.Answers.{result_map}
+use Rattle.ntx_num.specs.Answer.{result_map}
 use Rattle.ntx_nodes.specs.Heap.{Attributes, max_attributes, is_attribute}
 use Rattle.ntx_nodes.specs.Steps.{with_attribute}
 use Rattle.ntx_nodes.proofs.Maps.{from_entries-inserted}

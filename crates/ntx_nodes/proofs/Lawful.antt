@@ -6,7 +6,7 @@ use Rattle.std.proofs.lemmas.Bool.{leb-false}
 use Rattle.std.specs.Ordering.{nat_cmp, int_cmp, eq_by_cmp}
 use Rattle.std.specs.Cmp.{IsTotalOrder, Equal-is, nat_cmp_total, int_cmp_total}
 use Rattle.std.specs.FinMap as map
-use Rattle.ntx_nodes.specs.Answers.{result_map, result_and_then}
+use Rattle.ntx_num.specs.Answer.{result_map, result_and_then}
 use Rattle.ntx_nodes.specs.Fields.{dimension, order, number_within, number_to, link, box_with, rule_with, disc_with, glue_with, kern_with, penalty_with, glyph_with, contents_with, with_field, kind_of, last_subtype, fresh, unlinked}
 use Rattle.ntx_nodes.specs.Heap.{Attributes, Heap, IsWithin, IsDimension, IsInRange, IsLawfulNode, IsLawful, AreLawful, is_attribute, max_nodes, max_attributes}
 use Rattle.ntx_nodes.proofs.Ranges.{IsGiven, IsLawfulBox, IsLawfulContents, IsLawfulFields, fields_numbers, fields_links, lawful_fields}
@@ -226,9 +226,9 @@ with_attribute-lawful a b id v l e =
     subst AreLawful is (record {
       few = rw (map.len-insert int_cmp_total a id v) (few_after (map.contains_key a id) (map.len a) l.few room.0);
       entries = λ q x at. elim (inserted_Some int_cmp_total map.int_cmp-IsAntisymmetric a id v q x at) [
-          | inl here ↦ subst (λ i. is_attribute i x ≡ true) (sym here.0) (subst (λ y. is_attribute id y ≡ true) here.1 (not_false (is_attribute id v) ranged.0))
-          | inr there ↦ l.entries q x there
-        ];
+        | inl here ↦ subst (λ i. is_attribute i x ≡ true) (sym here.0) (subst (λ y. is_attribute id y ≡ true) here.1 (not_false (is_attribute id v) ranged.0))
+        | inr there ↦ l.entries q x there
+      ];
     })
 
 pub remove_attribute-lawful : (a : Attributes) (id : ℤ) → AreLawful a → AreLawful (map.remove a id)
@@ -243,13 +243,13 @@ put-lawful heap n old node l live new = record {
   next = l.next;
   few = rw (map.len-insert nat_cmp_total heap.nodes n node, live) l.few;
   names = λ q x at. elim (inserted_Some nat_cmp_total map.nat_cmp-IsAntisymmetric heap.nodes n node q x at) [
-      | inl here ↦ subst (λ i. i < heap.next) (sym here.0) (l.names n old live)
-      | inr there ↦ l.names q x there
-    ];
+    | inl here ↦ subst (λ i. i < heap.next) (sym here.0) (l.names n old live)
+    | inr there ↦ l.names q x there
+  ];
   nodes = λ q x at. elim (inserted_Some nat_cmp_total map.nat_cmp-IsAntisymmetric heap.nodes n node q x at) [
-      | inl here ↦ subst (IsLawfulNode heap.next) here.1 new
-      | inr there ↦ l.nodes q x there
-    ];
+    | inl here ↦ subst (IsLawfulNode heap.next) here.1 new
+    | inr there ↦ l.nodes q x there
+  ];
   current = l.current;
 }
 
@@ -267,13 +267,13 @@ making-lawful heap node r l new e =
       next = omega arith;
       few = rw (map.len-insert nat_cmp_total heap.nodes heap.next node) (one_more_le (map.contains_key heap.nodes heap.next) (map.len heap.nodes) room);
       names = λ q x at. elim (inserted_Some nat_cmp_total map.nat_cmp-IsAntisymmetric heap.nodes heap.next node q x at) [
-          | inl here ↦ (let same : q ≡ heap.next = here.0 in omega arith)
-          | inr there ↦ (let below : q < heap.next = l.names q x there in omega arith)
-        ];
+        | inl here ↦ (let same : q ≡ heap.next = here.0 in omega arith)
+        | inr there ↦ (let below : q < heap.next = l.names q x there in omega arith)
+      ];
       nodes = λ q x at. elim (inserted_Some nat_cmp_total map.nat_cmp-IsAntisymmetric heap.nodes heap.next node q x at) [
-          | inl here ↦ later_node heap.next (heap.next + 1) x (omega arith) (subst (IsLawfulNode heap.next) here.1 new)
-          | inr there ↦ later_node heap.next (heap.next + 1) x (omega arith) (l.nodes q x there)
-        ];
+        | inl here ↦ later_node heap.next (heap.next + 1) x (omega arith) (subst (IsLawfulNode heap.next) here.1 new)
+        | inr there ↦ later_node heap.next (heap.next + 1) x (omega arith) (l.nodes q x there)
+      ];
       current = l.current;
     })
 

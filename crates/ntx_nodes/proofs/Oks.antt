@@ -2,7 +2,7 @@
 use Rattle.std.proofs.Common.{◌≡◌, ℕ, ℤ, pos, negsuc, ◌≤◌, Bool, true, false, cond, ◌&&◌, Some, None, Ok, Err, refl, sym, ◌∙◌, ap, subst, arith}
 use Rattle.std.specs.Prelude.{Option, Result, neg_ℤ, ◌≤ℤ◌, int_le, nat_le}
 use Rattle.std.specs.FinMap as map
-use Rattle.ntx_nodes.specs.Answers.{result_map, result_and_then}
+use Rattle.ntx_num.specs.Answer.{result_map, result_and_then}
 use Rattle.ntx_nodes.specs.Heap.{Heap, IsWithin}
 use Rattle.ntx_nodes.specs.Fields.{number_within, number_to, link}
 use Rattle.ntx_nodes.specs.Steps.{of_found, at}

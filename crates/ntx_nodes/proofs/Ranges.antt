@@ -171,9 +171,13 @@ lawful_contents next (contents.Vlist b) numbers links = record {
 lawful_contents next (contents.Rule r) numbers links = (numbers field.Width r.width refl, numbers field.Height r.height refl, numbers field.Depth r.depth refl)
 lawful_contents next (contents.Disc d) numbers links =
     (given next (contents.Disc d) field.Pre d.pre links refl, given next (contents.Disc d) field.Post d.post links refl, given next (contents.Disc d) field.Replace d.replace links refl)
-lawful_contents next (contents.Glue g) numbers links =
-    (numbers field.Width g.width refl, numbers field.Stretch g.stretch refl, down_to g.stretch_order 3 (numbers field.StretchOrder (pos g.stretch_order) refl),
-     numbers field.Shrink g.shrink refl, down_to g.shrink_order 3 (numbers field.ShrinkOrder (pos g.shrink_order) refl))
+lawful_contents next (contents.Glue g) numbers links = (
+  numbers field.Width g.width refl,
+  numbers field.Stretch g.stretch refl,
+  down_to g.stretch_order 3 (numbers field.StretchOrder (pos g.stretch_order) refl),
+  numbers field.Shrink g.shrink refl,
+  down_to g.shrink_order 3 (numbers field.ShrinkOrder (pos g.shrink_order) refl),
+)
 lawful_contents next (contents.Kern size) numbers links = numbers field.Kern size refl
 lawful_contents next (contents.Penalty cost) numbers links = numbers field.Penalty cost refl
 lawful_contents next (contents.Glyph g) numbers links = (down_to g.char 255 (numbers field.Char (pos g.char) refl), down_to g.font 63 (numbers field.Font (pos g.font) refl))

@@ -1,12 +1,14 @@
 -- Each step of a lawful heap leaves a lawful heap.
-use Rattle.std.proofs.Common.{◌≡◌, ℕ, ℤ, pos, ◌-◌, ◌^◌, ◌<◌, ◌≤◌, Some, None, Ok, refl, sym, ap, subst, arith}
-use Rattle.std.specs.Prelude.{Option, Result, ◌≤ℤ◌}
+use Rattle.std.proofs.Common.{◌≡◌, ℕ, ℤ, pos, ◌-◌, ◌^◌, ◌<◌, ◌≤◌, Some, None, Ok, Err, refl, sym, ◌∙◌, ap, subst, arith}
+use Rattle.std.specs.Prelude.{Option, Result, IfSome, ◌≤ℤ◌}
 use Rattle.std.specs.FinMap as map
 use Rattle.std.proofs.lemmas.Int.{ints}
-use Rattle.ntx_nodes.specs.Answers.{result_map}
+use Rattle.ntx_num.specs.Answer.{result_map, Steps}
+use Rattle.ntx_num.specs.declared.answer.Fail.{Fail}
+use Rattle.ntx_num.specs.declared.answer.Fail.TheVariants.{NoMemory, Is}
 use Rattle.ntx_nodes.specs.Fields.{kind_of, last_subtype, fresh, unlinked, with_field}
 use Rattle.ntx_nodes.specs.Heap.{Attributes, Heap, IsWithin, IsDimension, IsLawfulNode, IsLawful, AreLawful}
-use Rattle.ntx_nodes.specs.Steps.{at, put, new_node, copy_of, making, make_step, copy_one_step, free_one_step, linkable, changed, put_fields, put_attributes, with_glue_set, contents_with_ratio, with_ratio, with_attribute}
+use Rattle.ntx_nodes.specs.Steps.{of_found, at, put, new_node, copy_of, making, make_step, copy_one_step, free_one_step, linkable, changed, put_fields, put_attributes, with_glue_set, contents_with_ratio, with_ratio, with_attribute}
 use Rattle.ntx_nodes.specs.Steps.{set_step, set_ratio_step, set_attr_step, unset_attr_step, same_attrs_step, set_current_step, unset_current_step, wear_current_step}
 use Rattle.ntx_nodes.specs.declared.kind.Kind.{Kind}
 use Rattle.ntx_nodes.specs.declared.kind.Kind.TheVariants as kind
@@ -168,7 +170,7 @@ set_ratio_step-lawful heap n sign order q r l s o e =
     let f = fields_of_lawful heap.next at.node (l.nodes n at.node at.is) in
     let d = ratio_lawful heap.next n sign order q at.node.fields.contents c.value f.contents s o c.is in
     subst IsLawful (ap (λ p. p.1) m.gives) (put_fields-lawful heap n at.node m.value l at.is
-      (subst (IsLawfulFields heap.next) c.gives (record { subtype = subst (λ k. at.node.fields.subtype ≤ last_subtype k) (sym d.1) f.subtype; link = f.link; contents = d.0 })))
+    (subst (IsLawfulFields heap.next) c.gives (record { subtype = subst (λ k. at.node.fields.subtype ≤ last_subtype k) (sym d.1) f.subtype; link = f.link; contents = d.0 })))
 
 pub set_attr_step-lawful : (heap : Heap) (n : ℕ) (id v : ℤ) (r : Unit {0} × Heap) → IsLawful heap → set_attr_step n id v heap ≡ Ok r → IsLawful r.1
 set_attr_step-lawful heap n id v r l e =
@@ -199,3 +201,37 @@ pub wear_current_step-lawful : (heap : Heap) (n : ℕ) (r : Unit {0} × Heap) �
 wear_current_step-lawful heap n r l e =
     let at = at_Ok {A = Unit {0} × Heap} heap n (λ node. Ok (tt, put_attributes heap n node heap.current)) r e in
     left _ _ r refl at.gives (put_attributes-lawful heap n at.node heap.current l at.is l.current)
+
+-- the same where attributes may have been set
+pub set_current-kept : (heap : Heap) (new : Attributes) (id v : ℤ) (r : Result (Unit {0}) (Fail Trouble)) → IsLawful heap
+    → Steps r heap.current new (result_map {B = Unit {0} × Attributes} (λ a. (tt, a)) (with_attribute heap.current id v)) → IsLawful (record heap { current = new })
+set_current-kept heap new id v (Ok u) l e =
+    let m = mapped_Ok {B = Unit {0} × Attributes} (λ a. (tt, a)) (with_attribute heap.current id v) (u, new) e in
+    let same : m.value ≡ new = ap (λ p. p.1) m.gives in
+    current-lawful heap new l (subst AreLawful same (with_attribute-lawful heap.current m.value id v l.current m.is))
+set_current-kept heap new id v (Err (Is e)) l h = current-lawful heap new l (subst AreLawful (sym h.1) l.current)
+set_current-kept heap new id v (Err NoMemory) l h = current-lawful heap new l (subst AreLawful (sym h) l.current)
+
+-- ---- the plain heap's `set`, from the fields that it finds and writes
+found_fields : (n : ℕ) (o : Option Node) (fields : Fields) → of_found n (λ (node : Node). Ok node.fields) o ≡ Ok fields → (node : Node) × (o ≡ Some node) × (node.fields ≡ fields)
+found_fields n None fields e = cc
+found_fields n (Some node) fields e = (node, refl, same_Ok node.fields fields e)
+
+pub set_refused : (heap : Heap) (n : ℕ) (f : Field) (v : FieldValue) (fields : Fields) (why : Trouble) → of_found n (λ (node : Node). Ok node.fields) (map.get heap.nodes n) ≡ Ok fields
+    → changed heap fields f v ≡ Err why → set_step n f v heap ≡ Err why
+set_refused heap n f v fields why at e =
+    let found = found_fields n (map.get heap.nodes n) fields at in
+    ap (of_found n (λ node. result_map {B = Unit {0} × Heap} (λ written. (tt, put_fields heap n node written)) (changed heap node.fields f v))) found.1
+    ∙ ap (λ g. result_map {B = Unit {0} × Heap} (λ written. (tt, put_fields heap n found.0 written)) (changed heap g f v)) found.2
+    ∙ ap (result_map {B = Unit {0} × Heap} (λ written. (tt, put_fields heap n found.0 written))) e
+
+pub set_done : (heap new : Heap) (n : ℕ) (f : Field) (v : FieldValue) (fields written : Fields) → of_found n (λ (node : Node). Ok node.fields) (map.get heap.nodes n) ≡ Ok fields
+    → changed heap fields f v ≡ Ok written → IfSome (map.get heap.nodes n) (λ node. new.nodes ≡ map.insert heap.nodes n (record node { fields = written })) → new.next ≡ heap.next → new.current ≡ heap.current
+    → set_step n f v heap ≡ Ok (tt, new)
+set_done heap new n f v fields written at e puts next current =
+    let found = found_fields n (map.get heap.nodes n) fields at in
+    let put : new.nodes ≡ map.insert heap.nodes n (record { fields = written; attributes = found.0.attributes }) = subst (λ o. IfSome o (λ node. new.nodes ≡ map.insert heap.nodes n (record { fields = written; attributes = node.attributes }))) found.1 puts in
+    ap (of_found n (λ node. result_map {B = Unit {0} × Heap} (λ w. (tt, put_fields heap n node w)) (changed heap node.fields f v))) found.1
+    ∙ ap (λ g. result_map {B = Unit {0} × Heap} (λ w. (tt, put_fields heap n found.0 w)) (changed heap g f v)) found.2
+    ∙ ap (result_map {B = Unit {0} × Heap} (λ w. (tt, put_fields heap n found.0 w))) e
+    ∙ (let next' = sym next in let put' = sym put in let current' = sym current in λ i. Ok (tt, record { next = next' i; nodes = put' i; current = current' i }))

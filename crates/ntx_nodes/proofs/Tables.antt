@@ -1,6 +1,6 @@
 -- What slots hold, and what becomes of it as slots change.
 use Rattle.std.proofs.Common.{◌≡◌, ℕ, List, [], ◌∷◌, Bool, true, false, cond, length, Some, None, refl, sym, ◌∙◌, ap, subst}
-use Rattle.std.specs.Prelude.{Option, Result, Ok, Err, map as list_map, not, ◌&&◌, ◌||◌, IfSome, IfNone}
+use Rattle.std.specs.Prelude.{Option, is_some, Result, Ok, Err, map as list_map, not, ◌&&◌, ◌||◌, IfSome, IfNone}
 use Rattle.std.specs.Option.{option_map}
 use Rattle.std.specs.Ordering.{nat_cmp, eq_by_cmp}
 use Rattle.std.specs.Cmp.{nat_cmp_total, eq_by_cmp_equiv, Equal-is}
@@ -115,9 +115,9 @@ pub visited_of-kept : (old new : Slots) (n : ℕ) (slot : Slot) → Puts old new
 visited_of-kept old new n slot h v = visited_of-same old new (λ q.
     ap is_visited (h q) ∙ visited_cond (is_at (nat_cmp n) q) (Some slot) (slot_at old q)
     ∙ elim (is_at (nat_cmp n) q) as (λ b. is_at (nat_cmp n) q ≡ b → cond b slot.visited (is_visited (slot_at old q)) ≡ is_visited (slot_at old q)) [
-        | true ↦ λ t. v ∙ ap (λ k. is_visited (slot_at old k)) (map.nat_cmp-IsAntisymmetric n q ((Equal-is (nat_cmp n q)).0 t))
-        | false ↦ λ t. refl
-      ] refl)
+      | true ↦ λ t. v ∙ ap (λ k. is_visited (slot_at old k)) (map.nat_cmp-IsAntisymmetric n q ((Equal-is (nat_cmp n q)).0 t))
+      | false ↦ λ t. refl
+    ] refl)
 
 -- ---- the calls of a table
 pub node_found : (slots : Slots) (m : map.FinMap nat_cmp Node) (n : ℕ) (o : Option Slot) → nodes_of slots ≡ m → slot_at slots n ≡ o → option_map (λ slot. slot.node) o ≡ map.get m n
@@ -126,13 +126,19 @@ node_found slots m n o is at = sym (ap (λ k. map.get k n) (sym is) ∙ get-node
 -- a node is another, where there is one, and visited as before
 pub node_changed : (old new : Slots) (m : map.FinMap nat_cmp Node) (v : Names) (n : ℕ) (g : Node → Node) → nodes_of old ≡ m → visited_of old ≡ v
     → IfSome (slot_at old n) (λ slot. Puts old new n (Some (record { node = g slot.node; visited = slot.visited }))) → IfNone (slot_at old n) (new ≡ old)
-    → IfSome (map.get m n) (λ node. nodes_of new ≡ map.insert m n (g node)) × (visited_of new ≡ v)
+    → IfSome (map.get m n) (λ node. nodes_of new ≡ map.insert m n (g node)) × IfNone (map.get m n) (nodes_of new ≡ m) × (visited_of new ≡ v)
 node_changed old new m v n g is marks live dead =
-    elim (slot_at old n) as (λ o. slot_at old n ≡ o → IfSome o (λ slot. Puts old new n (Some (record { node = g slot.node; visited = slot.visited }))) → IfNone o (new ≡ old) → IfSome (map.get m n) (λ node. nodes_of new ≡ map.insert m n (g node)) × (visited_of new ≡ v)) [
-      | None ↦ λ at live dead. (subst (λ o. IfSome o (λ node. nodes_of new ≡ map.insert m n (g node))) (node_found old m n None is at) tt, ap visited_of dead ∙ marks)
+    elim (slot_at old n) as (λ o. slot_at old n ≡ o → IfSome o (λ slot. Puts old new n (Some (record { node = g slot.node; visited = slot.visited }))) → IfNone o (new ≡ old) → IfSome (map.get m n) (λ node. nodes_of new ≡ map.insert m n (g node)) × IfNone (map.get m n) (nodes_of new ≡ m) × (visited_of new ≡ v)) [
+      | None ↦ λ at live dead. (
+        subst (λ o. IfSome o (λ node. nodes_of new ≡ map.insert m n (g node))) (node_found old m n None is at) tt,
+        subst (λ o. IfNone o (nodes_of new ≡ m)) (node_found old m n None is at) (ap nodes_of dead ∙ is),
+        ap visited_of dead ∙ marks,
+      )
       | Some slot ↦ λ at live dead. (
-          subst (λ o. IfSome o (λ node. nodes_of new ≡ map.insert m n (g node))) (node_found old m n (Some slot) is at) (nodes_of-put old new n _ live ∙ ap (λ k. map.insert k n (g slot.node)) is),
-          visited_of-kept old new n _ live (sym (ap is_visited at)) ∙ marks)
+        subst (λ o. IfSome o (λ node. nodes_of new ≡ map.insert m n (g node))) (node_found old m n (Some slot) is at) (nodes_of-put old new n _ live ∙ ap (λ k. map.insert k n (g slot.node)) is),
+        subst (λ o. IfNone o (nodes_of new ≡ m)) (node_found old m n (Some slot) is at) tt,
+        visited_of-kept old new n _ live (sym (ap is_visited at)) ∙ marks,
+      )
     ] refl live dead
 
 unvisited : (o : Option Slot) → option_map (λ slot. slot.node) o ≡ None → is_visited o ≡ false
@@ -169,14 +175,16 @@ pub node_marked : (old new : Slots) (m : map.FinMap nat_cmp Node) (v : Names) (n
 node_marked old new m v n r is marks live dead =
     elim (slot_at old n) as (λ o. slot_at old n ≡ o → IfSome o (λ slot. (r ≡ Ok (not slot.visited)) × Puts old new n (Some (record { node = slot.node; visited = true }))) → IfNone o ((r ≡ Err (Stale n)) × (new ≡ old)) → StepsAtOnce r v (visited_of new) (of_found n (λ (_ : Node). Ok (not (set.contains v n), set.insert v n)) (map.get m n)) × (nodes_of new ≡ m)) [
       | None ↦ λ at live dead. (
-          subst (λ o. StepsAtOnce r v (visited_of new) (of_found n (λ (_ : Node). Ok (not (set.contains v n), set.insert v n)) o)) (node_found old m n None is at)
-          (subst (λ x. StepsAtOnce x v (visited_of new) (Err (Stale n))) (sym dead.0) (refl, ap visited_of dead.1 ∙ marks)),
-          ap nodes_of dead.1 ∙ is)
+        subst (λ o. StepsAtOnce r v (visited_of new) (of_found n (λ (_ : Node). Ok (not (set.contains v n), set.insert v n)) o)) (node_found old m n None is at)
+            (subst (λ x. StepsAtOnce x v (visited_of new) (Err (Stale n))) (sym dead.0) (refl, ap visited_of dead.1 ∙ marks)),
+        ap nodes_of dead.1 ∙ is,
+      )
       | Some slot ↦ λ at live dead. (
-          subst (λ o. StepsAtOnce r v (visited_of new) (of_found n (λ (_ : Node). Ok (not (set.contains v n), set.insert v n)) o)) (node_found old m n (Some slot) is at)
-          (subst (λ x. StepsAtOnce x v (visited_of new) (Ok (not (set.contains v n), set.insert v n))) (sym live.0)
-          (λ i. Ok (not ((ap (λ k. set.contains k n) (sym marks) ∙ contains-visited_of old n ∙ ap is_visited at) i), (sym (visited_of-put old new n _ live.1 refl ∙ ap (λ k. set.insert k n) marks)) i))),
-          nodes_of-same old new (λ q. ap (option_map (λ slot. slot.node)) (live.1 q) ∙ node_cond (is_at (nat_cmp n) q) _ (slot_at old q) ∙ same_at old n q slot at) ∙ is)
+        subst (λ o. StepsAtOnce r v (visited_of new) (of_found n (λ (_ : Node). Ok (not (set.contains v n), set.insert v n)) o)) (node_found old m n (Some slot) is at)
+            (subst (λ x. StepsAtOnce x v (visited_of new) (Ok (not (set.contains v n), set.insert v n))) (sym live.0)
+            (λ i. Ok (not ((ap (λ k. set.contains k n) (sym marks) ∙ contains-visited_of old n ∙ ap is_visited at) i), (sym (visited_of-put old new n _ live.1 refl ∙ ap (λ k. set.insert k n) marks)) i))),
+        nodes_of-same old new (λ q. ap (option_map (λ slot. slot.node)) (live.1 q) ∙ node_cond (is_at (nat_cmp n) q) _ (slot_at old q) ∙ same_at old n q slot at) ∙ is,
+      )
     ] refl live dead
 
 -- every mark is off
@@ -188,3 +196,11 @@ visited_unmarked old = set.same_set nat_cmp_total set.nat_cmp-IsAntisymmetric _ 
     contains-visited_of (list_map (λ e. (e.0, record { node = e.1.node; visited = false })) old) q
     ∙ ap is_visited (lookup-map_values (λ (slot : Slot). record { node = slot.node; visited = false }) (is_at (nat_cmp q)) old) ∙ never (slot_at old q)
     ∙ sym (set.contains-empty nat_cmp q))
+
+some_node : (o : Option Slot) → is_visited o ≡ true → is_some (option_map (λ slot. slot.node) o) ≡ true
+some_node None e = cc
+some_node (Some slot) e = refl
+
+-- what was visited is there
+pub visited_live : (slots : Slots) (n : ℕ) → set.contains (visited_of slots) n ≡ true → is_some (map.get (nodes_of slots) n) ≡ true
+visited_live slots n e = ap is_some (get-nodes_of slots n) ∙ some_node (slot_at slots n) (sym (contains-visited_of slots n) ∙ e)

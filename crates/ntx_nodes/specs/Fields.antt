@@ -6,7 +6,7 @@
 --     fresh kind               the fields of a new node: zeros and nothings, and a box's ratio 0 over 1
 --     unlinked contents        the same numbers, and no links
 use Rattle.std.specs.Prelude.{ℕ, ◌-◌, ◌^◌, ℤ, pos, negsuc, neg_ℤ, nat_abs, int_le, nat_le, ◌&&◌, if◌then◌else◌, Option, None, Some, Result, Ok, Err}
-use Rattle.ntx_nodes.specs.Answers.{result_map}
+use Rattle.ntx_num.specs.Answer.{result_map}
 use Rattle.ntx_nodes.specs.declared.kind.Kind.{Kind}
 use Rattle.ntx_nodes.specs.declared.kind.Kind.TheVariants as kind
 use Rattle.ntx_nodes.specs.declared.field.Field.{Field}

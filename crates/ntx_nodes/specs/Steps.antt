@@ -3,7 +3,7 @@
 use Rattle.std.specs.Prelude.{ℕ, ◌+◌, ℤ, pos, neg_ℤ, int_le, nat_le, ◌&&◌, ◌||◌, not, if◌then◌else◌, Option, None, Some, Result, Ok, Err, Bool, true, false}
 use Rattle.std.specs.FinMap as map
 use Rattle.std.specs.FinSet as set
-use Rattle.ntx_nodes.specs.Answers.{result_map, result_and_then}
+use Rattle.ntx_num.specs.Answer.{result_map, result_and_then}
 use Rattle.ntx_nodes.specs.Fields.{field_of, with_field, kind_of, fresh, unlinked}
 use Rattle.ntx_nodes.specs.Heap.{Attributes, Heap, Names, name_limit, max_nodes, max_attributes, is_attribute}
 use Rattle.ntx_nodes.specs.declared.kind.Kind.{Kind}

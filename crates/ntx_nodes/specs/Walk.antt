@@ -5,7 +5,7 @@
 use Rattle.std.specs.Prelude.{ℕ, zero, suc, ◌+◌, List, [], ◌∷◌, ◌++◌, Bool, true, false, not, ◌&&◌, if◌then◌else◌, nat_eq, nat_lt, Option, None, Some, Result, Ok, Err}
 use Rattle.std.specs.List.{list_any}
 use Rattle.std.specs.FinMap as map
-use Rattle.ntx_nodes.specs.Answers.{result_map, result_and_then}
+use Rattle.ntx_num.specs.Answer.{result_map, result_and_then}
 use Rattle.ntx_nodes.specs.Fields.{kind_of}
 use Rattle.ntx_nodes.specs.Heap.{Heap}
 use Rattle.ntx_nodes.specs.declared.node.Node.{Node}
@@ -59,10 +59,10 @@ admits _ k kind = true
 abbrev pub node_reached : Heap → Way → List ℕ → ℕ → ℕ → ListKind → Result Node Trouble
 node_reached heap way reached n depth k =
     at heap n (λ node.
-      if is_reached reached n then Err (Loop n)
-      else if nat_lt max_depth depth then Err Nest
-      else if not (admits way k (kind_of node.fields.contents)) then Err (WrongKind n)
-      else Ok node)
+    if is_reached reached n then Err (Loop n)
+    else if nat_lt max_depth depth then Err Nest
+    else if not (admits way k (kind_of node.fields.contents)) then Err (WrongKind n)
+    else Ok node)
 
 -- one list after another, from the names reached before
 abbrev pub in_turn : (List ℕ → Option ℕ → ListKind → Result (List ℕ) Trouble) → List ℕ → List (Option ℕ × ListKind) → Result (List ℕ) Trouble
@@ -73,7 +73,7 @@ in_turn walk reached (l ∷ ls) = result_and_then (walk reached l.0 l.1) (λ bef
 abbrev pub enter : Heap → Way → (List ℕ → Option ℕ → ℕ → ListKind → Result (List ℕ) Trouble) → List ℕ → ℕ → ℕ → ListKind → Result (Node × List ℕ) Trouble
 enter heap way walk reached n depth k =
     result_and_then (node_reached heap way reached n depth k) (λ node.
-      result_map (λ names. (node, names)) (in_turn (λ before to inner. walk before to (depth + 1) inner) (reached ++ n ∷ []) (entered way node.fields.contents)))
+    result_map (λ names. (node, names)) (in_turn (λ before to inner. walk before to (depth + 1) inner) (reached ++ n ∷ []) (entered way node.fields.contents)))
 
 -- The walk of a list of kind k at this depth: at each node the tests, then its lists, and then what follows it in its own list.
 -- It ends, since each turn adds a live name that was not reached before: more turns than there are live nodes change nothing.
@@ -82,7 +82,7 @@ walk heap way zero reached n depth k = Ok reached
 walk heap way (suc turns) reached None depth k = Ok reached
 walk heap way (suc turns) reached (Some n) depth k =
     result_and_then (enter heap way (λ before to inner_depth inner. walk heap way turns before to inner_depth inner) reached n depth k) (λ entry.
-      walk heap way turns entry.1 entry.0.fields.next depth k)
+    walk heap way turns entry.1 entry.0.fields.next depth k)
 
 -- turns enough for every walk through the heap
 abbrev pub turns_of : Heap → ℕ

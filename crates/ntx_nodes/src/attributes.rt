@@ -3,7 +3,7 @@
 ghost use Rattle.std.specs.Prelude.{◌≡◌, ◌&&◌, not, nat_le, IfOk};
 ghost use Rattle.std.specs.FinMap as map;
 ghost use Rattle.ntx_num.specs.Answer.{Steps};
-ghost use Rattle.ntx_nodes.specs.Answers.{result_map};
+ghost use Rattle.ntx_num.specs.Answer.{result_map};
 ghost use Rattle.ntx_nodes.specs.Heap.{max_attributes, is_attribute};
 ghost use Rattle.ntx_nodes.specs.Steps.{with_attribute};
 
@@ -29,7 +29,8 @@ const GREATEST_ATTRIBUTE_VALUE: i64 = 2147483647;
 pub fn is_attribute(id: i64, v: i64) -> bool
     ensures { result ≡ is_attribute id v }
 {
-    in_range(id, 0, LAST_ATTRIBUTE_ID) && in_range(v, LEAST_ATTRIBUTE_VALUE, GREATEST_ATTRIBUTE_VALUE)
+    in_range(id, 0, LAST_ATTRIBUTE_ID)
+        && in_range(v, LEAST_ATTRIBUTE_VALUE, GREATEST_ATTRIBUTE_VALUE)
 }
 
 /// From attributes' ids to their values. It is seen as a finite map.

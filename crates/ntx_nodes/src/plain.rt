@@ -143,9 +143,14 @@ impl Nodes for PlainHeap {
     }
 
     fn set(&mut self, n: u64, f: Field, v: FieldValue) -> Result<(), Trouble> {
-        let fields = self.changed(self.table.fields(n)?, f, v)?;
-        self.table.put_fields(n, fields);
-        Ok(())
+        let fields = self.table.fields(n)?;
+        match self.changed(fields, f, v) {
+            Ok(written) => {
+                self.table.put_fields(n, written);
+                Ok(())
+            }
+            Err(why) => Err(why),
+        }
     }
 
     fn set_ratio(&mut self, n: u64, sign: u8, order: u8, r: Ratio) -> Result<(), Trouble> {
@@ -216,6 +221,6 @@ impl Nodes for PlainHeap {
     }
 
     fn lawful(&self) {
-        let _ = &self.next;
+        self.table.lawful();
     }
 }

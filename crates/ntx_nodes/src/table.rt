@@ -1,11 +1,11 @@
 //! The nodes of a plain heap by name, with marks on those that a walk has visited.
 
-ghost use Rattle.std.specs.Prelude.{◌≡◌, true, false, not, is_some, IfSome, IfNone, OnOk, OnErr, map as list_map};
+ghost use Rattle.std.specs.Prelude.{◌≡◌, ℕ, true, false, not, is_some, IfSome, IfNone, OnOk, OnErr, map as list_map};
 ghost use Rattle.std.specs.Option.{option_map};
 ghost use Rattle.std.specs.FinMap as map;
 ghost use Rattle.std.specs.FinSet as set;
 ghost use Rattle.ntx_num.specs.Answer.{Answers, Steps, StepsAtOnce};
-ghost use Rattle.ntx_nodes.specs.Answers.{result_map};
+ghost use Rattle.ntx_num.specs.Answer.{result_map};
 ghost use Rattle.ntx_nodes.specs.Steps.{with_attribute, copy_of};
 ghost use Rattle.ntx_nodes.specs.Table.{at_name};
 ghost use Rattle.ntx_nodes.specs.Plain.{slot_at, Puts};
@@ -68,6 +68,13 @@ impl Table {
         self.slots.len() as u64
     }
 
+    /// Does nothing. Its contract tells that the names visited are those of nodes that are there.
+    pub fn lawful(&self)
+        ensures { (n : ℕ) → set.contains self.now.visited n ≡ true → is_some (map.get self.now.nodes n) ≡ true }
+    {
+        let _ = &self.slots;
+    }
+
     /// A node.
     fn node(&self, n: u64) -> Option<&Node>
         ensures { option_map (λ node. node.now) result ≡ map.get self.now.nodes n }
@@ -128,6 +135,7 @@ impl Table {
     /// Writes the fields of a node, where it is there.
     pub fn put_fields(&mut self, n: u64, fields: Fields)
         ensures nodes { IfSome (map.get self.old.nodes n) (λ node. self.new.nodes ≡ map.insert self.old.nodes n (record node { fields = fields })) }
+        ensures absent { IfNone (map.get self.old.nodes n) (self.new.nodes ≡ self.old.nodes) }
         ensures visited { self.new.visited ≡ self.old.visited }
     {
         write_fields(&mut self.slots, n, fields);
@@ -136,6 +144,7 @@ impl Table {
     /// Writes the attributes of a node, where it is there.
     pub fn put_attributes(&mut self, n: u64, attributes: Attributes)
         ensures nodes { IfSome (map.get self.old.nodes n) (λ node. self.new.nodes ≡ map.insert self.old.nodes n (record node { attributes = attributes })) }
+        ensures absent { IfNone (map.get self.old.nodes n) (self.new.nodes ≡ self.old.nodes) }
         ensures visited { self.new.visited ≡ self.old.visited }
     {
         write_attributes(&mut self.slots, n, attributes);
