@@ -5,3 +5,4 @@ pub mod Ranges
 pub mod Lawful
 pub mod Tables
 pub mod StepLaws
+pub mod Walks

@@ -4,3 +4,4 @@ pub mod Steps
 pub mod Walk
 pub mod Plain
 pub mod Table
+pub mod Walker

@@ -3,7 +3,7 @@
 ghost use Rattle.std.specs.Prelude.{◌≡◌, ◌≢◌, pos, IfSome, IfNone};
 ghost use Rattle.ntx_nodes.specs.declared.kind.Kind.{Kind};
 ghost use Rattle.ntx_nodes.specs.Fields.{number_of, last_subtype};
-ghost use Rattle.ntx_nodes.specs.Walk.{allows};
+ghost use Rattle.ntx_nodes.specs.Walk.{allows, admits};
 
 /// The kind of a node, with the number by which scripts know it (LuaTeX Reference Manual, chapter "Nodes").
 #[derive(Clone, Copy, Debug, PartialEq, Eq)]
@@ -96,4 +96,16 @@ pub enum Way {
     Plain,
     /// Along one list alone.
     Flat,
+}
+
+impl Way {
+    /// Whether such a walk lets a list of a kind hold nodes of a kind.
+    pub fn admits(self, k: ListKind, kind: Kind) -> bool
+        ensures { result ≡ admits self k kind }
+    {
+        match self {
+            Way::Checked => k.allows(kind),
+            _ => true,
+        }
+    }
 }

@@ -12,13 +12,16 @@ mod contents;
 mod field;
 mod fields;
 mod kind;
+mod links;
 mod node;
 mod nodes;
 mod plain;
 mod ratio;
+mod reached;
 mod table;
 mod trouble;
 mod value;
+mod walk;
 
 pub use attributes::{Attributes, is_attribute};
 pub use contents::{BoxFields, DiscFields, GlueFields, GlyphFields, RuleFields};
