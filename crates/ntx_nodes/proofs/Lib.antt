@@ -6,3 +6,5 @@ pub mod Lawful
 pub mod Tables
 pub mod StepLaws
 pub mod Walks
+pub mod Turns
+pub mod WalkSteps

@@ -24,11 +24,11 @@ use Rattle.std.proofs.lemmas.Bool.{lt-leb}
 use Rattle.std.proofs.lemmas.Bool.Decides.{nat_tests}
 use Rattle.ntx_nodes.proofs.Oks.{at_Ok}
 
-nat_eq_same : (n : ℕ) → nat_eq n n ≡ true
+pub nat_eq_same : (n : ℕ) → nat_eq n n ≡ true
 nat_eq_same n = grind (arith, nat_tests)
 
 -- ---- names reached
-or_true : (a : Bool) → (a || true) ≡ true
+pub or_true : (a : Bool) → (a || true) ≡ true
 or_true true = refl
 or_true false = refl
 
@@ -51,7 +51,7 @@ keeps_more v n q h = set.contains-insert nat_cmp_total v n q ∙ ap (λ b. eq_by
 
 -- ---- live nodes that are left
 -- fewer names fail a test that more of them pass
-falls : (p q : ℕ → Bool) (es : List (ℕ × Node)) → ((n : ℕ) → q n ≡ true → p n ≡ true) → failing p es ≤ failing q es
+pub falls : (p q : ℕ → Bool) (es : List (ℕ × Node)) → ((n : ℕ) → q n ≡ true → p n ≡ true) → failing p es ≤ failing q es
 falls p q [] h = omega arith
 falls p q (e ∷ es) h =
     let rest : failing p es ≤ failing q es = falls p q es h in
@@ -60,7 +60,7 @@ falls p q (e ∷ es) h =
       | false ↦ λ t. elim (p e.0) as (λ b. cond b 0 1 + failing p es ≤ 1 + failing q es) [ true ↦ omega arith | false ↦ omega arith ]
     ] refl
 
-falls_at : (p q : ℕ → Bool) (es : List (ℕ × Node)) (n : ℕ) (node : Node) → ((m : ℕ) → q m ≡ true → p m ≡ true) → p n ≡ true → q n ≡ false → map.find nat_cmp n es ≡ Some node → failing p es < failing q es
+pub falls_at : (p q : ℕ → Bool) (es : List (ℕ × Node)) (n : ℕ) (node : Node) → ((m : ℕ) → q m ≡ true → p m ≡ true) → p n ≡ true → q n ≡ false → map.find nat_cmp n es ≡ Some node → failing p es < failing q es
 falls_at p q [] n node h pn qn e = cc
 falls_at p q (e ∷ es) n node h pn qn is =
     elim (eq_by_cmp nat_cmp n e.0) as (λ b. eq_by_cmp nat_cmp n e.0 ≡ b → cond b (Some e.1) (map.find nat_cmp n es) ≡ Some node → cond (p e.0) 0 1 + failing p es < cond (q e.0) 0 1 + failing q es) [
@@ -78,7 +78,7 @@ falls_at p q (e ∷ es) n node h pn qn is =
           ] refl
     ] refl is
 
-failing-le : (p : ℕ → Bool) (es : List (ℕ × Node)) → failing p es ≤ length es
+pub failing-le : (p : ℕ → Bool) (es : List (ℕ × Node)) → failing p es ≤ length es
 failing-le p [] = omega arith
 failing-le p (e ∷ es) =
     let rest : failing p es ≤ length es = failing-le p es in

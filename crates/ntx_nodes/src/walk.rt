@@ -1,6 +1,6 @@
 //! Walks through the lists of a heap.
 
-ghost use Rattle.std.specs.Prelude.{◌≡◌, ◌≢◌, ◌≤◌, ◌<◌, None, OnOk, Err, IsOk};
+ghost use Rattle.std.specs.Prelude.{◌≡◌, ◌≢◌, ◌+◌, ◌≤◌, ◌<◌, None, OnOk, Err, IsOk};
 ghost use Rattle.ntx_nodes.specs.Walk.{max_depth};
 ghost use Rattle.ntx_nodes.specs.Walker.{Reaches, Walks, unvisited, Keeps};
 
@@ -47,4 +47,31 @@ fn reach<N: Nodes>(
     }
     names.take(n)?;
     Ok(links)
+}
+
+/// Walks a list of a kind at a depth, from the nodes that are visited already.
+fn walk_list<N: Nodes>(
+    nodes: &mut N,
+    way: Way,
+    head: Option<u64>,
+    depth: u64,
+    k: ListKind,
+    names: &mut Reached,
+) -> Result<(), Fail<Trouble>>
+    requires { depth ≤ max_depth + 1 }
+    ensures same { N.heap nodes.new ≡ N.heap nodes.old }
+    ensures walks { Walks (N.heap nodes.old) way head depth k (N.visited nodes.old) names.old (N.visited nodes.new) names.new result }
+    ensures keeps { OnOk result (Keeps (N.visited nodes.old) (N.visited nodes.new)) }
+    ensures unasked { names.old ≡ None → names.new ≡ None }
+    ensures memory { names.old ≡ None → result ≢ Err Fail.NoMemory }
+{
+    let mut at = head;
+    while let Some(n) = at {
+        let links = reach(nodes, way, n, depth, k, names)?;
+        walk_list(nodes, way, links.first, depth + 1, links.kind, names)?;
+        walk_list(nodes, way, links.second, depth + 1, links.kind, names)?;
+        walk_list(nodes, way, links.third, depth + 1, links.kind, names)?;
+        at = links.next;
+    }
+    Ok(())
 }
