@@ -8,3 +8,4 @@ pub mod StepLaws
 pub mod Walks
 pub mod Turns
 pub mod WalkSteps
+pub mod WholeWalks

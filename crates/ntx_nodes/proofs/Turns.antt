@@ -106,9 +106,10 @@ pub enter_extends : (heap : Heap) (way : Way) (w : Walker) → ((r : List ℕ) (
 enter_extends heap way w h r n d k entry e =
     let f : List ℕ → Option ℕ → ListKind → Result (List ℕ) Trouble = λ b to i. w b to (d + 1) i in
     let went = went_Ok {B = Node × List ℕ} (λ node. result_map (λ names. (node, names)) (in_turn f (r ++ n ∷ []) (entered way node.fields.contents))) (node_reached heap way r n d k) entry e in
-    let m = mapped_Ok {B = Node × List ℕ} (λ names. (went.value, names)) (in_turn f (r ++ n ∷ []) (entered way went.value.fields.contents)) entry went.gives in
-    (subst (λ (p : Node × List ℕ). Passes heap way r n d k p.0) m.gives (passes heap way r n d k went.value went.is),
-     subst (λ (p : Node × List ℕ). Extends (r ++ n ∷ []) p.1) m.gives (in_turn_extends f (λ b to i names x. h b to (d + 1) i names x) (r ++ n ∷ []) (entered way went.value.fields.contents) m.value m.is))
+    let m = mapped_Ok {B = Node × List ℕ} (λ names. (went.value, names)) (in_turn f (r ++ n ∷ []) (entered way went.value.fields.contents)) entry went.gives in (
+      subst (λ (p : Node × List ℕ). Passes heap way r n d k p.0) m.gives (passes heap way r n d k went.value went.is),
+      subst (λ (p : Node × List ℕ). Extends (r ++ n ∷ []) p.1) m.gives (in_turn_extends f (λ b to i names x. h b to (d + 1) i names x) (r ++ n ∷ []) (entered way went.value.fields.contents) m.value m.is),
+    )
 
 pub walk_extends : (heap : Heap) (way : Way) (turns : ℕ) (r : List ℕ) (n : Option ℕ) (d : ℕ) (k : ListKind) (names : List ℕ) → walk heap way turns r n d k ≡ Ok names → Extends r names
 walk_extends heap way zero r n d k names e = extends_same r names (same_Ok r names e)
@@ -135,8 +136,8 @@ in_turn_same : (heap : Heap) (t : ℕ) (f g : List ℕ → Option ℕ → ListKi
 in_turn_same heap t f g same extends r [] lt = refl
 in_turn_same heap t f g same extends r (l ∷ ls) lt =
     then_same (f r l.0 l.1) (g r l.0 l.1) (λ b. in_turn f b ls) (λ b. in_turn g b ls) (same r l.0 l.1 lt) (λ b is.
-      let fewer : unreached heap b ≤ unreached heap r = unreached_falls heap r b (extends r l.0 l.1 b is) in
-      in_turn_same heap t f g same extends b ls (omega arith))
+    let fewer : unreached heap b ≤ unreached heap r = unreached_falls heap r b (extends r l.0 l.1 b is) in
+    in_turn_same heap t f g same extends b ls (omega arith))
 
 pub enough : (heap : Heap) (way : Way) (turns : ℕ) (r : List ℕ) (n : Option ℕ) (d : ℕ) (k : ListKind) → unreached heap r < turns → walk heap way turns r n d k ≡ walk heap way (suc turns) r n d k
 enough heap way zero r n d k lt = absurd (omega arith)
@@ -146,12 +147,12 @@ enough heap way (suc turns) r (Some n) d k lt =
     let v : Walker = λ b to j i. walk heap way (suc turns) b to j i in
     then_same {A = Node × List ℕ} (enter heap way w r n d k) (enter heap way v r n d k) (λ entry. w entry.1 entry.0.fields.next d k) (λ entry. v entry.1 entry.0.fields.next d k)
     (pointwise (node_reached heap way r n d k) _ _ (λ node is.
-      let p = passes heap way r n d k node is in
-      let less : unreached heap (r ++ n ∷ []) < unreached heap r = unreached_less heap r n node p.live p.new in
-      ap (result_map {B = Node × List ℕ} (λ names. (node, names))) (in_turn_same heap turns (λ b to i. w b to (d + 1) i) (λ b to i. v b to (d + 1) i)
-        (λ b to i below. enough heap way turns b to (d + 1) i below) (λ b to i names x. walk_extends heap way (suc turns) b to (d + 1) i names x) (r ++ n ∷ []) (entered way node.fields.contents) (omega arith))))
+    let p = passes heap way r n d k node is in
+    let less : unreached heap (r ++ n ∷ []) < unreached heap r = unreached_less heap r n node p.live p.new in
+    ap (result_map {B = Node × List ℕ} (λ names. (node, names))) (in_turn_same heap turns (λ b to i. w b to (d + 1) i) (λ b to i. v b to (d + 1) i)
+    (λ b to i below. enough heap way turns b to (d + 1) i below) (λ b to i names x. walk_extends heap way (suc turns) b to (d + 1) i names x) (r ++ n ∷ []) (entered way node.fields.contents) (omega arith))))
     (λ entry is.
-      let e = enter_extends heap way v (walk_extends heap way (suc turns)) r n d k entry is in
-      let less : unreached heap (r ++ n ∷ []) < unreached heap r = unreached_less heap r n entry.0 e.0.live e.0.new in
-      let fewer : unreached heap entry.1 ≤ unreached heap (r ++ n ∷ []) = unreached_falls heap (r ++ n ∷ []) entry.1 e.1 in
-      enough heap way turns entry.1 entry.0.fields.next d k (omega arith))
+    let e = enter_extends heap way v (walk_extends heap way (suc turns)) r n d k entry is in
+    let less : unreached heap (r ++ n ∷ []) < unreached heap r = unreached_less heap r n entry.0 e.0.live e.0.new in
+    let fewer : unreached heap entry.1 ≤ unreached heap (r ++ n ∷ []) = unreached_falls heap (r ++ n ∷ []) entry.1 e.1 in
+    enough heap way turns entry.1 entry.0.fields.next d k (omega arith))

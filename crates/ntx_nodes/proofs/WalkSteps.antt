@@ -165,11 +165,12 @@ gets_on heap way d k head v w v0 v1 v2 v3 told heard h0 h1 h2 h3 n links gets co
     let r3 : List ℕ = ((r0 ++ a.0) ++ b.0) ++ z.0 in
     let more : List ℕ = (((g.0 ++ n ∷ []) ++ a.0) ++ b.0) ++ z.0 in
     let lists = three_Ok (inner heap way d) r0 (r0 ++ a.0) ((r0 ++ a.0) ++ b.0) r3 links a.1 b.1 z.1 in
-    let same : r3 ≡ before ++ more = regrouped before g.0 (n ∷ []) a.0 b.0 z.0 in
-    (more,
-     g.1 ∙ at_node heap way (before ++ g.0) n d k c.0 links c.1 c.2 ∙ ap (λ x. result_and_then x (λ r. whole_walk heap way r links.next d k)) lists ∙ ap (λ r. whole_walk heap way r links.next d k) same,
-     subst (Marks v3) same z.2,
-     told_all told heard h0 h1 h2 h3 g.0 (n ∷ []) a.0 b.0 z.0 g.3 c.4 a.3 b.3 z.3)
+    let same : r3 ≡ before ++ more = regrouped before g.0 (n ∷ []) a.0 b.0 z.0 in (
+      more,
+      g.1 ∙ at_node heap way (before ++ g.0) n d k c.0 links c.1 c.2 ∙ ap (λ x. result_and_then x (λ r. whole_walk heap way r links.next d k)) lists ∙ ap (λ r. whole_walk heap way r links.next d k) same,
+      subst (Marks v3) same z.2,
+      told_all told heard h0 h1 h2 h3 g.0 (n ∷ []) a.0 b.0 z.0 g.3 c.4 a.3 b.3 z.3,
+    )
 
 -- ---- where a walker stops
 pub stops_at : (heap : Heap) (way : Way) (d : ℕ) (k : ListKind) (head : Option ℕ) (v w : Names) (told heard : Option (List ℕ)) (n : ℕ) (why : Trouble)

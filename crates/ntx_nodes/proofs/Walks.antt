@@ -117,11 +117,14 @@ comes heap way n depth k v w told heard kind links first looks visits is_first s
     let new : set.contains v n ≡ false = not_true (set.contains v n) (ap (λ p. p.0) (same_Ok _ _ seen.gives) ∙ is_first) in
     let marked : set.insert v n ≡ w = ap (λ p. p.1) (same_Ok _ _ seen.gives) in
     let its_kind : kind_of found.node.fields.contents ≡ kind = ap (λ p. p.0) (same_Ok _ _ found.gives) in
-    let its_links : links_of way found.node.fields ≡ links = ap (λ p. p.1) (same_Ok _ _ found.gives) in
-    (λ before marks. (found.node,
+    let its_links : links_of way found.node.fields ≡ links = ap (λ p. p.1) (same_Ok _ _ found.gives) in (
+      λ before marks. (
+        found.node,
         node_reached_Ok heap way before n depth k found.node found.is (sym (marks n) ∙ new) shallow (ap (admits way k) its_kind ∙ kinds),
         sym its_links,
         subst (λ (s : Names). Marks s (before ++ n ∷ [])) marked (marks_more v before n marks),
-        hears),
-     subst (λ (s : Names). unvisited heap s < unvisited heap v) marked (unvisited_less heap v n found.node found.is new),
-     subst (λ (s : Names). Keeps v s) marked (keeps_more v n))
+        hears,
+      ),
+      subst (λ (s : Names). unvisited heap s < unvisited heap v) marked (unvisited_less heap v n found.node found.is new),
+      subst (λ (s : Names). Keeps v s) marked (keeps_more v n),
+    )

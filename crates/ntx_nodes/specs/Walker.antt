@@ -1,5 +1,5 @@
 -- What the walker's parts do, in the words of walks: it keeps no names but the marks of the heap, and tells names to who asks.
-use Rattle.std.specs.Prelude.{◌≡◌, ℕ, ◌+◌, ◌≤◌, List, [], ◌∷◌, ◌++◌, Bool, true, cond, Option, None, Some, Result, Ok, Err}
+use Rattle.std.specs.Prelude.{◌≡◌, ℕ, ◌+◌, ◌≤◌, List, [], ◌∷◌, ◌++◌, Bool, true, cond, Option, None, Some, Result, Ok, Err, MatchResult}
 use Rattle.std.specs.Option.{option_map}
 use Rattle.std.specs.FinMap as map
 use Rattle.std.specs.FinSet as set
@@ -82,3 +82,9 @@ unvisited heap visited = failing (set.contains visited) (map.entries heap.nodes)
 -- what was visited stays so
 abbrev pub Keeps : Names → Names → Type 0
 Keeps old new = (q : ℕ) → set.contains old q ≡ true → set.contains new q ≡ true
+
+-- A walk that goes on from the nodes visited already: for any list of just those, what the walk from it reaches, all of it visited then.
+abbrev pub WalksOn : Heap → Way → Option ℕ → ListKind → Names → Names → Result (Unit {0}) Trouble → Type 0
+WalksOn heap way head k visited marked result =
+    (before : List ℕ) → Marks visited before
+    → MatchResult result (λ _. (names : List ℕ) × (walk heap way (turns_of heap) before head 0 k ≡ Ok names) × Marks marked names) (λ why. walk heap way (turns_of heap) before head 0 k ≡ Err why)

@@ -33,3 +33,4 @@ pub use nodes::Nodes;
 pub use plain::PlainHeap;
 pub use ratio::Ratio;
 pub use trouble::{Phase, Trouble};
+pub use walk::{check, names_reached, visit_list, visit_on};

@@ -1,13 +1,14 @@
 //! Walks through the lists of a heap.
 
-ghost use Rattle.std.specs.Prelude.{◌≡◌, ◌≢◌, ◌+◌, ◌≤◌, ◌<◌, None, OnOk, Err, IsOk};
-ghost use Rattle.ntx_nodes.specs.Walk.{max_depth};
-ghost use Rattle.ntx_nodes.specs.Walker.{Reaches, Walks, unvisited, Keeps};
+ghost use Rattle.std.specs.Prelude.{◌≡◌, ◌≢◌, ◌+◌, ◌≤◌, ◌<◌, None, OnOk, IfOk, Err, IsOk};
+ghost use Rattle.ntx_num.specs.Answer.{result_map, Answers};
+ghost use Rattle.ntx_nodes.specs.Walk.{max_depth, walk_from, checked_walk};
+ghost use Rattle.ntx_nodes.specs.Walker.{Reaches, Walks, unvisited, Keeps, WalksOn, Marks};
 
 use crate::links::{Links, look};
 use crate::reached::Reached;
 use crate::{ListKind, Nodes, Trouble, Way};
-use ntx_num::{Fail, NoMemory};
+use ntx_num::Fail;
 use std::alloc::Global;
 
 /// Lists lie no deeper inside one another.
@@ -74,4 +75,76 @@ fn walk_list<N: Nodes>(
         at = links.next;
     }
     Ok(())
+}
+
+/// Walks a list from the nodes that are visited already, as for a list that is to be joined to others: what they were
+/// counts as reached.
+///
+/// Refuses as `visit_list`, with Loop too where it reaches one of them.
+pub fn visit_on<N: Nodes>(
+    nodes: &mut N,
+    way: Way,
+    head: Option<u64>,
+    k: ListKind,
+) -> Result<(), Trouble>
+    ensures same { N.heap nodes.new ≡ N.heap nodes.old }
+    ensures walks { WalksOn (N.heap nodes.old) way head k (N.visited nodes.old) (N.visited nodes.new) result }
+{
+    let mut names = Reached::unasked();
+    match walk_list(nodes, way, head, 0, k, &mut names) {
+        Ok(()) => Ok(()),
+        Err(Fail::Is(why)) => Err(why),
+        Err(Fail::NoMemory) => unreachable!(),
+    }
+}
+
+/// Walks the list at a head, without memory, and leaves the nodes that it reaches as those visited.
+///
+/// At each node it refuses with Stale where it is dead, Loop where the walk reached it before, Nest at depth 101, and on
+/// a checked way WrongKind where the list may not hold its kind, in this order.
+pub fn visit_list<N: Nodes>(
+    nodes: &mut N,
+    way: Way,
+    head: Option<u64>,
+    k: ListKind,
+) -> Result<(), Trouble>
+    ensures same { N.heap nodes.new ≡ N.heap nodes.old }
+    ensures answer { result ≡ result_map (λ _. tt) (walk_from (N.heap nodes.old) way head k) }
+    ensures marks { IfOk (walk_from (N.heap nodes.old) way head k) (λ names. Marks (N.visited nodes.new) names) }
+{
+    nodes.begin_walk();
+    visit_on(nodes, way, head, k)
+}
+
+/// The names that a walk of the list at a head reaches, in its order. Refuses as `visit_list`.
+pub fn names_reached<N: Nodes>(
+    alloc: Global,
+    nodes: &mut N,
+    way: Way,
+    head: Option<u64>,
+    k: ListKind,
+) -> Result<Vec<u64>, Fail<Trouble>>
+    ensures same { N.heap nodes.new ≡ N.heap nodes.old }
+    ensures answer { Answers (result_map (λ names. names.items) result) (walk_from (N.heap nodes.old) way head k) }
+{
+    nodes.begin_walk();
+    let mut names = Reached::asked(alloc);
+    walk_list(nodes, way, head, 0, k, &mut names)?;
+    Ok(names.into_names(alloc))
+}
+
+/// The names that the list at a head reaches, in the order of the walk, where each list holds only what it may.
+///
+/// At each node it refuses with Stale where it is dead, Loop where the walk reached it before, Nest at depth 101, and
+/// WrongKind where the list may not hold its kind, in this order.
+pub fn check<N: Nodes>(
+    alloc: Global,
+    nodes: &mut N,
+    head: Option<u64>,
+    k: ListKind,
+) -> Result<Vec<u64>, Fail<Trouble>>
+    ensures same { N.heap nodes.new ≡ N.heap nodes.old }
+    ensures answer { Answers (result_map (λ names. names.items) result) (checked_walk (N.heap nodes.old) head k) }
+{
+    names_reached(alloc, nodes, Way::Checked, head, k)
 }

@@ -36,9 +36,9 @@ loop-at-preserved g t c = record {
 pub loop-at-smaller : goal.loop-at-smaller
 loop-at-smaller g t c =
     let same : g.N.Nodes.heap c.loop-at.nodes ≡ g.N.Nodes.heap c.walk_list-in-Some-2.new.nodes =
-        sym (c.walk_list-in-Some-2.ensures.same ∙ c.walk_list-in-Some.ensures.same ∙ c.walk_list.ensures.same ∙ c.reach.ensures.same) in
+    sym (c.walk_list-in-Some-2.ensures.same ∙ c.walk_list-in-Some.ensures.same ∙ c.walk_list.ensures.same ∙ c.reach.ensures.same) in
     let less : unvisited (g.N.Nodes.heap c.loop-at.nodes) (g.N.Nodes.visited c.reach.new.nodes) < unvisited (g.N.Nodes.heap c.loop-at.nodes) (g.N.Nodes.visited c.loop-at.nodes) = c.in_ok-links.ensures.fewer in
     let falls : unvisited (g.N.Nodes.heap c.loop-at.nodes) (g.N.Nodes.visited c.walk_list-in-Some-2.new.nodes) ≤ unvisited (g.N.Nodes.heap c.loop-at.nodes) (g.N.Nodes.visited c.reach.new.nodes) =
-        unvisited_falls (g.N.Nodes.heap c.loop-at.nodes) (g.N.Nodes.visited c.reach.new.nodes) (g.N.Nodes.visited c.walk_list-in-Some-2.new.nodes) (λ q h. c.in_ok-walk_list-3.ensures.keeps q (c.in_ok-walk_list-2.ensures.keeps q (c.in_ok-walk_list.ensures.keeps q h))) in
+    unvisited_falls (g.N.Nodes.heap c.loop-at.nodes) (g.N.Nodes.visited c.reach.new.nodes) (g.N.Nodes.visited c.walk_list-in-Some-2.new.nodes) (λ q h. c.in_ok-walk_list-3.ensures.keeps q (c.in_ok-walk_list-2.ensures.keeps q (c.in_ok-walk_list.ensures.keeps q h))) in
     let fewer : unvisited (g.N.Nodes.heap c.loop-at.nodes) (g.N.Nodes.visited c.walk_list-in-Some-2.new.nodes) < unvisited (g.N.Nodes.heap c.loop-at.nodes) (g.N.Nodes.visited c.loop-at.nodes) = omega arith in
     subst (λ h. unvisited h (g.N.Nodes.visited c.walk_list-in-Some-2.new.nodes) < unvisited (g.N.Nodes.heap c.loop-at.nodes) (g.N.Nodes.visited c.loop-at.nodes)) same fewer
