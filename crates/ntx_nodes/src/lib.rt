@@ -19,6 +19,8 @@ mod plain;
 mod ratio;
 mod reached;
 mod table;
+#[cfg(test)]
+mod tests;
 mod trouble;
 mod value;
 mod walk;
