@@ -9,3 +9,4 @@ pub mod Walks
 pub mod Turns
 pub mod WalkSteps
 pub mod WholeWalks
+pub mod SoundWalks

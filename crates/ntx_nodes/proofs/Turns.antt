@@ -1,5 +1,5 @@
 -- A walk with turns enough: more turns change nothing, and what it does at a node.
-use Rattle.std.proofs.Common.{◌≡◌, ℕ, zero, suc, ◌+◌, ◌≤◌, ◌<◌, List, [], ◌∷◌, ◌++◌, Bool, true, false, cond, length, Some, None, Ok, Err, refl, sym, ◌∙◌, ap, subst, append_assoc, append-nil, arith}
+use Rattle.std.proofs.Common.{◌≡◌, ℕ, zero, suc, ◌+◌, ◌≤◌, ◌<◌, List, [], ◌∷◌, ◌++◌, Bool, true, false, cond, length, Some, None, Ok, Err, refl, sym, ◌∙◌, ap, subst, append_assoc, append-nil, zero-add, suc-add, add_comm, arith}
 use Rattle.std.specs.Prelude.{Option, Result, not, ◌||◌, nat_eq, nat_lt}
 use Rattle.std.specs.FinMap as map
 use Rattle.ntx_num.specs.Answer.{result_map, result_and_then}
@@ -87,7 +87,7 @@ still r more q h = is_reached-append r more q ∙ or_left (is_reached r q) (is_r
 pub unreached_falls : (heap : Heap) (r names : List ℕ) → Extends r names → unreached heap names ≤ unreached heap r
 unreached_falls heap r names e = subst (λ x. unreached heap x ≤ unreached heap r) (sym e.is) (falls (is_reached (r ++ e.more)) (is_reached r) (map.entries heap.nodes) (still r e.more))
 
-last_reached : (r : List ℕ) (n : ℕ) → is_reached (r ++ n ∷ []) n ≡ true
+pub last_reached : (r : List ℕ) (n : ℕ) → is_reached (r ++ n ∷ []) n ≡ true
 last_reached r n = is_reached-append r (n ∷ []) n ∙ ap (λ b. is_reached r n || (b || false)) (nat_eq_same n) ∙ or_true (is_reached r n)
 
 pub unreached_less : (heap : Heap) (r : List ℕ) (n : ℕ) (node : Node) → map.get heap.nodes n ≡ Some node → is_reached r n ≡ false → unreached heap (r ++ n ∷ []) < unreached heap r
@@ -156,3 +156,14 @@ enough heap way (suc turns) r (Some n) d k lt =
     let less : unreached heap (r ++ n ∷ []) < unreached heap r = unreached_less heap r n entry.0 e.0.live e.0.new in
     let fewer : unreached heap entry.1 ≤ unreached heap (r ++ n ∷ []) = unreached_falls heap (r ++ n ∷ []) entry.1 e.1 in
     enough heap way turns entry.1 entry.0.fields.next d k (omega arith))
+
+later : (heap : Heap) (way : Way) (more : ℕ) (r : List ℕ) (n : Option ℕ) (d : ℕ) (k : ListKind) → walk heap way (more + turns_of heap) r n d k ≡ walk heap way (turns_of heap) r n d k
+later heap way zero r n d k = ap (λ t. walk heap way t r n d k) (zero-add (turns_of heap))
+later heap way (suc more) r n d k =
+    let most : unreached heap r < turns_of heap = unreached_most heap r in
+    let below : unreached heap r < more + turns_of heap = omega arith in
+    ap (λ t. walk heap way t r n d k) (suc-add more (turns_of heap)) ∙ sym (enough heap way (more + turns_of heap) r n d k below) ∙ later heap way more r n d k
+
+-- more turns than there are live nodes change nothing
+pub turns_enough : (heap : Heap) (way : Way) (more : ℕ) (r : List ℕ) (n : Option ℕ) (d : ℕ) (k : ListKind) → walk heap way (turns_of heap + more) r n d k ≡ walk heap way (turns_of heap) r n d k
+turns_enough heap way more r n d k = ap (λ t. walk heap way t r n d k) (add_comm (turns_of heap) more) ∙ later heap way more r n d k

@@ -76,7 +76,7 @@ inner_next (contents.Kern x) next = refl
 inner_next (contents.Penalty x) next = refl
 inner_next (contents.Glyph x) next = refl
 
-links_next : (way : Way) (fields : Fields) → (links_of way fields).next ≡ fields.next
+pub links_next : (way : Way) (fields : Fields) → (links_of way fields).next ≡ fields.next
 links_next Flat fields = refl
 links_next Checked fields = inner_next fields.contents fields.next
 links_next Plain fields = inner_next fields.contents fields.next

@@ -5,3 +5,4 @@ pub mod Walk
 pub mod Plain
 pub mod Table
 pub mod Walker
+pub mod WalkLaws

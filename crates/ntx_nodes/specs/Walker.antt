@@ -83,8 +83,17 @@ unvisited heap visited = failing (set.contains visited) (map.entries heap.nodes)
 abbrev pub Keeps : Names → Names → Type 0
 Keeps old new = (q : ℕ) → set.contains old q ≡ true → set.contains new q ≡ true
 
--- A walk that goes on from the nodes visited already: for any list of just those, what the walk from it reaches, all of it visited then.
-abbrev pub WalksOn : Heap → Way → Option ℕ → ListKind → Names → Names → Result (Unit {0}) Trouble → Type 0
-WalksOn heap way head k visited marked result =
+-- A walk at a depth that goes on from the nodes visited already: for any list of just those, what the walk from it reaches, all of
+-- it visited then.
+abbrev pub WalksOn : Heap → Way → Option ℕ → ℕ → ListKind → Names → Names → Result (Unit {0}) Trouble → Type 0
+WalksOn heap way head depth k visited marked result =
     (before : List ℕ) → Marks visited before
-    → MatchResult result (λ _. (names : List ℕ) × (walk heap way (turns_of heap) before head 0 k ≡ Ok names) × Marks marked names) (λ why. walk heap way (turns_of heap) before head 0 k ≡ Err why)
+    → MatchResult result (λ _. (names : List ℕ) × (walk heap way (turns_of heap) before head depth k ≡ Ok names) × Marks marked names) (λ why. walk heap way (turns_of heap) before head depth k ≡ Err why)
+
+-- The same, with the names that it reaches put at the end of those told before.
+abbrev pub NamesOn : Heap → Way → Option ℕ → ℕ → ListKind → Names → List ℕ → Names → Result (List ℕ) (Fail Trouble) → Type 0
+NamesOn heap way head depth k visited told marked (Ok names) =
+    (before : List ℕ) → Marks visited before
+    → (more : List ℕ) × (walk heap way (turns_of heap) before head depth k ≡ Ok (before ++ more)) × Marks marked (before ++ more) × (names ≡ told ++ more)
+NamesOn heap way head depth k visited told marked (Err (Is why)) = Stops heap way head depth k visited why
+NamesOn heap way head depth k visited told marked (Err NoMemory) = Unit {0}

@@ -23,13 +23,11 @@ impl Model for Reached {
 }
 
 impl Reached {
-    /// No name yet.
-    pub fn asked(alloc: Global) -> Reached
-        ensures { result ≡ Some [] }
+    /// After names that were told before.
+    pub fn after(names: Vec<u64>) -> Reached
+        ensures { result ≡ Some names.items }
     {
-        Reached {
-            names: Some(Vec::new(alloc)),
-        }
+        Reached { names: Some(names) }
     }
 
     /// Nobody asks.

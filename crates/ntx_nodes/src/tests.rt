@@ -249,12 +249,17 @@ fn a_node_that_two_boxes_share_is_a_loop(rt: HostRuntime) -> Result<(), test::Fa
         Ok(())
     );
     assert_eq!(rt;
-        visit_on(&mut heap, Way::Flat, Some(y), ListKind::H),
+        visit_on(&mut heap, Way::Flat, Some(y), 0, ListKind::H),
         Err(Trouble::Loop(y))
     );
     heap.set(y, Field::List, FieldValue::Link(None))?;
     let names = check(rt.alloc(), &mut heap, Some(x), ListKind::H)?;
     assert_eq!(rt; names.as_slice(), [2, 1, 3].as_slice());
+    heap.begin_walk();
+    let inner = names_on(rt.alloc(), &mut heap, Way::Plain, Some(x), 1, ListKind::H, names)?;
+    assert_eq!(rt; inner.as_slice(), [2, 1, 3, 2, 1, 3].as_slice());
+    walks_are_sound();
+    turns_are_enough();
     heap.set(x, Field::List, FieldValue::Link(Some(x)))?;
     let itself = check(rt.alloc(), &mut heap, Some(x), ListKind::H);
     assert!(rt; matches!(&itself, Err(Fail::Is(Trouble::Loop(2)))));

@@ -1,9 +1,13 @@
 //! Walks through the lists of a heap.
 
-ghost use Rattle.std.specs.Prelude.{◌≡◌, ◌≢◌, ◌+◌, ◌≤◌, ◌<◌, None, OnOk, IfOk, Err, IsOk};
+ghost use Rattle.std.specs.Prelude.{◌≡◌, ◌≢◌, ◌+◌, ◌≤◌, ◌<◌, ℕ, List, Option, None, OnOk, IfOk, Ok, Err, IsOk};
 ghost use Rattle.ntx_num.specs.Answer.{result_map, Answers};
-ghost use Rattle.ntx_nodes.specs.Walk.{max_depth, walk_from, checked_walk};
-ghost use Rattle.ntx_nodes.specs.Walker.{Reaches, Walks, unvisited, Keeps, WalksOn, Marks};
+ghost use Rattle.ntx_nodes.specs.Walk.{max_depth, walk, turns_of, walk_from, checked_walk};
+ghost use Rattle.ntx_nodes.specs.WalkLaws.{Sound};
+ghost use Rattle.ntx_nodes.specs.Heap.{Heap};
+ghost use Rattle.ntx_nodes.specs.declared.kind.Way.{Way};
+ghost use Rattle.ntx_nodes.specs.declared.kind.ListKind.{ListKind};
+ghost use Rattle.ntx_nodes.specs.Walker.{Reaches, Walks, unvisited, Keeps, WalksOn, NamesOn, Marks};
 
 use crate::links::{Links, look};
 use crate::reached::Reached;
@@ -77,25 +81,45 @@ fn walk_list<N: Nodes>(
     Ok(())
 }
 
-/// Walks a list from the nodes that are visited already, as for a list that is to be joined to others: what they were
-/// counts as reached.
+/// Walks a list at a depth from the nodes that are visited already, which count as reached. Takes no memory.
 ///
 /// Refuses as `visit_list`, with Loop too where it reaches one of them.
 pub fn visit_on<N: Nodes>(
     nodes: &mut N,
     way: Way,
     head: Option<u64>,
+    depth: u64,
     k: ListKind,
 ) -> Result<(), Trouble>
+    requires { depth ≤ max_depth + 1 }
     ensures same { N.heap nodes.new ≡ N.heap nodes.old }
-    ensures walks { WalksOn (N.heap nodes.old) way head k (N.visited nodes.old) (N.visited nodes.new) result }
+    ensures walks { WalksOn (N.heap nodes.old) way head depth k (N.visited nodes.old) (N.visited nodes.new) result }
 {
     let mut names = Reached::unasked();
-    match walk_list(nodes, way, head, 0, k, &mut names) {
+    match walk_list(nodes, way, head, depth, k, &mut names) {
         Ok(()) => Ok(()),
         Err(Fail::Is(why)) => Err(why),
         Err(Fail::NoMemory) => unreachable!(),
     }
+}
+
+/// Walks as `visit_on`, and puts the names that it reaches at the end of others.
+pub fn names_on<N: Nodes>(
+    alloc: Global,
+    nodes: &mut N,
+    way: Way,
+    head: Option<u64>,
+    depth: u64,
+    k: ListKind,
+    told: Vec<u64>,
+) -> Result<Vec<u64>, Fail<Trouble>>
+    requires { depth ≤ max_depth + 1 }
+    ensures same { N.heap nodes.new ≡ N.heap nodes.old }
+    ensures names { NamesOn (N.heap nodes.old) way head depth k (N.visited nodes.old) told.items (N.visited nodes.new) (result_map (λ names. names.items) result) }
+{
+    let mut names = Reached::after(told);
+    walk_list(nodes, way, head, depth, k, &mut names)?;
+    Ok(names.into_names(alloc))
 }
 
 /// Walks the list at a head, without memory, and leaves the nodes that it reaches as those visited.
@@ -113,7 +137,7 @@ pub fn visit_list<N: Nodes>(
     ensures marks { IfOk (walk_from (N.heap nodes.old) way head k) (λ names. Marks (N.visited nodes.new) names) }
 {
     nodes.begin_walk();
-    visit_on(nodes, way, head, k)
+    visit_on(nodes, way, head, 0, k)
 }
 
 /// The names that a walk of the list at a head reaches, in its order. Refuses as `visit_list`.
@@ -128,9 +152,7 @@ pub fn names_reached<N: Nodes>(
     ensures answer { Answers (result_map (λ names. names.items) result) (walk_from (N.heap nodes.old) way head k) }
 {
     nodes.begin_walk();
-    let mut names = Reached::asked(alloc);
-    walk_list(nodes, way, head, 0, k, &mut names)?;
-    Ok(names.into_names(alloc))
+    names_on(alloc, nodes, way, head, 0, k, Vec::new(alloc))
 }
 
 /// The names that the list at a head reaches, in the order of the walk, where each list holds only what it may.
@@ -147,4 +169,17 @@ pub fn check<N: Nodes>(
     ensures answer { Answers (result_map (λ names. names.items) result) (checked_walk (N.heap nodes.old) head k) }
 {
     names_reached(alloc, nodes, Way::Checked, head, k)
+}
+
+/// Does nothing. Its contract tells what each walk that ends well has reached: live names, none twice and none of those
+/// before it, the head among them, and with each the nodes to which the walk goes on from it.
+pub fn walks_are_sound()
+    ensures { (heap : Heap) (way : Way) (before : List ℕ) (head : Option ℕ) (depth : ℕ) (k : ListKind) (names : List ℕ) → walk heap way (turns_of heap) before head depth k ≡ Ok names → Sound heap way before head names }
+{
+}
+
+/// Does nothing. Its contract tells that more turns than there are live nodes change nothing.
+pub fn turns_are_enough()
+    ensures { (heap : Heap) (way : Way) (more : ℕ) (before : List ℕ) (head : Option ℕ) (depth : ℕ) (k : ListKind) → walk heap way (turns_of heap + more) before head depth k ≡ walk heap way (turns_of heap) before head depth k }
+{
 }
