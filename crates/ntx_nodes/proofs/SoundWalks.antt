@@ -95,11 +95,11 @@ sound_on heap way r a b c names n node new live s1 s2 s3 s4 =
     let f3 : AreFresh heap r m3 = fresh_append heap r m2 s3.more f2 (subst (λ x. AreFresh heap x s3.more) at2 s3.fresh) in
     let f4 : AreFresh heap r (m3 ++ s4.more) = fresh_append heap r m3 s4.more f3 (subst (λ x. AreFresh heap x s4.more) at3 s4.fresh) in
     let on : LeadsOn way names node = record {
-          first = leads_later a names _ x2 s1.begins;
-          second = leads_later b names _ x3 s2.begins;
-          third = leads_later c names _ x4 s3.begins;
-          next = subst (LeadsTo names) (links_next way node.fields) s4.begins;
-        } in
+      first = leads_later a names _ x2 s1.begins;
+      second = leads_later b names _ x3 s2.begins;
+      third = leads_later c names _ x4 s3.begins;
+      next = subst (LeadsTo names) (links_next way node.fields) s4.begins;
+    } in
     let c1 : IsClosed heap way names m1 = closed_append heap way names (n ∷ []) s1.more (closed_one heap way names n node live on) (closed_later heap way a names s1.more x2 s1.closed) in
     let c2 : IsClosed heap way names m2 = closed_append heap way names m1 s2.more c1 (closed_later heap way b names s2.more x3 s2.closed) in
     let c3 : IsClosed heap way names m3 = closed_append heap way names m2 s3.more c2 (closed_later heap way c names s3.more x4 s3.closed) in

@@ -35,4 +35,6 @@ pub use nodes::Nodes;
 pub use plain::PlainHeap;
 pub use ratio::Ratio;
 pub use trouble::{Phase, Trouble};
-pub use walk::{check, names_on, names_reached, turns_are_enough, visit_list, visit_on, walks_are_sound};
+pub use walk::{
+    check, names_on, names_reached, turns_are_enough, visit_list, visit_on, walks_are_sound,
+};

@@ -1,8 +1,8 @@
 //! Worked examples of heaps and walks, and the fields of each kind at the ends of their ranges.
 
 use crate::{
-    Field, FieldValue, Kind, ListKind, Nodes, PlainHeap, Ratio, Trouble, Way, check, names_reached,
-    visit_list, visit_on,
+    Field, FieldValue, Kind, ListKind, Nodes, PlainHeap, Ratio, Trouble, Way, check, names_on,
+    names_reached, turns_are_enough, visit_list, visit_on, walks_are_sound,
 };
 use ntx_num::Fail;
 use std::process::Abort;
@@ -256,7 +256,15 @@ fn a_node_that_two_boxes_share_is_a_loop(rt: HostRuntime) -> Result<(), test::Fa
     let names = check(rt.alloc(), &mut heap, Some(x), ListKind::H)?;
     assert_eq!(rt; names.as_slice(), [2, 1, 3].as_slice());
     heap.begin_walk();
-    let inner = names_on(rt.alloc(), &mut heap, Way::Plain, Some(x), 1, ListKind::H, names)?;
+    let inner = names_on(
+        rt.alloc(),
+        &mut heap,
+        Way::Plain,
+        Some(x),
+        1,
+        ListKind::H,
+        names,
+    )?;
     assert_eq!(rt; inner.as_slice(), [2, 1, 3, 2, 1, 3].as_slice());
     walks_are_sound();
     turns_are_enough();

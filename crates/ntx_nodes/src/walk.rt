@@ -175,11 +175,9 @@ pub fn check<N: Nodes>(
 /// before it, the head among them, and with each the nodes to which the walk goes on from it.
 pub fn walks_are_sound()
     ensures { (heap : Heap) (way : Way) (before : List ℕ) (head : Option ℕ) (depth : ℕ) (k : ListKind) (names : List ℕ) → walk heap way (turns_of heap) before head depth k ≡ Ok names → Sound heap way before head names }
-{
-}
+{}
 
 /// Does nothing. Its contract tells that more turns than there are live nodes change nothing.
 pub fn turns_are_enough()
     ensures { (heap : Heap) (way : Way) (more : ℕ) (before : List ℕ) (head : Option ℕ) (depth : ℕ) (k : ListKind) → walk heap way (turns_of heap + more) before head depth k ≡ walk heap way (turns_of heap) before head depth k }
-{
-}
+{}
