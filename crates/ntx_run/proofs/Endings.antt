@@ -1,6 +1,6 @@
 -- The ways in which a run ends, each as the definition of runs wants it.
-use Rattle.std.proofs.Common.{◌≡◌, ℕ, Bool, true, false, cond, List, [], map, Some, None, Result, Ok, Err, ◌⊎◌, inl, inr, refl, ap, sym, ◌∙◌, subst}
-use Rattle.std.specs.Prelude.{IsTrue, ◌≢◌}
+use Rattle.std.proofs.Common.{◌≡◌, ℕ, Bool, true, false, cond, List, [], map, Some, None, Result, Ok, Err, is_ok, ◌⊎◌, inl, inr, refl, ap, sym, ◌∙◌, subst}
+use Rattle.std.specs.Prelude.{IsOk, IsTrue, ◌≢◌}
 use Rattle.ntx_io.specs.Outside.{Rose, Adds, AddsFront}
 use Rattle.ntx_doc.specs.declared.command.Command.{Command}
 use Rattle.ntx_doc.specs.declared.fault.DocFault.{DocFault}
@@ -14,8 +14,8 @@ use Rattle.ntx_run.specs.declared.outcome.Which.TheVariants as which
 use Rattle.ntx_run.specs.Stop.{status_of, place_of, line_of}
 use Rattle.ntx_run.specs.Written.{Written}
 use Rattle.ntx_run.specs.Run.{Told, Ending, lines_of, fits_form, read_told, file_of, stopped, ended_well, file_ending, ending_of, run_of}
-use Rattle.ntx_run.specs.Outside.{Inputs, Outside, names_of, Tells, InputsKept, AllKept, NoneRose, InOrder, FailsAt, EndsAs, IsWhole, AddsFronts, IsReadFault, LineWritten, IsRefusal, Runs}
-use Rattle.ntx_run.specs.Parts.{ReadsDocument, ReadsEmpty, Reads, AtDocument, AtScript, AtPatterns, Typesets, LineTold, LineCutOff, NoLine, Reports}
+use Rattle.ntx_run.specs.Outside.{Inputs, Outside, names_of, Tells, InputsKept, AllKept, NoneRose, InOrder, FailsAt, EndsAs, IsWhole, AddsFronts, IsReadFault, IsFileCut, IsLineCut, LineWritten, IsBeforeDvi, Runs}
+use Rattle.ntx_run.specs.Parts.{ReadsDocument, ReadsEmpty, Reads, AtDocument, AtScript, AtPatterns, Typesets, LineWhole, LineCutOff, NoLine, Reports}
 use Rattle.ntx_run.proofs.Reading.{sources_of, names_told, document_accepted, in_order, document_refused, script_refused, patterns_refused, all_read, all_kept}
 use Rattle.ntx_run.proofs.Typesetting.{file_ends, file_whole, adds_nothing, adds_no_front, adds_whole_front}
 
@@ -117,7 +117,7 @@ module _ (words : List (List ℕ)) (before after : Outside) where
     pub words_refused : status_of why ≡ status.Words → fits_form words (names_of before.inputs) ≡ false
     pub words_first : fits_form words (names_of before.inputs) ≡ false → (status_of why ≡ status.Words) × (after.inputs ≡ before.inputs) × (after.dvi ≡ before.dvi)
     pub order : InOrder words before.inputs after.inputs
-    pub refused : IsRefusal (status_of why) → after.dvi ≡ before.dvi
+    pub before_dvi : IsBeforeDvi (status_of why) → after.dvi ≡ before.dvi
     pub dvi_kept : after.dvi.faults ≡ before.dvi.faults
     pub cause : IsRead why ⊎ IsDefined why
 
@@ -128,7 +128,7 @@ module _ (words : List (List ℕ)) (before after : Outside) where
 
   -- ---- the line was written
 
-  line_written : (why : Stop) (outcome : Outcome) → LineTold why before.lines after.lines outcome → LineWritten why before.lines after.lines
+  line_written : (why : Stop) (outcome : Outcome) → LineWhole why before.lines after.lines outcome → LineWritten why before.lines after.lines
   line_written stop.Write outcome told = tt
   line_written stop.Memory outcome told = tt
   line_written stop.Words outcome told = (told.adds, told.kept)
@@ -138,7 +138,7 @@ module _ (words : List (List ℕ)) (before after : Outside) where
   line_written (stop.Read input) outcome told = (told.adds, told.kept)
   line_written stop.DviFull outcome told = (told.adds, told.kept)
 
-  ends_told : (why : Stop) (outcome : Outcome) → IsRead why ⊎ IsDefined why → LineTold why before.lines after.lines outcome → (told : Told) → Tells before.inputs told → NoneRose before after → EndsAs (run_of words told) before after (status_of why) (place_of why)
+  ends_told : (why : Stop) (outcome : Outcome) → IsRead why ⊎ IsDefined why → LineWhole why before.lines after.lines outcome → (told : Told) → Tells before.inputs told → NoneRose before after → EndsAs (run_of words told) before after (status_of why) (place_of why)
   ends_told why outcome (inl read) line told tells none = absurd (input_rose read.input read.fault.fails none)
   ends_told why outcome (inr defined) line told tells none =
       let is : run_of words told ≡ stopped why defined.bytes = defined.gives told tells in
@@ -149,7 +149,7 @@ module _ (words : List (List ℕ)) (before after : Outside) where
         lines = subst (λ e. Adds before.lines.taken after.lines.taken (lines_of e)) (sym is) line.adds;
       }
 
-  kept_told : (why : Stop) (outcome : Outcome) → Stops why → IsRead why ⊎ IsDefined why → LineTold why before.lines after.lines outcome → status_of why ≢ status.ReadFault → AllKept before after
+  kept_told : (why : Stop) (outcome : Outcome) → Stops why → IsRead why ⊎ IsDefined why → LineWhole why before.lines after.lines outcome → status_of why ≢ status.ReadFault → AllKept before after
   kept_told why outcome stops (inl read) line no_read = absurd (no_read (ap status_of read.is))
   kept_told why outcome stops (inr defined) line no_read =
       record { inputs = defined.inputs; dvi = stops.dvi_kept; lines = line.kept }
@@ -158,7 +158,7 @@ module _ (words : List (List ℕ)) (before after : Outside) where
   read_told_of why (inl read) e = (read.input, ap place_of read.is, read.fault)
   read_told_of why (inr defined) e = absurd (defined.no_read e)
 
-  told_as : (why : Stop) (outcome : Outcome) → Stops why → LineTold why before.lines after.lines outcome → Runs words before after (status_of why) (place_of why)
+  told_as : (why : Stop) (outcome : Outcome) → Stops why → LineWhole why before.lines after.lines outcome → Runs words before after (status_of why) (place_of why)
   told_as why outcome stops line = record {
     ends = λ told tells none no_memory. ends_told why outcome stops.cause line told tells none;
     whole = λ told tells e. absurd (stops.apart.no_done e);
@@ -166,7 +166,7 @@ module _ (words : List (List ℕ)) (before after : Outside) where
     words_refused = stops.words_refused;
     words_first = λ e. let first = stops.words_first e in (inl first.0, first.1, first.2);
     in_order = stops.order;
-    refused = stops.refused;
+    before_dvi = stops.before_dvi;
     kept = λ no_read no_write no_memory. kept_told why outcome stops stops.cause line no_read;
     read_fault = read_told_of why stops.cause;
     write_fault = λ e. absurd (stops.apart.no_write e);
@@ -187,11 +187,11 @@ module _ (words : List (List ℕ)) (before after : Outside) where
     pub fronts : Fronts
 
   abbrev SinkFailed : Type 0
-  SinkFailed = (Rose before.dvi.faults after.dvi.faults × (after.lines ≡ before.lines)) ⊎ ((after.dvi.faults ≡ before.dvi.faults) × Rose before.lines.faults after.lines.faults)
+  SinkFailed = IsFileCut before after ⊎ ((why : Stop) × IsLineCut words why before after)
 
   sink_rose : SinkFailed → NoneRose before after → ⊥
-  sink_rose (inl dvi) none = none.dvi dvi.0
-  sink_rose (inr lines) none = none.lines lines.1
+  sink_rose (inl file) none = none.dvi file.rose
+  sink_rose (inr line) none = none.lines line.1.rose
 
   write_as : Breaks → SinkFailed → Runs words before after status.WriteFault None
   write_as breaks failed = record {
@@ -201,7 +201,7 @@ module _ (words : List (List ℕ)) (before after : Outside) where
     words_refused = λ e. absurd (write_no_words e);
     words_first = λ e. let first = breaks.words_first e in (inr (inl refl), first.0, first.1);
     in_order = breaks.order;
-    refused = λ r. absurd r;
+    before_dvi = λ r. absurd r;
     kept = λ no_read no_write no_memory. absurd (no_write refl);
     read_fault = λ e. absurd (write_no_read e);
     write_fault = λ e. failed;
@@ -217,7 +217,7 @@ module _ (words : List (List ℕ)) (before after : Outside) where
     words_refused = λ e. absurd (memory_no_words e);
     words_first = λ e. let first = breaks.words_first e in (inr (inr refl), first.0, first.1);
     in_order = breaks.order;
-    refused = λ r. absurd r;
+    before_dvi = λ r. absurd r;
     kept = λ no_read no_write no_memory. absurd (no_memory refl);
     read_fault = λ e. absurd (memory_no_read e);
     write_fault = λ e. absurd (memory_no_write e);
@@ -250,14 +250,38 @@ module _ (words : List (List ℕ)) (before after : Outside) where
 
   -- ---- a stop with its line
 
+  has_line : (why : Stop) → IsApart why → line_of why ≢ []
+  has_line stop.Write apart = absurd (apart.no_write refl)
+  has_line stop.Memory apart = absurd (apart.no_memory refl)
+  has_line stop.Words apart = λ e. (cc)
+  has_line (stop.Document fault) apart = λ e. (cc)
+  has_line stop.Script apart = λ e. (cc)
+  has_line stop.Patterns apart = λ e. (cc)
+  has_line (stop.Read input) apart = λ e. (cc)
+  has_line stop.DviFull apart = λ e. (cc)
+
+  cut_cause : (why : Stop) → IsRead why ⊎ IsDefined why → ((input : Which) × (why ≡ stop.Read input) × IsReadFault words input before after) ⊎ ((told : Told) → Tells before.inputs told → (run_of words told).fault_line ≡ line_of why)
+  cut_cause why (inl read) = inl (read.input, read.is, read.fault)
+  cut_cause why (inr defined) = inr (λ told tells. ap (λ e. e.fault_line) (defined.gives told tells))
+
+  line_cut : (why : Stop) (outcome : Outcome) → Stops why → LineCutOff why before.lines after.lines outcome → IsLineCut words why before after
+  line_cut why outcome stops cut = record {
+    has_line = has_line why stops.apart;
+    line = cut.adds;
+    rose = cut.rose;
+    kept = stops.dvi_kept;
+    before_dvi = stops.before_dvi;
+    cause = cut_cause why stops.cause;
+  }
+
   -- the answer of a run
   abbrev RunsTo : Outcome → Type 0
   RunsTo outcome = Runs words before after outcome.status outcome.place
 
-  pub stop_ends : (why : Stop) (outcome : Outcome) → Stops why → LineTold why before.lines after.lines outcome ⊎ (LineCutOff why before.lines after.lines outcome ⊎ NoLine stop.Memory before.lines after.lines outcome) → RunsTo outcome
+  pub stop_ends : (why : Stop) (outcome : Outcome) → Stops why → LineWhole why before.lines after.lines outcome ⊎ (LineCutOff why before.lines after.lines outcome ⊎ NoLine stop.Memory before.lines after.lines outcome) → RunsTo outcome
   stop_ends why outcome stops (inl line) = subst RunsTo (sym line.ended) (told_as why outcome stops line)
   stop_ends why outcome stops (inr (inl cut)) =
-      subst RunsTo (sym cut.ended) (write_as (breaks_of why stops cut.adds) (inr (stops.dvi_kept, cut.rose)))
+      subst RunsTo (sym cut.ended) (write_as (breaks_of why stops cut.adds) (inr (why, line_cut why outcome stops cut)))
   stop_ends why outcome stops (inr (inr none)) =
       subst RunsTo (sym none.ended) (memory_as (breaks_of why stops (no_line_front (line_of why) none.same)) (stops.dvi_kept, ap (λ o. o.faults) none.same))
 
@@ -283,9 +307,9 @@ module _ (words : List (List ℕ)) (before after : Outside) where
     );
   }
 
-  pub write_ends : (outcome : Outcome) → BreaksOff → Rose before.dvi.faults after.dvi.faults → NoLine stop.Write before.lines after.lines outcome → RunsTo outcome
-  write_ends outcome off rose none =
-      subst RunsTo (sym none.ended) (write_as (off_breaks off none.same) (inl (rose, none.same)))
+  pub write_ends : (outcome : Outcome) → BreaksOff → Rose before.dvi.faults after.dvi.faults → ((told : Told) → Tells before.inputs told → IsOk (read_told told)) → NoLine stop.Write before.lines after.lines outcome → RunsTo outcome
+  write_ends outcome off rose accepted none =
+      subst RunsTo (sym none.ended) (write_as (off_breaks off none.same) (inl (record { rose = rose; lines = none.same; accepted = accepted })))
 
   pub memory_ends : (outcome : Outcome) → BreaksOff → after.dvi.faults ≡ before.dvi.faults → NoLine stop.Memory before.lines after.lines outcome → RunsTo outcome
   memory_ends outcome off kept none =
@@ -321,7 +345,7 @@ module _ (words : List (List ℕ)) (before after : Outside) where
     words_refused = λ e. refused;
     words_first = λ e. (refl, same, same_dvi);
     order = order_same same;
-    refused = λ r. same_dvi;
+    before_dvi = λ r. same_dvi;
     dvi_kept = ap (λ o. o.faults) same_dvi;
     cause = inr (record {
       no_read = words_no_read;
@@ -336,7 +360,7 @@ module _ (words : List (List ℕ)) (before after : Outside) where
 
   -- the line of a stop, however its writing went
   abbrev Line : Stop → Outcome → Type 0
-  Line why outcome = LineTold why before.lines after.lines outcome ⊎ (LineCutOff why before.lines after.lines outcome ⊎ NoLine stop.Memory before.lines after.lines outcome)
+  Line why outcome = LineWhole why before.lines after.lines outcome ⊎ (LineCutOff why before.lines after.lines outcome ⊎ NoLine stop.Memory before.lines after.lines outcome)
 
   -- The words are accepted, the inputs were read in order, and the DVI file got nothing.
   pub record Begun : Type 0 where
@@ -351,7 +375,7 @@ module _ (words : List (List ℕ)) (before after : Outside) where
     words_refused = λ e. absurd (no_words e);
     words_first = λ e. absurd (true_is_no_false (sym begun.accepted ∙ e));
     order = begun.order;
-    refused = λ r. begun.dvi;
+    before_dvi = λ r. begun.dvi;
     dvi_kept = ap (λ o. o.faults) begun.dvi;
     cause = inr (record {
       no_read = no_read;
@@ -371,7 +395,7 @@ module _ (words : List (List ℕ)) (before after : Outside) where
     words_refused = λ e. absurd (read_no_words e);
     words_first = λ e. absurd (true_is_no_false (sym begun.accepted ∙ e));
     order = begun.order;
-    refused = λ r. begun.dvi;
+    before_dvi = λ r. begun.dvi;
     dvi_kept = ap (λ o. o.faults) begun.dvi;
     cause = inl (record {
       input = input;
@@ -522,7 +546,7 @@ module _ (words : List (List ℕ)) (before after : Outside) where
     words_refused = λ e. absurd (full_no_words e);
     words_first = λ e. absurd (true_is_no_false (sym typeset.accepted ∙ e));
     order = typeset_order commands typeset;
-    refused = λ r. absurd r;
+    before_dvi = λ r. absurd r;
     dvi_kept = typesets.2;
     cause = inr (record {
       no_read = full_no_read;
@@ -533,7 +557,7 @@ module _ (words : List (List ℕ)) (before after : Outside) where
     });
   }) reports
   stopped_as commands stop.Write outcome typeset typesets reports =
-      write_ends outcome (typeset_off commands typeset typesets.0) typesets.1 reports
+      write_ends outcome (typeset_off commands typeset typesets.0) typesets.1 (λ told tells. ap is_ok (all_read before.inputs after.inputs commands typeset.reads told tells).0) reports
   stopped_as commands stop.Memory outcome typeset typesets reports =
       memory_ends outcome (typeset_off commands typeset typesets.0) typesets.1 reports
   stopped_as commands why outcome typeset typesets reports = absurd typesets
@@ -577,7 +601,7 @@ module _ (words : List (List ℕ)) (before after : Outside) where
       let read = all_read before.inputs after.inputs commands typeset.reads told tells in
       record {
         at_end = read.1;
-        ended = done_ends commands typeset typesets lines told tells;
+        ends_as = done_ends commands typeset typesets lines told tells;
         commands = commands;
         read = read.0;
         file = ap (λ e. e.dvi) is ∙ file_whole commands typesets.0;
@@ -590,11 +614,11 @@ module _ (words : List (List ℕ)) (before after : Outside) where
   done_as commands typeset typesets lines = record {
     ends = λ told tells none no_memory. done_ends commands typeset typesets lines told tells;
     whole = λ told tells e. done_whole commands typeset typesets lines told tells;
-    reason = inl (refl, refl);
+    reason = inl (record { status_is = refl; place_is = refl; commands = commands; dvi = subst (Adds before.dvi.taken after.dvi.taken) (file_whole commands typesets.0) typesets.1; lines = lines });
     words_refused = λ e. absurd (done_no_words e);
     words_first = λ e. absurd (true_is_no_false (sym typeset.accepted ∙ e));
     in_order = typeset_order commands typeset;
-    refused = λ r. absurd r;
+    before_dvi = λ r. absurd r;
     kept = λ no_read no_write no_memory. record { inputs = typeset_kept commands typeset; dvi = typesets.2; lines = ap (λ o. o.faults) lines };
     read_fault = λ e. absurd (done_no_read e);
     write_fault = λ e. absurd (done_no_write e);

@@ -106,7 +106,7 @@ DocumentAccepted before after = IsAccepted (λ bytes. IsOk (read_document bytes)
 abbrev pub EmptyAccepted : Input → Input → Type 0
 EmptyAccepted before after = IsAccepted (λ bytes. bytes ≡ []) before after
 
--- A source is touched only where the words and all inputs before it are accepted. Feeds are not read.
+-- A source is touched only where the words and all inputs before it are accepted, as far as they tell. Feeds are not read.
 pub record InOrder (words : List (List ℕ)) (before after : Inputs) : Type 0 where
   pub document : (after.document ≡ before.document) ⊎ IsTrue (fits_form words (names_of before))
   pub script : (after.script ≡ before.script) ⊎ (IsTrue (fits_form words (names_of before)) × DocumentAccepted before.document after.document)
@@ -125,16 +125,16 @@ FailsAt which.Patterns before after =
 -- ---- the whole run
 
 -- The run ended as defined: with this status and place, and where the sinks tell with these bytes and lines.
-pub record EndsAs (ending : Ending) (before after : Outside) (status : Status) (place : Option Place) : Type 0 where
-  pub status_is : status ≡ ending.status
-  pub place_is : place ≡ ending.place
+pub record EndsAs (ending : Ending) (before after : Outside) (ended : Status) (at : Option Place) : Type 0 where
+  pub status_is : ended ≡ ending.status
+  pub place_is : at ≡ ending.place
   pub dvi : Adds before.dvi.taken after.dvi.taken ending.dvi
   pub lines : Adds before.lines.taken after.lines.taken (lines_of ending)
 
 -- All was read, and the whole DVI file of the document's commands was written, to its last byte, a filler. Nothing tells of a fault.
-pub record IsWhole (told : Told) (ending : Ending) (before after : Outside) (status : Status) (place : Option Place) : Type 0 where
+pub record IsWhole (told : Told) (ending : Ending) (before after : Outside) (ended : Status) (at : Option Place) : Type 0 where
   pub at_end : AreAtEnd after.inputs
-  pub ended : EndsAs ending before after status place
+  pub ends_as : EndsAs ending before after ended at
   pub commands : List Command
   pub read : read_told told ≡ Ok commands
   pub file : ending.dvi ≡ file_bytes start (document_operations commands)
@@ -159,42 +159,67 @@ LineWritten stop.Write before after = Unit {0}
 LineWritten stop.Memory before after = Unit {0}
 LineWritten why before after = Adds before.taken after.taken (line_of why) × (after.faults ≡ before.faults)
 
-pub record StopsFor (why : Stop) (before after : Outside) (status : Status) (place : Option Place) : Type 0 where
-  pub status_is : status ≡ status_of why
-  pub place_is : place ≡ place_of why
+pub record StopsFor (why : Stop) (before after : Outside) (ended : Status) (at : Option Place) : Type 0 where
+  pub status_is : ended ≡ status_of why
+  pub place_is : at ≡ place_of why
   pub line : LineWritten why before.lines after.lines
 
--- A refusal: nothing was given to the DVI file.
-abbrev pub IsRefusal : Status → Type 0
-IsRefusal status.Words = Unit {0}
-IsRefusal status.Document = Unit {0}
-IsRefusal status.Script = Unit {0}
-IsRefusal status.Patterns = Unit {0}
-IsRefusal status.ReadFault = Unit {0}
-IsRefusal _ = ⊥
+-- The run ended well: the DVI file of some commands was written whole, and nothing was printed.
+pub record EndsWell (before after : Outside) (ended : Status) (at : Option Place) : Type 0 where
+  pub status_is : ended ≡ status.Done
+  pub place_is : at ≡ None
+  pub commands : List Command
+  pub dvi : Adds before.dvi.taken after.dvi.taken (file_bytes start (document_operations commands))
+  pub lines : after.lines ≡ before.lines
+
+-- The statuses of runs that stopped before the DVI file got its first byte.
+abbrev pub IsBeforeDvi : Status → Type 0
+IsBeforeDvi status.Words = Unit {0}
+IsBeforeDvi status.Document = Unit {0}
+IsBeforeDvi status.Script = Unit {0}
+IsBeforeDvi status.Patterns = Unit {0}
+IsBeforeDvi status.ReadFault = Unit {0}
+IsBeforeDvi _ = ⊥
+
+-- The DVI file could not be written whole, though the inputs are accepted. Nothing is printed.
+pub record IsFileCut (before after : Outside) : Type 0 where
+  pub rose : Rose before.dvi.faults after.dvi.faults
+  pub lines : after.lines ≡ before.lines
+  pub accepted : (told : Told) → Tells before.inputs told → IsOk (read_told told)
+
+-- The line of this stop could not be written whole. It tells of a source that failed, or is the one that is defined.
+pub record IsLineCut (words : List (List ℕ)) (why : Stop) (before after : Outside) : Type 0 where
+  pub has_line : line_of why ≢ []
+  pub line : AddsFront before.lines.taken after.lines.taken (line_of why)
+  pub rose : Rose before.lines.faults after.lines.faults
+  pub kept : after.dvi.faults ≡ before.dvi.faults
+  pub before_dvi : IsBeforeDvi (status_of why) → after.dvi ≡ before.dvi
+  pub cause : ((input : Which) × (why ≡ stop.Read input) × IsReadFault words input before after) ⊎ ((told : Told) → Tells before.inputs told → (run_of words told).fault_line ≡ line_of why)
 
 -- What a run does, and how it ends.
 pub record Runs (words : List (List ℕ)) (before after : Outside) (ended : Status) (at : Option Place) : Type 0 where
   -- Where the sources tell their bytes and no count of faults rose, the run ends as defined, unless memory ran out.
   pub ends : (told : Told) → Tells before.inputs told → NoneRose before after → ended ≢ status.Memory → EndsAs (run_of words told) before after ended at
-  -- Where it ended well, all was read and all was written.
+  -- Where it ended well and the sources tell their bytes, all was read and all was written.
   pub whole : (told : Told) → Tells before.inputs told → ended ≡ status.Done → IsWhole told (run_of words told) before after ended at
-  -- It ended well or stopped for some reason, and told of it.
-  pub reason : ((ended ≡ status.Done) × (at ≡ None)) ⊎ ((why : Stop) × StopsFor why before after ended at)
-  -- The words are refused exactly where they are not of the form, and then nothing is read.
+  -- It ended well, or it stopped for some reason and told of it.
+  pub reason : EndsWell before after ended at ⊎ ((why : Stop) × StopsFor why before after ended at)
+  -- Words that are not of the form, or any feed beside them, are refused, and no others. Nothing is read then or given to the DVI file, also
+  -- where the line that tells of it could not be written.
   pub words_refused : ended ≡ status.Words → fits_form words (names_of before.inputs) ≡ false
   pub words_first : fits_form words (names_of before.inputs) ≡ false → ((ended ≡ status.Words) ⊎ ((ended ≡ status.WriteFault) ⊎ (ended ≡ status.Memory))) × (after.inputs ≡ before.inputs) × (after.dvi ≡ before.dvi)
-  -- A source behind one that is refused is not read.
+  -- No source is read behind refused words, or behind a source that was refused or failed. Feeds are not read.
   pub in_order : InOrder words before.inputs after.inputs
-  pub refused : IsRefusal ended → after.dvi ≡ before.dvi
+  -- A run that stopped at its words or inputs gave nothing to the DVI file.
+  pub before_dvi : IsBeforeDvi ended → after.dvi ≡ before.dvi
   -- No fault of the outside is passed over.
   pub kept : ended ≢ status.ReadFault → ended ≢ status.WriteFault → ended ≢ status.Memory → AllKept before after
   -- A read fault names the source that failed.
   pub read_fault : ended ≡ status.ReadFault → (input : Which) × (at ≡ Some (place.Input input)) × IsReadFault words input before after
-  -- At a write fault one sink failed, and nothing was written after that.
-  pub write_fault : ended ≡ status.WriteFault → (Rose before.dvi.faults after.dvi.faults × (after.lines ≡ before.lines)) ⊎ ((after.dvi.faults ≡ before.dvi.faults) × Rose before.lines.faults after.lines.faults)
+  -- At a write fault one sink failed: the DVI file's, and then nothing is printed; or that of the lines, at the line of a stop.
+  pub write_fault : ended ≡ status.WriteFault → IsFileCut before after ⊎ ((why : Stop) × IsLineCut words why before after)
   -- Where memory ran out no sink failed.
   pub memory : ended ≡ status.Memory → (after.dvi.faults ≡ before.dvi.faults) × (after.lines.faults ≡ before.lines.faults)
-  -- At a write fault, and where memory ran out, no source failed and the sinks took first bytes of what is defined; or one failed, and they took first
-  -- bytes of the line that tells of it.
+  -- At a write fault, and where memory ran out: no source failed, and where the sources tell the sinks took first bytes of what is defined; or a
+  -- source failed, the DVI file got nothing, and of the line that tells of it some first bytes were printed.
   pub fronts : (ended ≡ status.WriteFault) ⊎ (ended ≡ status.Memory) → (InputsKept before.inputs after.inputs × ((told : Told) → Tells before.inputs told → AddsFronts (run_of words told) before after)) ⊎ ((input : Which) × IsReadFault words input before after × AddsFront before.lines.taken after.lines.taken (line_of (stop.Read input)))

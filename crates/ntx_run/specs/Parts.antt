@@ -1,4 +1,4 @@
--- What the parts of a run do: reading the inputs, typesetting the commands, telling of a stop. Only private calls are tied to these words.
+-- What the parts of a run do: reading the inputs, typesetting the commands, telling of a stop. Only contracts of private calls use these definitions.
 use Rattle.std.specs.Prelude.{◌≡◌, ◌≢◌, false, true, ◌⊎◌, ℕ, List, [], Option, Some, Result, Ok, Err}
 use Rattle.ntx_num.specs.declared.answer.Fail.{Fail}
 use Rattle.ntx_num.specs.declared.answer.Fail.TheVariants as fail
@@ -95,7 +95,7 @@ HandsOver drawn bytes before after result = ⊥
 -- ---- telling
 
 -- The line was written.
-pub record LineTold (why : Stop) (before after : Output) (outcome : Outcome) : Type 0 where
+pub record LineWhole (why : Stop) (before after : Output) (outcome : Outcome) : Type 0 where
   pub ended : outcome ≡ outcome_of why
   pub adds : Adds before.taken after.taken (line_of why)
   pub kept : after.faults ≡ before.faults
@@ -116,4 +116,4 @@ abbrev pub Reports : Stop → Output → Output → Outcome → Type 0
 Reports stop.Write before after outcome = NoLine stop.Write before after outcome
 Reports stop.Memory before after outcome = NoLine stop.Memory before after outcome
 Reports why before after outcome =
-    LineTold why before after outcome ⊎ (LineCutOff why before after outcome ⊎ NoLine stop.Memory before after outcome)
+    LineWhole why before after outcome ⊎ (LineCutOff why before after outcome ⊎ NoLine stop.Memory before after outcome)

@@ -35,7 +35,7 @@ fn report<L: Sink>(alloc: Global, stop: Stop, lines: &mut L) -> Outcome
 /// patterns and the DVI file. The DVI file goes to `dvi`, and what is printed to `lines`.
 ///
 /// The inputs are read in this order, and the first refusal ends the run: of the words, the document, the script, the patterns. What is
-/// behind a refusal is not read. A script and patterns have to be empty, and there are no fonts.
+/// behind a refusal, or behind a source that failed, is not read. A script and patterns have to be empty, and there are no fonts.
 pub fn run<D: Source, S: Source, P: Source, O: Sink, L: Sink>(
     alloc: Global,
     words: &[String],
