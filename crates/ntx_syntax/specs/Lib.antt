@@ -1,0 +1,5 @@
+pub mod Bytes
+pub mod Lexes
+pub mod Pieces
+pub mod Values
+pub mod Why

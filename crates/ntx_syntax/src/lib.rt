@@ -1,0 +1,18 @@
+//! The syntax of scripts: tokens, faults, and the tree of a script.
+//!
+//! Scripts are written in a profile of Lua 5.3 (Lua 5.3 Reference Manual, sections 3.1 and 9): integers alone, texts on one
+//! line, and fewer symbols. The crate cuts a script into its tokens, and has the types of the tree that a parser makes of
+//! them. It stands on `ntx_num` for answers and on `sqlite_items` for the lists and boxes by which a tree holds its parts.
+#![tactic(auto)]
+
+mod fault;
+mod piece;
+mod token;
+mod tree;
+
+pub use fault::{SyntaxFault, SyntaxWhy};
+pub use token::{Sort, Token};
+pub use tree::{
+    BinaryOp, Block, Call, Chunk, Exp, Field, FunctionBody, Head, IfArm, LocalName, Name,
+    Operation, Prefix, Return, Stat, StatKind, Suffix, UnaryOp, Var,
+};
