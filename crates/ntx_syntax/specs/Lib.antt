@@ -1,4 +1,5 @@
 pub mod Bytes
+pub mod Front
 pub mod Lexes
 pub mod Pieces
 pub mod Values

@@ -53,24 +53,21 @@ text_piece bytes = if is_some (text_value bytes) then Some (Token sort.Text) els
 
 -- ---- comments
 
-abbrev pub equal_signs : List ℕ → ℕ
-equal_signs bytes = prefix_len (λ b. b == 61) bytes
+-- The level of the long bracket at the front: this mark, as many `=` as the level says, and the mark again. `[` opens and `]` closes.
+abbrev pub bracket_level : ℕ → List ℕ → Option ℕ
+bracket_level mark bytes =
+    let level = prefix_len (λ b. b == 61) (drop 1 bytes) in
+    if slice_index bytes 0 == mark && slice_index bytes (level + 1) == mark then Some level else None
 
--- the level of the opening bracket at the front: `[`, as many `=` as the level says, and `[`
-abbrev pub opening_level : List ℕ → Option ℕ
-opening_level bytes =
-    let level = equal_signs (drop 1 bytes) in
-    if slice_index bytes 0 == 91 && slice_index bytes (level + 1) == 91 then Some level else None
-
--- `]`, as many `=`, and `]`
-abbrev pub closing_bracket : ℕ → List ℕ
-closing_bracket level = 93 ∷ replicate level 61 ++ 93 ∷ []
+abbrev pub is_level : ℕ → Option ℕ → Bool
+is_level level None = false
+is_level level (Some n) = n == level
 
 -- The first closing bracket of this level in the bytes is at their end.
 abbrev pub ends_at_bracket : ℕ → List ℕ → Bool
 ends_at_bracket level [] = false
 ends_at_bracket level (b ∷ bytes) =
-    if starts_with nat_eq (b ∷ bytes) (closing_bracket level) then length (b ∷ bytes) == level + 2 else ends_at_bracket level bytes
+    if is_level level (bracket_level 93 (b ∷ bytes)) then length (b ∷ bytes) == level + 2 else ends_at_bracket level bytes
 
 -- What stands behind the opening bracket of a long comment. One that no closing bracket follows is wrong by itself.
 abbrev pub long_comment_piece : ℕ → List ℕ → Option Piece
@@ -83,7 +80,7 @@ comment_piece_at None bytes = piece_if (list_all (λ b. not (is_line_end b)) byt
 comment_piece_at (Some level) bytes = long_comment_piece level (drop (level + 2) bytes)
 
 abbrev pub comment_piece : List ℕ → Option Piece
-comment_piece bytes = comment_piece_at (opening_level bytes) bytes
+comment_piece bytes = comment_piece_at (bracket_level 91 bytes) bytes
 
 abbrev pub begins_comment : List ℕ → Bool
 begins_comment bytes = slice_index bytes 0 == 45 && slice_index bytes 1 == 45

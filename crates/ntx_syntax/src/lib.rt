@@ -5,14 +5,25 @@
 //! them. It stands on `ntx_num` for answers and on `sqlite_items` for the lists and boxes by which a tree holds its parts.
 #![tactic(auto)]
 
+mod bytes;
+mod comment;
 mod fault;
+mod lex;
+mod numeral;
 mod piece;
+mod symbol;
+mod text;
 mod token;
 mod tree;
+mod word;
 
 pub use fault::{SyntaxFault, SyntaxWhy};
+pub use lex::tokens;
 pub use token::{Sort, Token};
 pub use tree::{
     BinaryOp, Block, Call, Chunk, Exp, Field, FunctionBody, Head, IfArm, LocalName, Name,
     Operation, Prefix, Return, Stat, StatKind, Suffix, UnaryOp, Var,
 };
+
+#[cfg(test)]
+mod tests;
