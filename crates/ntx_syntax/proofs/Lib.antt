@@ -1,2 +1,5 @@
+pub mod NumeralLemmas
+pub mod OptionLemmas
 pub mod RunLemmas
-pub mod Rows
+pub mod TextLemmas
+pub mod WordLemmas

@@ -1,12 +1,12 @@
 -- The piece at the front of bytes, and how its end is found.
-use Rattle.std.specs.Prelude.{◌≡◌, ◌<◌, ◌≤◌, ℕ, zero, suc, ◌+◌, ◌==◌, ◌&&◌, not, slice_index, Bool, List, [], ◌∷◌, length, take, Option, None, Some, option_map, option_and_then, if◌then◌else◌}
+use Rattle.std.specs.Prelude.{◌≡◌, ◌<◌, ◌≤◌, ℕ, zero, suc, ◌+◌, ◌==◌, ◌&&◌, ◌||◌, true, false, not, slice_index, nat_le, Bool, List, [], ◌∷◌, length, take, Option, None, Some, option_map, option_and_then, if◌then◌else◌}
 use Rattle.std.specs.Char.{is_ascii_digit, is_ascii_hexdigit}
 use Rattle.ntx_syntax.specs.declared.bytes.Class.{Class}
 use Rattle.ntx_syntax.specs.declared.bytes.Class.TheVariants as class
 use Rattle.ntx_syntax.specs.declared.piece.Piece.{Piece}
 use Rattle.ntx_syntax.specs.Bytes.{is_line_end, continues_name}
-use Rattle.ntx_syntax.specs.Values.{escape}
-use Rattle.ntx_syntax.specs.Pieces.{piece_of, bracket_level, is_level, comment_piece}
+use Rattle.ntx_syntax.specs.Values.{escape, is_decimal, is_hexadecimal}
+use Rattle.ntx_syntax.specs.Pieces.{piece_of, bracket_level, is_level, comment_piece, symbol_piece}
 
 -- The front of this length spells this piece, and no longer front spells one, as `spelled` has it.
 pub record IsFrontOf (spelled : List ℕ → Option Piece) (bytes : List ℕ) (len : ℕ) (piece : Piece) : Type 0 where
@@ -32,6 +32,13 @@ is_in class.EqualSign b = b == 61
 -- `0x` and a hexadecimal digit
 abbrev pub begins_hexadecimal : List ℕ → Bool
 begins_hexadecimal bytes = slice_index bytes 0 == 48 && slice_index bytes 1 == 120 && is_ascii_hexdigit (slice_index bytes 2)
+
+-- So many bytes have the form of a numeral, and no more have.
+pub record EndsForm (bytes : List ℕ) (len : ℕ) : Type 0 where
+  pub some : 0 < len
+  pub within : len ≤ length bytes
+  pub form : (is_decimal (take len bytes) || is_hexadecimal (take len bytes)) ≡ true
+  pub past : (n : ℕ) → len < n → n ≤ length bytes → (is_decimal (take n bytes) || is_hexadecimal (take n bytes)) ≡ false
 
 -- ---- texts
 
@@ -59,3 +66,9 @@ pub record IsCommentRest (bytes : List ℕ) (len : ℕ) (piece : Piece) : Type 0
   pub within : len ≤ length bytes
   pub spells : comment_piece (take len bytes) ≡ Some piece
   pub longest : (n : ℕ) → len < n → n ≤ length bytes → comment_piece (take n bytes) ≡ None
+
+-- ---- symbols
+
+-- what so many bytes at the front spell as a symbol, if there are so many
+abbrev pub symbol_at : ℕ → List ℕ → Option Piece
+symbol_at len bytes = if nat_le len (length bytes) then symbol_piece (take len bytes) else None

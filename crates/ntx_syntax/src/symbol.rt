@@ -2,7 +2,7 @@
 
 ghost use Rattle.std.specs.Prelude.{◌≡◌, ◌<◌, length};
 ghost use Rattle.ntx_syntax.specs.Pieces.{symbol_piece};
-ghost use Rattle.ntx_syntax.specs.Front.{IsFrontOf};
+ghost use Rattle.ntx_syntax.specs.Front.{IsFrontOf, symbol_at};
 
 use crate::fault::SyntaxWhy;
 use crate::piece::Piece;
@@ -33,23 +33,31 @@ fn symbol_piece(bytes: &[u8]) -> Option<Piece>
     }
 }
 
+/// What so many bytes at the front spell as a symbol, if there are so many.
+fn symbol_at(len: usize, bytes: &[u8]) -> Option<Piece>
+    ensures { result ≡ symbol_at len bytes.now }
+{
+    if len <= bytes.len() {
+        symbol_piece(&bytes[..len])
+    } else {
+        None
+    }
+}
+
 /// The symbol at the front, the longest that stands there, or the byte there that begins nothing.
 pub fn symbol(bytes: &[u8]) -> (Piece, usize)
     requires { 0 < length bytes.now }
     ensures { IsFrontOf symbol_piece bytes.now result.1 result.0 }
 {
-    if bytes.len() >= 3 {
-        if let Some(piece) = symbol_piece(&bytes[..3]) {
-            return (piece, 3);
-        }
-    }
-    if bytes.len() >= 2 {
-        if let Some(piece) = symbol_piece(&bytes[..2]) {
-            return (piece, 2);
-        }
-    }
-    match symbol_piece(&bytes[..1]) {
-        Some(piece) => (piece, 1),
-        None => (Piece::Wrong(SyntaxWhy::Byte), 1),
+    match symbol_at(3, bytes) {
+        Some(piece) => (piece, 3),
+        None => match symbol_at(2, bytes) {
+            Some(piece) => (piece, 2),
+            None => match symbol_at(1, bytes) {
+                Some(piece) => (piece, 1),
+                // Each byte alone spells a symbol or is wrong.
+                None => unreachable!(),
+            },
+        },
     }
 }
