@@ -4,8 +4,8 @@ use Rattle.std.specs.Prelude.{slice_index, is_some, nat_eq, nat_le, option_map, 
 use Rattle.std.specs.List.{prefix_len}
 use Rattle.std.specs.Char.{is_ascii_digit, is_ascii_hexdigit}
 use Rattle.std.specs.Str.Parse.{digits_value}
-use Rattle.std.proofs.lemmas.Bool.{false≢true, cases_Bool, cases_lt, ne_eqb}
-use Rattle.std.proofs.lemmas.List.{at_drop_more}
+use Rattle.std.proofs.lemmas.Bool.{false≢true, cases_Bool, cases_lt, ne_eqb, eq-eqb}
+use Rattle.std.proofs.lemmas.List.{at_drop_more, length-take-le, drop-drop}
 use Rattle.ntx_syntax.specs.declared.token.Sort.TheVariants as sort
 use Rattle.ntx_syntax.specs.declared.fault.SyntaxWhy.TheVariants as why
 use Rattle.ntx_syntax.specs.declared.piece.Piece.TheVariants.{Token, Wrong}
@@ -154,3 +154,111 @@ characters-take quote zero (b ∷ bytes) (suc m) h =
     (λ _. same_choice (nat_eq b 92) (option_and_then (λ e. option_map (λ others. e.0 ∷ others) (characters quote e.1 (take m bytes))) (escape (take m bytes))) _ (suc m) (option_and_then (λ e. option_map suc (quoted_len quote e.1 bytes)) (escape bytes)) _
         (λ _. after_escape quote bytes m (escape (take m bytes)) (escape bytes) (λ k. characters-take quote k bytes m (omega arith)) (escape-take m bytes))
         (λ _. is_some-map (λ others. b ∷ others) (characters quote 0 (take m bytes)) ∙ characters-take quote 0 bytes m (omega arith) ∙ sym (is_at-suc m (quoted_len quote 0 bytes)))))
+
+-- ---- texts at the front
+
+text_piece_is : (some one : Bool) → some ≡ true → cond some (Some (Token sort.Text)) (piece_if one (Wrong why.Text)) ≡ Some (Token sort.Text)
+text_piece_is some one h = rw h refl
+
+no_text_piece : (some one : Bool) → some ≡ false → one ≡ false → cond some (Some (Token sort.Text)) (piece_if one (Wrong why.Text)) ≡ None
+no_text_piece some one h e = rw (h, e) refl
+
+lone_quote : (some one : Bool) → some ≡ false → one ≡ true → cond some (Some (Token sort.Text)) (piece_if one (Wrong why.Text)) ≡ Some (Wrong why.Text)
+lone_quote some one h e = rw (h, e) refl
+
+-- A front with a quote is a text just where it has the length of one.
+text_value-take : (quote : ℕ) (bytes : List ℕ) (m : ℕ) → is_quote quote ≡ true → m ≤ length bytes → is_some (text_value (quote ∷ take m bytes)) ≡ is_at m (quoted_len quote 0 bytes)
+text_value-take quote bytes m h within = ap (λ t. is_some (cond t (characters quote 0 (take m bytes)) None)) h ∙ characters-take quote 0 bytes m within
+
+at_some : (n : ℕ) → is_at n (Some n) ≡ true
+at_some n = eq-eqb n n refl
+
+not_past_some : (n m : ℕ) → n < m → is_at m (Some n) ≡ false
+not_past_some n m h = ne_eqb n m (λ e. omega arith)
+
+longer_than_one : (quote : ℕ) (bytes : List ℕ) (m : ℕ) → 0 < m → m ≤ length bytes → nat_eq (length (quote ∷ take m bytes)) 1 ≡ false
+longer_than_one quote bytes m some within = let long = length-take-le m bytes within in ne_eqb (suc (length (take m bytes))) 1 (λ e. omega arith)
+
+pub text_right : (bytes : List ℕ) (len : ℕ) → is_quote (slice_index bytes 0) ≡ true → quoted_len (slice_index bytes 0) 0 (drop 1 bytes) ≡ Some len → len ≤ length (drop 1 bytes) → IsFrontOf text_piece bytes (len + 1) (Token sort.Text)
+text_right [] len quote closed within = absurd (false≢true quote)
+text_right (b ∷ bytes) len quote closed within =
+    let at : len + 1 ≡ suc len = omega arith in
+    subst (λ n. IsFrontOf text_piece (b ∷ bytes) n (Token sort.Text)) (sym at) (record {
+      some = omega arith;
+      within = omega arith;
+      spells = text_piece_is (is_some (text_value (b ∷ take len bytes))) (nat_eq (length (b ∷ take len bytes)) 1) (text_value-take b bytes len quote within ∙ ap (is_at len) closed ∙ at_some len);
+      longest = longer
+    })
+  where
+    longer : (n : ℕ) → suc len < n → n ≤ length (b ∷ bytes) → text_piece (take n (b ∷ bytes)) ≡ None
+    longer zero more whole = absurd (omega arith)
+    longer (suc m) more whole =
+        no_text_piece (is_some (text_value (b ∷ take m bytes))) (nat_eq (length (b ∷ take m bytes)) 1)
+        (text_value-take b bytes m quote (omega arith) ∙ ap (is_at m) closed ∙ not_past_some len m (omega arith))
+        (longer_than_one b bytes m (omega arith) (omega arith))
+
+pub text_open : (bytes : List ℕ) → is_quote (slice_index bytes 0) ≡ true → quoted_len (slice_index bytes 0) 0 (drop 1 bytes) ≡ None → IsFrontOf text_piece bytes 1 (Wrong why.Text)
+text_open [] quote unclosed = absurd (false≢true quote)
+text_open (b ∷ bytes) quote unclosed = record {
+  some = omega arith;
+  within = omega arith;
+  spells = lone_quote (is_some (text_value (b ∷ []))) true (text_value-take b bytes 0 quote (omega arith) ∙ ap (is_at 0) unclosed) refl;
+  longest = longer
+}
+  where
+    longer : (n : ℕ) → 1 < n → n ≤ length (b ∷ bytes) → text_piece (take n (b ∷ bytes)) ≡ None
+    longer zero more whole = absurd (omega arith)
+    longer (suc m) more whole =
+        no_text_piece (is_some (text_value (b ∷ take m bytes))) (nat_eq (length (b ∷ take m bytes)) 1)
+        (text_value-take b bytes m quote (omega arith) ∙ ap (is_at m) unclosed)
+        (longer_than_one b bytes m (omega arith) (omega arith))
+
+-- ---- the search for the end
+
+quoted_len-drop : (quote k : ℕ) (bytes : List ℕ) → quoted_len quote k bytes ≡ option_map (λ n. k + n) (quoted_len quote 0 (drop k bytes))
+quoted_len-drop quote zero bytes = sym (map-zero (quoted_len quote 0 bytes))
+quoted_len-drop quote (suc k) [] = refl
+quoted_len-drop quote (suc k) (b ∷ bytes) = ap (option_map suc) (quoted_len-drop quote k bytes) ∙ map-suc k (quoted_len quote 0 (drop k bytes))
+
+-- the search at one byte, by the tests of the byte
+abbrev step : Bool → Bool → Bool → Option ℕ → Option ℕ → Option ℕ
+step closes ends slash escaped others = cond closes (Some 1) (cond ends None (cond slash escaped (option_map suc others)))
+
+abbrev escaped_len : ℕ → List ℕ → Option (ℕ × ℕ) → Option ℕ
+escaped_len quote bytes e = option_and_then (λ x. option_map suc (quoted_len quote x.1 bytes)) e
+
+-- Up to a place nothing has closed the text: what is found from there on is what is found in all.
+module _ (quote at : ℕ) (bytes : List ℕ) (total : Option ℕ) (so_far : option_map (λ n. at + n) (quoted_len quote 0 (drop at bytes)) ≡ total) (within : at < length bytes) where
+  abbrev b : ℕ
+  b = slice_index bytes at
+
+  abbrev rest : List ℕ
+  rest = drop (at + 1) bytes
+
+  next_is : option_map (λ n. at + n) (step (nat_eq b quote) (is_line_end b) (nat_eq b 92) (escaped_len quote rest (escape rest)) (quoted_len quote 0 rest)) ≡ total
+  next_is = sym (at_drop_more (λ others. option_map (λ n. at + n) (quoted_len quote 0 others)) bytes at 0 within) ∙ so_far
+
+  step_is : (closes ends slash : Bool) → nat_eq b quote ≡ closes → is_line_end b ≡ ends → nat_eq b 92 ≡ slash → option_map (λ n. at + n) (step closes ends slash (escaped_len quote rest (escape rest)) (quoted_len quote 0 rest)) ≡ total
+  step_is closes ends slash c e s = (λ i. option_map (λ n. at + n) (step (sym c i) (sym e i) (sym s i) (escaped_len quote rest (escape rest)) (quoted_len quote 0 rest))) ∙ next_is
+
+  pub closes_here : nat_eq b quote ≡ true → Some (at + 1) ≡ total
+  closes_here h = step_is true (is_line_end b) (nat_eq b 92) h refl refl
+
+  pub ends_here : nat_eq b quote ≡ false → is_line_end b ≡ true → None ≡ total
+  ends_here c h = step_is false true (nat_eq b 92) c h refl
+
+  pub plain_here : nat_eq b quote ≡ false → is_line_end b ≡ false → nat_eq b 92 ≡ false → option_map (λ n. at + 1 + n) (quoted_len quote 0 rest) ≡ total
+  plain_here c e s = sym (map-suc_more at (quoted_len quote 0 rest)) ∙ step_is false false false c e s
+
+  pub no_escape_here : nat_eq b quote ≡ false → is_line_end b ≡ false → nat_eq b 92 ≡ true → escape rest ≡ None → None ≡ total
+  no_escape_here c e s none = ap (λ x. option_map (λ n. at + n) (escaped_len quote rest x)) (sym none) ∙ step_is false false true c e s
+
+  pub escape_here : nat_eq b quote ≡ false → is_line_end b ≡ false → nat_eq b 92 ≡ true → (v k : ℕ) → escape rest ≡ Some (v, k) → option_map (λ n. at + 1 + k + n) (quoted_len quote 0 (drop (at + 1 + k) bytes)) ≡ total
+  escape_here c e s v k is =
+      let later : drop k rest ≡ drop (at + 1 + k) bytes = drop-drop k (at + 1) bytes in
+      ap (λ others. option_map (λ n. at + 1 + k + n) (quoted_len quote 0 others)) (sym later)
+      ∙ sym (map-more (at + 1) k (quoted_len quote 0 (drop k rest)))
+      ∙ ap (option_map (λ n. at + 1 + n)) (sym (quoted_len-drop quote k rest))
+      ∙ sym (map-suc_more at (quoted_len quote k rest))
+      ∙ ap (λ x. option_map (λ n. at + n) (escaped_len quote rest x)) (sym is)
+      ∙ step_is false false true c e s
