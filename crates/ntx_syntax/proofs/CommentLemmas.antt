@@ -2,6 +2,7 @@
 use Rattle.std.proofs.Common.{◌≡◌, ℕ, zero, suc, ◌+◌, ◌-◌, ◌<◌, ◌≤◌, min, Bool, true, false, ◌&&◌, cond, List, [], ◌∷◌, length, take, drop, Option, Some, None, refl, sym, ap, ◌∙◌, subst, ⊎_elim, arith}
 use Rattle.std.specs.Prelude.{slice_index, is_some, nat_eq, option_map, not, ◌==◌}
 use Rattle.std.specs.List.{prefix_len, list_all}
+use Rattle.std.specs.Option.{option_eq}
 use Rattle.std.proofs.lemmas.Bool.{false≢true, cases_Bool, cases_lt, ne_eqb, eq-eqb, eqb-true, and_parts}
 use Rattle.std.proofs.lemmas.List.{at_drop_more, length-take-le, length-drop, drop-take}
 use Rattle.std.proofs.lemmas.List.Sums.{prefix_len-le-length}
@@ -9,7 +10,7 @@ use Rattle.ntx_syntax.specs.declared.fault.SyntaxWhy.TheVariants as why
 use Rattle.ntx_syntax.specs.declared.piece.Piece.{Piece}
 use Rattle.ntx_syntax.specs.declared.piece.Piece.TheVariants.{Gap, Wrong}
 use Rattle.ntx_syntax.specs.Bytes.{is_line_end}
-use Rattle.ntx_syntax.specs.Pieces.{bracket_level, is_level, ends_at_bracket, long_comment_piece, comment_piece_at, comment_piece, piece_if}
+use Rattle.ntx_syntax.specs.Pieces.{bracket_level, is_level, ends_at_bracket, long_comment_piece, comment_piece_at, comment_piece, begins_comment, piece_if}
 use Rattle.ntx_syntax.specs.Front.{IsFrontOf, IsCommentRest, bracketed_len}
 use Rattle.ntx_syntax.proofs.RunLemmas.{list_all-take, list_all-take_past, prefix_len-take, slice_index-take, slice_index-take_past}
 use Rattle.ntx_syntax.proofs.OptionLemmas.{is_at, is_at-zero, is_at-suc, map-suc_more, choice_some, eqb_comm}
@@ -225,3 +226,17 @@ module _ (level at : ℕ) (bytes : List ℕ) (total : Option ℕ) (so_far : opti
 
   pub not_here : is_level level (bracket_level 93 (drop at bytes)) ≡ false → option_map (λ n. at + 1 + n) (bracketed_len level (drop (at + 1) bytes)) ≡ total
   not_here h = sym (map-suc_more at (bracketed_len level (drop (at + 1) bytes))) ∙ step_is false h
+
+-- the test of the code
+pub is_level-eq : (level : ℕ) (o : Option ℕ) → is_level level o ≡ option_eq nat_eq o (Some level)
+is_level-eq level None = refl
+is_level-eq level (Some n) = refl
+
+pub two_dashes : (bytes : List ℕ) → begins_comment bytes ≡ true → 2 ≤ length bytes
+two_dashes [] h = absurd (false≢true h)
+two_dashes (a ∷ []) h = absurd (false≢true (sym (and_false (nat_eq a 45)) ∙ h))
+  where
+    and_false : (x : Bool) → (x && false) ≡ false
+    and_false true = refl
+    and_false false = refl
+two_dashes (a ∷ b ∷ bytes) h = omega arith

@@ -1,5 +1,6 @@
 pub mod CommentLemmas
 pub mod FrontLemmas
+pub mod LexLemmas
 pub mod NumeralLemmas
 pub mod OptionLemmas
 pub mod RunLemmas

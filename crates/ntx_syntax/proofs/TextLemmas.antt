@@ -1,10 +1,12 @@
 -- The longest text at the front.
-use Rattle.std.proofs.Common.{◌≡◌, ℕ, zero, suc, ◌+◌, ◌-◌, ◌<◌, ◌≤◌, Bool, true, false, ◌&&◌, ◌||◌, cond, List, [], ◌∷◌, length, get_or, take, drop, Option, Some, None, refl, sym, ap, ◌∙◌, subst, inl, inr, ⊎_elim, ◌⊎◌, arith}
+use Rattle.std.proofs.Common.{◌≡◌, ℕ, zero, suc, ◌+◌, ◌-◌, ◌*◌, ◌<◌, ◌≤◌, Bool, true, false, ◌&&◌, ◌||◌, cond, List, [], ◌∷◌, length, get_or, take, drop, Option, Some, None, refl, sym, ap, ◌∙◌, subst, inl, inr, ⊎_elim, ◌⊎◌, arith}
 use Rattle.std.specs.Prelude.{slice_index, is_some, nat_eq, nat_le, option_map, option_and_then, ◌==◌}
 use Rattle.std.specs.List.{prefix_len}
-use Rattle.std.specs.Char.{is_ascii_digit, is_ascii_hexdigit}
+use Rattle.std.specs.Char.{is_ascii_digit, is_ascii_hexdigit, digit_value}
 use Rattle.std.specs.Str.Parse.{digits_value}
-use Rattle.std.proofs.lemmas.Bool.{false≢true, cases_Bool, cases_lt, ne_eqb, eq-eqb}
+use Rattle.std.proofs.lemmas.Bool.{false≢true, cases_Bool, cases_lt, ne_eqb, eq-eqb, le-leb}
+use Rattle.std.proofs.lemmas.Bool.Decides.{nat_tests}
+use Rattle.ntx_syntax.proofs.NumeralLemmas.{digit_value-digit}
 use Rattle.std.proofs.lemmas.List.{at_drop_more, length-take-le, drop-drop}
 use Rattle.ntx_syntax.specs.declared.token.Sort.TheVariants as sort
 use Rattle.ntx_syntax.specs.declared.fault.SyntaxWhy.TheVariants as why
@@ -227,6 +229,13 @@ step closes ends slash escaped others = cond closes (Some 1) (cond ends None (co
 abbrev escaped_len : ℕ → List ℕ → Option (ℕ × ℕ) → Option ℕ
 escaped_len quote bytes e = option_and_then (λ x. option_map suc (quoted_len quote x.1 bytes)) e
 
+abbrev by_len : ℕ → List ℕ → Option ℕ → Option ℕ
+by_len quote bytes len = option_and_then (λ k. option_map suc (quoted_len quote k bytes)) len
+
+by_len_is : (quote : ℕ) (bytes : List ℕ) (e : Option (ℕ × ℕ)) → by_len quote bytes (option_map (λ x. x.1) e) ≡ escaped_len quote bytes e
+by_len_is quote bytes None = refl
+by_len_is quote bytes (Some e) = refl
+
 -- Up to a place nothing has closed the text: what is found from there on is what is found in all.
 module _ (quote at : ℕ) (bytes : List ℕ) (total : Option ℕ) (so_far : option_map (λ n. at + n) (quoted_len quote 0 (drop at bytes)) ≡ total) (within : at < length bytes) where
   abbrev b : ℕ
@@ -250,15 +259,33 @@ module _ (quote at : ℕ) (bytes : List ℕ) (total : Option ℕ) (so_far : opti
   pub plain_here : nat_eq b quote ≡ false → is_line_end b ≡ false → nat_eq b 92 ≡ false → option_map (λ n. at + 1 + n) (quoted_len quote 0 rest) ≡ total
   plain_here c e s = sym (map-suc_more at (quoted_len quote 0 rest)) ∙ step_is false false false c e s
 
-  pub no_escape_here : nat_eq b quote ≡ false → is_line_end b ≡ false → nat_eq b 92 ≡ true → escape rest ≡ None → None ≡ total
-  no_escape_here c e s none = ap (λ x. option_map (λ n. at + n) (escaped_len quote rest x)) (sym none) ∙ step_is false false true c e s
+  pub no_escape_here : nat_eq b quote ≡ false → is_line_end b ≡ false → nat_eq b 92 ≡ true → option_map (λ e. e.1) (escape rest) ≡ None → None ≡ total
+  no_escape_here c e s none = ap (λ x. option_map (λ n. at + n) (by_len quote rest x)) (sym none) ∙ ap (option_map (λ n. at + n)) (by_len_is quote rest (escape rest)) ∙ step_is false false true c e s
 
-  pub escape_here : nat_eq b quote ≡ false → is_line_end b ≡ false → nat_eq b 92 ≡ true → (v k : ℕ) → escape rest ≡ Some (v, k) → option_map (λ n. at + 1 + k + n) (quoted_len quote 0 (drop (at + 1 + k) bytes)) ≡ total
-  escape_here c e s v k is =
+  pub escape_here : nat_eq b quote ≡ false → is_line_end b ≡ false → nat_eq b 92 ≡ true → (k : ℕ) → option_map (λ e. e.1) (escape rest) ≡ Some k → option_map (λ n. at + 1 + k + n) (quoted_len quote 0 (drop (at + 1 + k) bytes)) ≡ total
+  escape_here c e s k is =
       let later : drop k rest ≡ drop (at + 1 + k) bytes = drop-drop k (at + 1) bytes in
       ap (λ others. option_map (λ n. at + 1 + k + n) (quoted_len quote 0 others)) (sym later)
       ∙ sym (map-more (at + 1) k (quoted_len quote 0 (drop k rest)))
       ∙ ap (option_map (λ n. at + 1 + n)) (sym (quoted_len-drop quote k rest))
       ∙ sym (map-suc_more at (quoted_len quote k rest))
-      ∙ ap (λ x. option_map (λ n. at + n) (escaped_len quote rest x)) (sym is)
+      ∙ ap (λ x. option_map (λ n. at + n) (by_len quote rest x)) (sym is)
+      ∙ ap (option_map (λ n. at + n)) (by_len_is quote rest (escape rest))
       ∙ step_is false false true c e s
+
+-- ---- an escape of two digits
+
+pub two_digit_escape : (c d e : ℕ) → is_ascii_digit c ≡ true → is_ascii_digit d ≡ true → is_ascii_digit e ≡ false → Some ((c - 48) * 10 + (d - 48), 2) ≡ decimal_escape (c ∷ d ∷ e ∷ [])
+two_digit_escape c d e p q r =
+    let escaped : ℕ → Option (ℕ × ℕ) = λ count. (let value = digits_value 10 (take count (c ∷ d ∷ e ∷ [])) in cond (nat_le value 255) (Some (value, count)) None) in
+    let value : (0 * 10 + digit_value c) * 10 + digit_value d ≡ (c - 48) * 10 + (d - 48) = omega (arith, digit_value-digit c p, digit_value-digit d q) in
+    let tens : c - 48 ≤ 9 = digit_small c p in
+    let ones : d - 48 ≤ 9 = digit_small d q in
+    sym (ap escaped (two_only (is_ascii_digit c) (is_ascii_digit d) (is_ascii_digit e) p q r)
+    ∙ (λ i. cond (nat_le (value i) 255) (Some (value i, 2)) None)
+    ∙ ap (λ t. cond t (Some ((c - 48) * 10 + (d - 48), 2)) None) (le-leb ((c - 48) * 10 + (d - 48)) 255 (omega arith)))
+  where
+    digit_small : (d : ℕ) → is_ascii_digit d ≡ true → d - 48 ≤ 9
+    digit_small d h = grind (arith, nat_tests)
+    two_only : (c d e : Bool) → c ≡ true → d ≡ true → e ≡ false → cond c (1 + cond d (1 + cond e (1 + 0) 0) 0) 0 ≡ 2
+    two_only c d e p q r = rw (p, q, r) refl

@@ -41,7 +41,7 @@ fn bracketed_len(level: usize, bytes: &[u8]) -> Option<usize>
 /// The comment whose two dashes stand before these bytes, and how many of them it takes. A long comment that is not
 /// closed is wrong.
 fn comment_rest(bytes: &[u8]) -> (Piece, usize)
-    ensures piece { IsCommentRest bytes.now result.1 result.0 }
+    ensures { IsCommentRest bytes.now result.1 result.0 }
 {
     match bracket_level(b'[', bytes) {
         None => (Piece::Gap, run(Class::Line, bytes)),
@@ -55,10 +55,18 @@ fn comment_rest(bytes: &[u8]) -> (Piece, usize)
     }
 }
 
+/// Whether two dashes stand at the front.
+pub fn begins_comment(bytes: &[u8]) -> bool
+    ensures { result ≡ begins_comment bytes.now }
+{
+    byte(bytes, 0) == b'-' && byte(bytes, 1) == b'-'
+}
+
 /// The comment at the front.
 pub fn comment(bytes: &[u8]) -> (Piece, usize)
     requires { begins_comment bytes.now ≡ true }
-    ensures { IsFrontOf (λ part. comment_piece (drop 2 part)) bytes.now result.1 result.0 }
+    ensures front { IsFrontOf (λ part. comment_piece (drop 2 part)) bytes.now result.1 result.0 }
+    ensures dashes { 2 ≤ result.1 }
 {
     let (piece, len) = comment_rest(&bytes[2..]);
     (piece, len + 2)

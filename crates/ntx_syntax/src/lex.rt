@@ -5,8 +5,8 @@ ghost use Rattle.ntx_num.specs.Answer.{Answers, result_map};
 ghost use Rattle.ntx_syntax.specs.Lexes.{lexed_of, line_ends, Lexes};
 ghost use Rattle.ntx_syntax.specs.Front.{IsFront};
 
-use crate::bytes::{begins_name, byte, is_blank, is_quote};
-use crate::comment::comment;
+use crate::bytes::{begins_name, is_blank, is_quote};
+use crate::comment::{begins_comment, comment};
 use crate::fault::SyntaxFault;
 use crate::numeral::numeral;
 use crate::piece::Piece;
@@ -31,7 +31,7 @@ fn front(bytes: &[u8]) -> (Piece, usize)
         numeral(bytes)
     } else if is_quote(first) {
         text(bytes)
-    } else if first == b'-' && byte(bytes, 1) == b'-' {
+    } else if begins_comment(bytes) {
         comment(bytes)
     } else {
         symbol(bytes)

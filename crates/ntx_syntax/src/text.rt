@@ -1,6 +1,6 @@
 //! Texts.
 
-ghost use Rattle.std.specs.Prelude.{◌≡◌, ◌<◌, ◌≤◌, [], ◌∷◌, length, IfSome, slice_index, true};
+ghost use Rattle.std.specs.Prelude.{◌≡◌, ◌<◌, ◌≤◌, [], ◌∷◌, length, IfSome, option_map, slice_index, true};
 ghost use Rattle.std.specs.Char.{is_ascii_digit, is_ascii_hexdigit, digit_value};
 ghost use Rattle.ntx_syntax.specs.Bytes.{is_quote};
 ghost use Rattle.ntx_syntax.specs.Values as value;
@@ -92,6 +92,15 @@ fn escape(bytes: &[u8]) -> Option<(u8, usize)>
     }
 }
 
+/// How many bytes behind a backslash its escape takes.
+fn escape_len(bytes: &[u8]) -> Option<usize>
+    ensures value { result ≡ option_map (λ e. e.1) (value.escape bytes.now) }
+    ensures within { IfSome result (λ len. len ≤ length bytes.now) }
+{
+    let (_, len) = escape(bytes)?;
+    Some(len)
+}
+
 /// How many bytes behind an opening quote its text takes, the closing quote among them.
 fn quoted_len(quote: u8, bytes: &[u8]) -> Option<usize>
     ensures value { result ≡ quoted_len quote 0 bytes.now }
@@ -108,8 +117,7 @@ fn quoted_len(quote: u8, bytes: &[u8]) -> Option<usize>
             return None;
         }
         if b == b'\\' {
-            let (_, len) = escape(&bytes[at..])?;
-            at += len;
+            at += escape_len(&bytes[at..])?;
         }
     }
     None
