@@ -2,11 +2,15 @@
 use Rattle.std.proofs.Common.{◌≡◌, ℕ, zero, suc, ◌+◌, ◌-◌, ◌<◌, ◌≤◌, Bool, true, false, cond, List, [], ◌∷◌, ◌++◌, length, take, drop, Option, Some, None, Result, Ok, Err, refl, sym, ap, ◌∙◌, subst, ⊎_elim, append_assoc, arith}
 use Rattle.std.specs.Prelude.{is_some}
 use Rattle.std.proofs.lemmas.Bool.{cases_lt}
-use Rattle.std.proofs.lemmas.List.{length-take-le, append-nil}
+use Rattle.std.proofs.lemmas.List.{length-take-le, length-drop, drop-drop, append-nil}
 use Rattle.ntx_num.specs.Answer.{result_map}
 use Rattle.ntx_syntax.specs.declared.token.Token.{Token}
 use Rattle.ntx_syntax.specs.declared.fault.SyntaxFault.{SyntaxFault}
 use Rattle.ntx_syntax.specs.declared.piece.Piece.{Piece}
+use Rattle.ntx_syntax.specs.declared.piece.Piece.TheVariants.{Gap}
+use Rattle.ntx_syntax.specs.declared.piece.Piece.TheVariants as piece
+use Rattle.ntx_syntax.specs.declared.token.Sort.{Sort}
+use Rattle.ntx_syntax.specs.declared.fault.SyntaxWhy.{SyntaxWhy}
 use Rattle.ntx_syntax.specs.Pieces.{piece_of}
 use Rattle.ntx_syntax.specs.Front.{IsFront}
 use Rattle.ntx_syntax.specs.Lexes.{longest_front, cut_from, parts_of, tokens_of, said, line_ends}
@@ -66,3 +70,30 @@ with_front-push front token (Err fault) = refl
 
 pub with_front-none : (front : List Token) → with_front front (Ok []) ≡ Ok front
 with_front-none front = ap Ok (append-nil front)
+
+-- ---- one piece of the loop over a script
+
+module _ (items : List Token) (start line len : ℕ) (bytes : List ℕ) (total : Result (List Token) SyntaxFault) (so_far : with_front items (tokens_of start line (parts_of (drop start bytes))) ≡ total) where
+  later : drop len (drop start bytes) ≡ drop (start + len) bytes
+  later = drop-drop len start bytes
+
+  next : (p : Piece) → IsFront (drop start bytes) len p → with_front items (said (Some p) start (start + len) line (tokens_of (start + len) (line + line_ends (take len (drop start bytes))) (parts_of (drop (start + len) bytes)))) ≡ total
+  next p h =
+      ap (λ rest. with_front items (said (Some p) start (start + len) line (tokens_of (start + len) (line + line_ends (take len (drop start bytes))) (parts_of rest)))) (sym later)
+      ∙ sym (ap (with_front items) (tokens_of-front start line (drop start bytes) len p h)) ∙ so_far
+
+  pub step_gap : (items' : List Token) (line' : ℕ) → IsFront (drop start bytes) len Gap → items' ≡ items → line' ≡ line + line_ends (take len (drop start bytes)) → with_front items' (tokens_of (start + len) line' (parts_of (drop (start + len) bytes))) ≡ total
+  step_gap items' line' h same lines = (λ i. with_front (same i) (tokens_of (start + len) (lines i) (parts_of (drop (start + len) bytes)))) ∙ next Gap h
+
+  pub step_token : (items' : List Token) (line' : ℕ) (sort : Sort) → IsFront (drop start bytes) len (piece.Token sort) → items' ≡ items ++ record { sort = sort; start = start; end = start + len; line = line } ∷ [] → line' ≡ line + line_ends (take len (drop start bytes)) → with_front items' (tokens_of (start + len) line' (parts_of (drop (start + len) bytes))) ≡ total
+  step_token items' line' sort h same lines =
+      (λ i. with_front (same i) (tokens_of (start + len) (lines i) (parts_of (drop (start + len) bytes))))
+      ∙ sym (with_front-push items (record { sort = sort; start = start; end = start + len; line = line }) (tokens_of (start + len) (line + line_ends (take len (drop start bytes))) (parts_of (drop (start + len) bytes))))
+      ∙ next (piece.Token sort) h
+
+  pub step_wrong : (why : SyntaxWhy) → IsFront (drop start bytes) len (piece.Wrong why) → total ≡ Err (record { line = line; why = why })
+  step_wrong why h = sym (next (piece.Wrong why) h)
+
+pub at_end : (items : List Token) (start line : ℕ) (bytes : List ℕ) (total : Result (List Token) SyntaxFault) → with_front items (tokens_of start line (parts_of (drop start bytes))) ≡ total → length bytes ≤ start → total ≡ Ok items
+at_end items start line bytes total so_far past =
+    sym so_far ∙ ap (λ parts. with_front items (tokens_of start line parts)) (parts_of-nil (drop start bytes) (let long = length-drop start bytes in omega arith)) ∙ with_front-none items
