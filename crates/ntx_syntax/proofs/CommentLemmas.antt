@@ -43,25 +43,28 @@ bracket-take mark level b bytes m within h =
     bracket_to mark level b (take m bytes) (record {
       level_is = prefix_len-take (λ b. b == 61) m bytes ∙ (let e : min m (signs bytes) ≡ level = omega (arith, bracket.level_is) in e);
       first = bracket.first;
-      last = ap (λ c. nat_eq c mark) (slice_index-take (suc m) (b ∷ bytes) (level + 1) (omega arith)) ∙ bracket.last
+      last = ap (λ c. nat_eq c mark) (slice_index-take (suc m) (b ∷ bytes) (level + 1) (omega arith)) ∙ bracket.last;
     })
 
 bracket_in_front : (mark level b : ℕ) (bytes : List ℕ) (m : ℕ) → nat_eq 0 mark ≡ false → bracket_level mark (b ∷ take m bytes) ≡ Some level → (bracket_level mark (b ∷ bytes) ≡ Some level) × (level + 2 ≤ suc m)
 bracket_in_front mark level b bytes m some h =
     let bracket = bracket_from mark level b (take m bytes) h in
     let inside : level + 1 < suc m = ⊎_elim (λ lt. lt) (λ past. absurd (false≢true (sym some ∙ ap (λ c. nat_eq c mark) (sym (slice_index-take_past (suc m) (b ∷ bytes) (level + 1) past)) ∙ bracket.last))) (cases_lt (level + 1) (suc m)) in
-    let level_is : min m (signs bytes) ≡ level = sym (prefix_len-take (λ b. b == 61) m bytes) ∙ bracket.level_is in
-    (bracket_to mark level b bytes (record {
-      level_is = omega arith;
-      first = bracket.first;
-      last = ap (λ c. nat_eq c mark) (sym (slice_index-take (suc m) (b ∷ bytes) (level + 1) inside)) ∙ bracket.last
-    }), omega arith)
+    let level_is : min m (signs bytes) ≡ level = sym (prefix_len-take (λ b. b == 61) m bytes) ∙ bracket.level_is in (
+      bracket_to mark level b bytes (record {
+        level_is = omega arith;
+        first = bracket.first;
+        last = ap (λ c. nat_eq c mark) (sym (slice_index-take (suc m) (b ∷ bytes) (level + 1) inside)) ∙ bracket.last;
+      }),
+      omega arith,
+    )
 
 no_bracket_in_front : (mark b : ℕ) (bytes : List ℕ) (m : ℕ) → nat_eq 0 mark ≡ false → bracket_level mark (b ∷ bytes) ≡ None → bracket_level mark (b ∷ take m bytes) ≡ None
 no_bracket_in_front mark b bytes m some h = none_unless (bracket_level mark (b ∷ take m bytes)) (λ level is. absurd (none_some level (sym h ∙ (bracket_in_front mark level b bytes m some is).0)))
   where
     none_some : (level : ℕ) → None ≡ Some level → ⊥
     none_some level e = cc
+
     none_unless : (o : Option ℕ) → ((level : ℕ) → o ≡ Some level → o ≡ None) → o ≡ None
     none_unless None f = refl
     none_unless (Some level) f = f level refl
@@ -95,28 +98,30 @@ bracketed-take level (b ∷ bytes) zero h = sym (not_at_zero (is_level level (br
 bracketed-take level (b ∷ bytes) (suc m) h =
     ⊎_elim
     (λ here.
-        let whole : is_at (suc m) (bracketed_len level (b ∷ bytes)) ≡ nat_eq (level + 2) (suc m) = ap (λ t. is_at (suc m) (cond t (Some (level + 2)) (option_map suc (bracketed_len level bytes)))) here in
-        closed_here (level_from level (bracket_level 93 (b ∷ bytes)) here) ∙ sym whole)
+    let whole : is_at (suc m) (bracketed_len level (b ∷ bytes)) ≡ nat_eq (level + 2) (suc m) = ap (λ t. is_at (suc m) (cond t (Some (level + 2)) (option_map suc (bracketed_len level bytes)))) here in
+    closed_here (level_from level (bracket_level 93 (b ∷ bytes)) here) ∙ sym whole)
     (λ not_here.
-        let whole : is_at (suc m) (bracketed_len level (b ∷ bytes)) ≡ is_at (suc m) (option_map suc (bracketed_len level bytes)) = ap (λ t. is_at (suc m) (cond t (Some (level + 2)) (option_map suc (bracketed_len level bytes)))) not_here in
-        let front : is_level level (bracket_level 93 (b ∷ take m bytes)) ≡ false = not_in_front not_here in
-        ap (λ t. cond t (nat_eq (length (b ∷ take m bytes)) (level + 2)) (ends_at_bracket level (take m bytes))) front
-        ∙ bracketed-take level bytes m (omega arith) ∙ sym (is_at-suc m (bracketed_len level bytes)) ∙ sym whole)
+    let whole : is_at (suc m) (bracketed_len level (b ∷ bytes)) ≡ is_at (suc m) (option_map suc (bracketed_len level bytes)) = ap (λ t. is_at (suc m) (cond t (Some (level + 2)) (option_map suc (bracketed_len level bytes)))) not_here in
+    let front : is_level level (bracket_level 93 (b ∷ take m bytes)) ≡ false = not_in_front not_here in
+    ap (λ t. cond t (nat_eq (length (b ∷ take m bytes)) (level + 2)) (ends_at_bracket level (take m bytes))) front
+    ∙ bracketed-take level bytes m (omega arith) ∙ sym (is_at-suc m (bracketed_len level bytes)) ∙ sym whole)
     (cases_Bool (is_level level (bracket_level 93 (b ∷ bytes))))
   where
     false_unless : (t : Bool) → (t ≡ true → ⊥) → t ≡ false
     false_unless true f = absurd (f refl)
     false_unless false f = refl
+
     not_in_front : is_level level (bracket_level 93 (b ∷ bytes)) ≡ false → is_level level (bracket_level 93 (b ∷ take m bytes)) ≡ false
     not_in_front not_here = false_unless (is_level level (bracket_level 93 (b ∷ take m bytes))) (λ front. false≢true (sym not_here ∙ level_to level (bracket_level 93 (b ∷ bytes)) (bracket_in_front 93 level b bytes m refl (level_from level (bracket_level 93 (b ∷ take m bytes)) front)).0))
+
     closed_here : bracket_level 93 (b ∷ bytes) ≡ Some level → ends_at_bracket level (b ∷ take m bytes) ≡ nat_eq (level + 2) (suc m)
     closed_here bracket = ⊎_elim
         (λ short.
-            short_without_end level (b ∷ take m bytes) (omega (arith, length-take-le m bytes (omega arith)))
-            ∙ sym (ne_eqb (level + 2) (suc m) (λ e. omega arith)))
+        short_without_end level (b ∷ take m bytes) (omega (arith, length-take-le m bytes (omega arith)))
+        ∙ sym (ne_eqb (level + 2) (suc m) (λ e. omega arith)))
         (λ long.
-            ap (λ t. cond t (nat_eq (length (b ∷ take m bytes)) (level + 2)) (ends_at_bracket level (take m bytes))) (level_to level (bracket_level 93 (b ∷ take m bytes)) (bracket-take 93 level b bytes m long bracket))
-            ∙ ap (λ n. nat_eq (suc n) (level + 2)) (length-take-le m bytes (omega arith)) ∙ eqb_comm (suc m) (level + 2))
+        ap (λ t. cond t (nat_eq (length (b ∷ take m bytes)) (level + 2)) (ends_at_bracket level (take m bytes))) (level_to level (bracket_level 93 (b ∷ take m bytes)) (bracket-take 93 level b bytes m long bracket))
+        ∙ ap (λ n. nat_eq (suc n) (level + 2)) (length-take-le m bytes (omega arith)) ∙ eqb_comm (suc m) (level + 2))
         (cases_lt (suc m) (level + 2))
 
 -- ---- comments
@@ -143,7 +148,7 @@ pub line_comment : (bytes : List ℕ) (len : ℕ) → bracket_level 91 bytes ≡
 line_comment bytes len h len_is = record {
   within = omega (arith, len_is, prefix_len-le-length (λ b. not (is_line_end b)) bytes);
   spells = line_piece bytes h len true (list_all-take (λ b. not (is_line_end b)) len bytes (omega (arith, len_is)));
-  longest = λ n more whole. line_piece bytes h n false (list_all-take_past (λ b. not (is_line_end b)) n bytes (omega (arith, len_is)) whole)
+  longest = λ n more whole. line_piece bytes h n false (list_all-take_past (λ b. not (is_line_end b)) n bytes (omega (arith, len_is)) whole);
 }
 
 module _ (bytes : List ℕ) (level : ℕ) (bracket : bracket_level 91 bytes ≡ Some level) (opened : level + 2 ≤ length bytes) where
@@ -174,7 +179,7 @@ module _ (bytes : List ℕ) (level : ℕ) (bracket : bracket_level 91 bytes ≡ 
     spells = (let at : level + 2 + 0 ≡ level + 2 = omega arith in subst (λ n. comment_piece (take n bytes) ≡ Some (Wrong why.Comment)) at (behind 0));
     longest = λ n more whole.
         let place = at_place n (omega arith) in
-        subst (λ n. comment_piece (take n bytes) ≡ None) place.1 (behind_some place.0 (omega arith) (omega arith) ∙ ap (λ o. piece_if (is_at place.0 o) Gap) none)
+        subst (λ n. comment_piece (take n bytes) ≡ None) place.1 (behind_some place.0 (omega arith) (omega arith) ∙ ap (λ o. piece_if (is_at place.0 o) Gap) none);
   }
 
   pub closed_comment : (len : ℕ) → bracketed_len level (drop (level + 2) bytes) ≡ Some len → len ≤ length (drop (level + 2) bytes) → 0 < len → IsCommentRest bytes (level + 2 + len) Gap
@@ -184,7 +189,7 @@ module _ (bytes : List ℕ) (level : ℕ) (bracket : bracket_level 91 bytes ≡ 
     spells = behind_some len some (omega (arith, body_long)) ∙ ap (λ o. piece_if (is_at len o) Gap) closed ∙ ap (λ t. piece_if t Gap) (eq-eqb len len refl);
     longest = λ n more whole.
         let place = at_place n (omega arith) in
-        subst (λ n. comment_piece (take n bytes) ≡ None) place.1 (behind_some place.0 (omega arith) (omega arith) ∙ ap (λ o. piece_if (is_at place.0 o) Gap) closed ∙ ap (λ t. piece_if t Gap) (ne_eqb len place.0 (λ e. omega arith)))
+        subst (λ n. comment_piece (take n bytes) ≡ None) place.1 (behind_some place.0 (omega arith) (omega arith) ∙ ap (λ o. piece_if (is_at place.0 o) Gap) closed ∙ ap (λ t. piece_if t Gap) (ne_eqb len place.0 (λ e. omega arith)));
   }
 
 -- a long comment has its bracket
@@ -203,7 +208,7 @@ comment_front (a ∷ b ∷ bytes) len piece dashes h =
       some = omega arith;
       within = omega (arith, h.within);
       spells = h.spells;
-      longest = longer
+      longest = longer;
     })
   where
     longer : (n : ℕ) → suc (suc len) < n → n ≤ length (a ∷ b ∷ bytes) → comment_piece (drop 2 (take n (a ∷ b ∷ bytes))) ≡ None

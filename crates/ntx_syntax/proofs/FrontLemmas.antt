@@ -11,7 +11,7 @@ use Rattle.ntx_syntax.specs.Pieces.{piece_of, piece_if, word_piece, numeral_piec
 use Rattle.ntx_syntax.specs.Front.{IsFrontOf, IsFront}
 use Rattle.ntx_syntax.proofs.RunLemmas.{slice_index-take}
 
-abbrev choice : Bool → Bool → Bool → Bool → Bool → (gap word numeral text comment symbol : Option Piece) → Option Piece
+abbrev pub choice : Bool → Bool → Bool → Bool → Bool → (gap word numeral text comment symbol : Option Piece) → Option Piece
 choice blank name digit quote dashes gap word numeral text comment symbol =
     cond blank gap (cond name word (cond digit numeral (cond quote text (cond dashes comment symbol))))
 
@@ -21,7 +21,7 @@ front_as spelled bytes len piece h same = record {
   some = h.some;
   within = h.within;
   spells = same len (omega arith) h.within ∙ h.spells;
-  longest = λ n more whole. same n (omega arith) whole ∙ h.longest n more whole
+  longest = λ n more whole. same n (omega arith) whole ∙ h.longest n more whole;
 }
 
 as_gap : (blank name digit quote dashes : Bool) (gap word numeral text comment symbol : Option Piece) → blank ≡ true → choice blank name digit quote dashes gap word numeral text comment symbol ≡ gap
@@ -43,10 +43,10 @@ as_symbol : (blank name digit quote dashes : Bool) (gap word numeral text commen
 as_symbol blank name digit quote dashes gap word numeral text comment symbol p q r s t = rw (p, q, r, s, t) refl
 
 -- what bytes spell, by the tests of their first byte
-abbrev by_tests : ℕ → List ℕ → Option Piece
+abbrev pub by_tests : ℕ → List ℕ → Option Piece
 by_tests b bytes = choice (is_blank b) (begins_name b) (is_ascii_digit b) (is_quote b) (begins_comment (b ∷ bytes)) (piece_if (nat_eq (length bytes) 0) Gap) (word_piece (b ∷ bytes)) (numeral_piece (b ∷ bytes)) (text_piece (b ∷ bytes)) (comment_piece (drop 1 bytes)) (symbol_piece (b ∷ bytes))
 
-piece_of-cons : (b : ℕ) (bytes : List ℕ) → piece_of (b ∷ bytes) ≡ by_tests b bytes
+pub piece_of-cons : (b : ℕ) (bytes : List ℕ) → piece_of (b ∷ bytes) ≡ by_tests b bytes
 unfolding piece_of
 piece_of-cons b bytes = refl
 
@@ -59,7 +59,7 @@ blank_front (b ∷ bytes) some blank = record {
   some = omega arith;
   within = omega arith;
   spells = gap_of b [] blank;
-  longest = longer
+  longest = longer;
 }
   where
     longer : (n : ℕ) → 1 < n → n ≤ length (b ∷ bytes) → piece_of (take n (b ∷ bytes)) ≡ None
@@ -116,10 +116,12 @@ module _ (bytes : List ℕ) (len : ℕ) (piece : Piece) where
         no_dash : (x y : Bool) → y ≡ false → (x && y) ≡ false
         no_dash true y e = e
         no_dash false y e = refl
+
         dashes : (b : ℕ) (bytes : List ℕ) (n : ℕ) → begins_comment (b ∷ bytes) ≡ false → begins_comment (b ∷ take n bytes) ≡ false
         dashes b bytes zero t = no_dash (nat_eq b 45) false refl
         dashes b [] (suc n) t = t
         dashes b (c ∷ bytes) (suc n) t = t
+
         same : (bytes : List ℕ) → is_blank (slice_index bytes 0) ≡ false → begins_name (slice_index bytes 0) ≡ false → is_ascii_digit (slice_index bytes 0) ≡ false → is_quote (slice_index bytes 0) ≡ false → begins_comment bytes ≡ false → (n : ℕ) → len ≤ n → n ≤ length bytes → piece_of (take n bytes) ≡ symbol_piece (take n bytes)
         same bytes p q r s t zero more whole = absurd (omega (arith, h.some))
         same [] p q r s t (suc n) more whole = absurd (omega arith)

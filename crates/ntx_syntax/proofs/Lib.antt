@@ -1,5 +1,6 @@
 pub mod CommentLemmas
 pub mod FrontLemmas
+pub mod LawLemmas
 pub mod LexLemmas
 pub mod NumeralLemmas
 pub mod OptionLemmas

@@ -78,8 +78,8 @@ decimal_alike c d e f digit =
     ⊎_elim
     (λ second. inr (decimal_reaches 2 c d e (two_digits (is_ascii_digit c) (is_ascii_digit d) _ digit second), decimal_reaches 2 c d f (two_digits (is_ascii_digit c) (is_ascii_digit d) _ digit second)))
     (λ no_second.
-        let escaped : ℕ → ℕ → Option (ℕ × ℕ) = λ g count. (let value = digits_value 10 (take count (c ∷ d ∷ g ∷ [])) in cond (nat_le value 255) (Some (value, count)) None) in
-        inl (ap (escaped e) (one_only (is_ascii_digit c) (is_ascii_digit d) _ digit no_second) ∙ sym (ap (escaped f) (one_only (is_ascii_digit c) (is_ascii_digit d) _ digit no_second))))
+    let escaped : ℕ → ℕ → Option (ℕ × ℕ) = λ g count. (let value = digits_value 10 (take count (c ∷ d ∷ g ∷ [])) in cond (nat_le value 255) (Some (value, count)) None) in
+    inl (ap (escaped e) (one_only (is_ascii_digit c) (is_ascii_digit d) _ digit no_second) ∙ sym (ap (escaped f) (one_only (is_ascii_digit c) (is_ascii_digit d) _ digit no_second))))
     (cases_Bool (is_ascii_digit d))
 
 escape_alike : (c d e f : ℕ) → Alike 2 (escape_of c d e) (escape_of c d f)
@@ -131,9 +131,11 @@ after_escape quote bytes m x y others alike = ⊎_elim
     same_escape : (z : Option (ℕ × ℕ)) → is_some (option_and_then (λ e. option_map (λ others. e.0 ∷ others) (characters quote e.1 (take m bytes))) z) ≡ is_at (suc m) (option_and_then (λ e. option_map suc (quoted_len quote e.1 bytes)) z)
     same_escape None = refl
     same_escape (Some e) = is_some-map (λ others. e.0 ∷ others) (characters quote e.1 (take m bytes)) ∙ others e.1 ∙ sym (is_at-suc m (quoted_len quote e.1 bytes))
+
     no_characters : (z : Option (ℕ × ℕ)) → Reaches m z → is_some (option_and_then (λ e. option_map (λ others. e.0 ∷ others) (characters quote e.1 (take m bytes))) z) ≡ false
     no_characters None reaches = refl
     no_characters (Some e) reaches = is_some-map (λ others. e.0 ∷ others) (characters quote e.1 (take m bytes)) ∙ others e.1 ∙ within_escape quote e.1 bytes m reaches
+
     no_length : (z : Option (ℕ × ℕ)) → Reaches m z → is_at (suc m) (option_and_then (λ e. option_map suc (quoted_len quote e.1 bytes)) z) ≡ false
     no_length None reaches = refl
     no_length (Some e) reaches = is_at-suc m (quoted_len quote e.1 bytes) ∙ within_escape quote e.1 bytes m reaches
@@ -154,8 +156,8 @@ characters-take quote zero (b ∷ bytes) (suc m) h =
     same_choice (nat_eq b quote) (if_empty (take m bytes)) _ (suc m) (Some 1) _ (λ _. empty_front m bytes (omega arith))
     (λ _. same_choice (is_line_end b) None _ (suc m) None _ (λ _. refl)
     (λ _. same_choice (nat_eq b 92) (option_and_then (λ e. option_map (λ others. e.0 ∷ others) (characters quote e.1 (take m bytes))) (escape (take m bytes))) _ (suc m) (option_and_then (λ e. option_map suc (quoted_len quote e.1 bytes)) (escape bytes)) _
-        (λ _. after_escape quote bytes m (escape (take m bytes)) (escape bytes) (λ k. characters-take quote k bytes m (omega arith)) (escape-take m bytes))
-        (λ _. is_some-map (λ others. b ∷ others) (characters quote 0 (take m bytes)) ∙ characters-take quote 0 bytes m (omega arith) ∙ sym (is_at-suc m (quoted_len quote 0 bytes)))))
+    (λ _. after_escape quote bytes m (escape (take m bytes)) (escape bytes) (λ k. characters-take quote k bytes m (omega arith)) (escape-take m bytes))
+    (λ _. is_some-map (λ others. b ∷ others) (characters quote 0 (take m bytes)) ∙ characters-take quote 0 bytes m (omega arith) ∙ sym (is_at-suc m (quoted_len quote 0 bytes)))))
 
 -- ---- texts at the front
 
@@ -189,7 +191,7 @@ text_right (b ∷ bytes) len quote closed within =
       some = omega arith;
       within = omega arith;
       spells = text_piece_is (is_some (text_value (b ∷ take len bytes))) (nat_eq (length (b ∷ take len bytes)) 1) (text_value-take b bytes len quote within ∙ ap (is_at len) closed ∙ at_some len);
-      longest = longer
+      longest = longer;
     })
   where
     longer : (n : ℕ) → suc len < n → n ≤ length (b ∷ bytes) → text_piece (take n (b ∷ bytes)) ≡ None
@@ -205,7 +207,7 @@ text_open (b ∷ bytes) quote unclosed = record {
   some = omega arith;
   within = omega arith;
   spells = lone_quote (is_some (text_value (b ∷ []))) true (text_value-take b bytes 0 quote (omega arith) ∙ ap (is_at 0) unclosed) refl;
-  longest = longer
+  longest = longer;
 }
   where
     longer : (n : ℕ) → 1 < n → n ≤ length (b ∷ bytes) → text_piece (take n (b ∷ bytes)) ≡ None
@@ -287,5 +289,6 @@ two_digit_escape c d e p q r =
   where
     digit_small : (d : ℕ) → is_ascii_digit d ≡ true → d - 48 ≤ 9
     digit_small d h = grind (arith, nat_tests)
+
     two_only : (c d e : Bool) → c ≡ true → d ≡ true → e ≡ false → cond c (1 + cond d (1 + cond e (1 + 0) 0) 0) 0 ≡ 2
     two_only c d e p q r = rw (p, q, r) refl

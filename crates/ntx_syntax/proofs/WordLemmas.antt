@@ -21,9 +21,12 @@ some_run : (p : ℕ → Bool) (b : ℕ) (bytes : List ℕ) → p b ≡ true → 
 some_run p b bytes h = rw h (omega arith)
 
 -- a byte that begins a name goes on with one
-pub word_run : (bytes : List ℕ) → begins_name (slice_index bytes 0) ≡ true → 0 < prefix_len continues_name bytes
+pub continues : (b : ℕ) → begins_name b ≡ true → continues_name b ≡ true
+continues b h = or_more (is_in_range 48 57 b) (is_in_range 65 90 b) (is_in_range 97 122 b) (b == 95) h
+
+word_run : (bytes : List ℕ) → begins_name (slice_index bytes 0) ≡ true → 0 < prefix_len continues_name bytes
 word_run [] h = absurd (false≢true h)
-word_run (b ∷ bytes) h = some_run continues_name b bytes (or_more (is_in_range 48 57 b) (is_in_range 65 90 b) (is_in_range 97 122 b) (b == 95) h)
+word_run (b ∷ bytes) h = some_run continues_name b bytes (continues b h)
 
 pub word_front : (bytes : List ℕ) (len : ℕ) (sort : Sort) → begins_name (slice_index bytes 0) ≡ true → len ≡ prefix_len continues_name bytes → sort ≡ word_sort (take len bytes) → IsFrontOf word_piece bytes len (Token sort)
 word_front bytes len sort begins len_is sort_is = record {

@@ -1,7 +1,7 @@
 -- The tokens of a script: it is cut into pieces, each the longest that is spelled at its place, and the tokens are the pieces but blanks and
 -- comments, each with its slice and its line (Lua 5.3 Reference Manual, section 3.1). The first piece that may not stand in a script
 -- refuses it.
-use Rattle.std.specs.Prelude.{◌≡◌, ◌<◌, ◌≤◌, ℕ, zero, suc, ◌+◌, ◌-◌, Bool, List, [], ◌∷◌, ◌++◌, length, take, drop, count_by, slice_range, Option, None, Some, IsSome, is_some, Result, Ok, Err, if◌then◌else◌}
+use Rattle.std.specs.Prelude.{◌≡◌, ◌↔◌, ◌<◌, ◌≤◌, ℕ, zero, suc, ◌+◌, ◌-◌, Bool, List, [], ◌∷◌, ◌++◌, length, take, drop, count_by, slice_range, Option, None, Some, IsSome, is_some, Result, Ok, Err, if◌then◌else◌}
 use Rattle.ntx_num.specs.Answer.{result_map}
 use Rattle.ntx_syntax.specs.declared.token.Sort.{Sort}
 use Rattle.ntx_syntax.specs.declared.token.Token as token
@@ -73,16 +73,36 @@ parts_of bytes = cut_from 0 bytes
 abbrev pub lexed_of : List ℕ → Result (List token.Token) SyntaxFault
 lexed_of bytes = tokens_of 0 1 (parts_of bytes)
 
+-- ---- where tokens stand
+
+-- The tokens stand in the bytes one after the other, from this place on: each has a slice that spells it, and its line is one more than the
+-- lines that end before it.
+abbrev pub StandInOrder : List ℕ → ℕ → List token.Token → Type 0
+StandInOrder bytes from [] = Unit {0}
+StandInOrder bytes from (t ∷ tokens) =
+    (from ≤ t.start) × (t.start < t.end) × (t.end ≤ length bytes)
+    × (piece_of (slice_range bytes t.start t.end) ≡ Some (Token t.sort))
+    × (t.line ≡ 1 + line_ends (take t.start bytes))
+    × StandInOrder bytes t.end tokens
+
 -- ---- laws
 
 -- Bytes are cut in one way.
 abbrev pub CutIsOne : Type 0
 CutIsOne = (bytes : List ℕ) → IsCut bytes (parts_of bytes) × ((parts : List (List ℕ)) → IsCut bytes parts → parts ≡ parts_of bytes)
 
--- A script that has tokens has no others.
+-- A script has the tokens that are computed, and no others.
+abbrev pub LexesAsComputed : Type 0
+LexesAsComputed = (bytes : List ℕ) (tokens : List token.Token) → Lexes bytes tokens ↔ (lexed_of bytes ≡ Ok tokens)
+
+-- A script is refused with the fault that is computed, and with no other.
+abbrev pub IsRefusedAsComputed : Type 0
+IsRefusedAsComputed = (bytes : List ℕ) (fault : SyntaxFault) → IsRefused bytes fault ↔ (lexed_of bytes ≡ Err fault)
+
+-- Two lists of tokens of one script are one.
 abbrev pub LexesOnce : Type 0
 LexesOnce = (bytes : List ℕ) (tokens others : List token.Token) → Lexes bytes tokens → Lexes bytes others → tokens ≡ others
 
--- A script that has tokens is not refused.
-abbrev pub LexesOrIsRefused : Type 0
-LexesOrIsRefused = (bytes : List ℕ) (tokens : List token.Token) (fault : SyntaxFault) → Lexes bytes tokens → IsRefused bytes fault → ⊥
+-- The tokens of a script stand in it.
+abbrev pub TokensStandInOrder : Type 0
+TokensStandInOrder = (bytes : List ℕ) (tokens : List token.Token) → Lexes bytes tokens → StandInOrder bytes 0 tokens

@@ -1,8 +1,8 @@
 //! The tokens of a script.
 
-ghost use Rattle.std.specs.Prelude.{◌≡◌, ◌<◌, ◌≤◌, length, IfOk};
+ghost use Rattle.std.specs.Prelude.{◌≡◌, ◌<◌, ◌≤◌, ℕ, List, length, IfOk};
 ghost use Rattle.ntx_num.specs.Answer.{Answers, result_map};
-ghost use Rattle.ntx_syntax.specs.Lexes.{lexed_of, line_ends, Lexes};
+ghost use Rattle.ntx_syntax.specs.Lexes.{lexed_of, line_ends, Lexes, IsRefused, StandInOrder};
 ghost use Rattle.ntx_syntax.specs.Front.{IsFront};
 
 use crate::bytes::{begins_name, is_blank, is_quote};
@@ -46,11 +46,8 @@ fn line_ends(bytes: &[u8]) -> usize
     bytes.iter().filter(|b| **b == b'\n').count()
 }
 
-/// The tokens of a script (Lua 5.3 Reference Manual, section 3.1), each with its slice of the bytes and its line.
-///
-/// The script is refused at the first byte or token that may not stand in it: Byte, Number, Text, Comment or Symbol, at
-/// the line on which that token begins.
-pub fn tokens(alloc: Global, bytes: &[u8]) -> Result<Vec<Token>, Fail<SyntaxFault>>
+/// The tokens of a script, or its first fault.
+fn lex(alloc: Global, bytes: &[u8]) -> Result<Vec<Token>, Fail<SyntaxFault>>
     ensures { Answers (result_map (λ tokens. tokens.items) result) (lexed_of bytes.now) }
 {
     let mut found = Vec::new(alloc);
@@ -74,4 +71,22 @@ pub fn tokens(alloc: Global, bytes: &[u8]) -> Result<Vec<Token>, Fail<SyntaxFaul
         start = end;
     }
     Ok(found)
+}
+
+/// The tokens of a script (Lua 5.3 Reference Manual, section 3.1), each with its slice of the bytes and its line.
+///
+/// The script is refused at the first place where something may not stand in it, with the line on which that begins:
+/// Byte, Number, Text, Comment or Symbol.
+pub fn tokens(alloc: Global, bytes: &[u8]) -> Result<Vec<Token>, Fail<SyntaxFault>>
+    // What it gives are the script's tokens, and each stands in the script.
+    ensures lexes { IfOk result (λ tokens. Lexes bytes.now tokens.items) }
+    ensures stand { IfOk result (λ tokens. StandInOrder bytes.now 0 tokens.items) }
+    // A script that has tokens is given them, unless memory runs out.
+    ensures only { (found : List Token) → Lexes bytes.now found → Answers (result_map (λ tokens. tokens.items) result) (Ok found) }
+    // A script that has none is refused with its first fault, unless memory runs out.
+    ensures refused { (fault : SyntaxFault) → IsRefused bytes.now fault → Answers (result_map (λ tokens. tokens.items) result) (Err fault) }
+    // Both are computed.
+    ensures answer { Answers (result_map (λ tokens. tokens.items) result) (lexed_of bytes.now) }
+{
+    lex(alloc, bytes)
 }

@@ -8,6 +8,7 @@
 mod bytes;
 mod comment;
 mod fault;
+mod laws;
 mod lex;
 mod numeral;
 mod piece;
@@ -18,6 +19,9 @@ mod tree;
 mod word;
 
 pub use fault::{SyntaxFault, SyntaxWhy};
+pub use laws::{
+    cut_is_one, is_refused_as_computed, lexes_as_computed, lexes_once, tokens_stand_in_order,
+};
 pub use lex::tokens;
 pub use token::{Sort, Token};
 pub use tree::{

@@ -26,16 +26,14 @@ pub loop-at-preserved-then-b-eq92 : goal.loop-at-preserved-then-b-eq92
 loop-at-preserved-then-b-eq92 c =
     let bytes = c.args.bytes.now in
     let at = c.loop-at.at in
-    let len = c.in_ok-at.field-0 in
-    (
+    let len = c.in_ok-at.field-0 in (
       escape_here c.args.quote at bytes _ c.loop-at.invariant.0 c.loop-at-test.true (ne_eqb _ _ c.if-b-quote.false) (ne_eqb _ _ c.if-b-eq10.false) (eq-eqb _ _ c.if-b-eq92.true) len
-      (ap (λ rest. option_map (λ e. e.1) (escape rest)) (sym (take_rest bytes (at + 1))) ∙ sym c.escape_len.ensures.value ∙ c.in_ok-at.was),
-      omega (arith, c.in_ok-at.ensures.within, ap length (take_rest bytes (at + 1)), length-drop (at + 1) bytes)
+          (ap (λ rest. option_map (λ e. e.1) (escape rest)) (sym (take_rest bytes (at + 1))) ∙ sym c.escape_len.ensures.value ∙ c.in_ok-at.was),
+      omega (arith, c.in_ok-at.ensures.within, ap length (take_rest bytes (at + 1)), length-drop (at + 1) bytes),
     )
 
 pub loop-at-preserved : goal.loop-at-preserved
-loop-at-preserved c =
-    (
-      plain_here c.args.quote c.loop-at.at c.args.bytes.now _ c.loop-at.invariant.0 c.loop-at-test.true (ne_eqb _ _ c.if-b-quote.false) (ne_eqb _ _ c.if-b-eq10.false) (ne_eqb _ _ c.if-b-eq92.false),
-      omega arith
-    )
+loop-at-preserved c = (
+  plain_here c.args.quote c.loop-at.at c.args.bytes.now _ c.loop-at.invariant.0 c.loop-at-test.true (ne_eqb _ _ c.if-b-quote.false) (ne_eqb _ _ c.if-b-eq10.false) (ne_eqb _ _ c.if-b-eq92.false),
+  omega arith,
+)

@@ -1,7 +1,7 @@
 use Rattle.std.proofs.Common.{length, ◌-◌, ◌+◌, ◌≡◌, ◌≤◌, ◌++◌, drop}
 use Rattle.ntx_num.specs.Answer.{result_map}
 use Rattle.ntx_syntax.specs.Lexes.{lexed_of, tokens_of, parts_of}
-use Rattle.ntx_syntax.proofs.lex.tokens.Given as goal
+use Rattle.ntx_syntax.proofs.lex.lex.Given as goal
 
 abbrev pub invariant-loop-start : goal.invariant-loop-start
 invariant-loop-start l = record {
