@@ -7,4 +7,5 @@ pub mod OptionLemmas
 pub mod RunLemmas
 pub mod SymbolLemmas
 pub mod TextLemmas
+pub mod ValueLemmas
 pub mod WordLemmas

@@ -66,7 +66,7 @@ and_false true = refl
 and_false false = refl
 
 -- what has a hexadecimal form begins with `0x` and a digit
-hexadecimal_begins : (bytes : List ℕ) → is_hexadecimal bytes ≡ true → begins_hexadecimal bytes ≡ true
+pub hexadecimal_begins : (bytes : List ℕ) → is_hexadecimal bytes ≡ true → begins_hexadecimal bytes ≡ true
 hexadecimal_begins [] h = absurd (false≢true h)
 hexadecimal_begins (o ∷ []) h = absurd (false≢true h)
 hexadecimal_begins (o ∷ x ∷ []) h = absurd (false≢true h)
@@ -121,7 +121,7 @@ decimal_ends bytes len digit plain len_is =
     }
 
 -- The digits before an `x` are not more than one.
-x_is_no_digit : (x : ℕ) → nat_eq x 120 ≡ true → is_ascii_digit x ≡ false
+pub x_is_no_digit : (x : ℕ) → nat_eq x 120 ≡ true → is_ascii_digit x ≡ false
 x_is_no_digit x h = rw (eqb-true x 120 h) refl
 
 short_run : (o x : Bool) (k : ℕ) → x ≡ false → cond o (1 + cond x (1 + k) 0) 0 ≤ 1

@@ -53,6 +53,11 @@ quoted_len quote zero (b ∷ bytes) =
     else (if b == 92 then option_and_then (λ e. option_map suc (quoted_len quote e.1 bytes)) (escape bytes)
     else option_map suc (quoted_len quote 0 bytes)))
 
+-- the character at the front of bytes within a text, and how many bytes spell it
+abbrev pub character : List ℕ → Option (ℕ × ℕ)
+character [] = None
+character (b ∷ bytes) = if b == 92 then option_map (λ e. (e.0, e.1 + 1)) (escape bytes) else Some (b, 1)
+
 -- ---- comments
 
 -- How many bytes stand up to the end of the first closing bracket of this level, if there is one.

@@ -8,7 +8,9 @@ use Rattle.ntx_syntax.specs.declared.token.Token as token
 use Rattle.ntx_syntax.specs.declared.fault.SyntaxFault.{SyntaxFault}
 use Rattle.ntx_syntax.specs.declared.piece.Piece.{Piece}
 use Rattle.ntx_syntax.specs.declared.piece.Piece.TheVariants.{Gap, Token, Wrong}
+use Rattle.ntx_syntax.specs.declared.token.Sort.TheVariants as sort
 use Rattle.ntx_syntax.specs.Bytes.{is_line_end}
+use Rattle.ntx_syntax.specs.Values.{numeral_value, text_value}
 use Rattle.ntx_syntax.specs.Pieces.{piece_of}
 
 -- ---- the cut
@@ -106,3 +108,10 @@ LexesOnce = (bytes : List ℕ) (tokens others : List token.Token) → Lexes byte
 -- The tokens of a script stand in it.
 abbrev pub TokensStandInOrder : Type 0
 TokensStandInOrder = (bytes : List ℕ) (tokens : List token.Token) → Lexes bytes tokens → StandInOrder bytes 0 tokens
+
+-- What spells a numeral or a text has a value.
+abbrev pub NumeralsHaveValues : Type 0
+NumeralsHaveValues = (bytes : List ℕ) → piece_of bytes ≡ Some (Token sort.Numeral) → IsSome (numeral_value bytes)
+
+abbrev pub TextsHaveValues : Type 0
+TextsHaveValues = (bytes : List ℕ) → piece_of bytes ≡ Some (Token sort.Text) → IsSome (text_value bytes)

@@ -1,7 +1,8 @@
 //! Classes of bytes, and runs of them.
 
-ghost use Rattle.std.specs.Prelude.{◌≡◌, ◌≢◌, ◌<◌, ◌≤◌, length, slice_index};
+ghost use Rattle.std.specs.Prelude.{◌≡◌, ◌≢◌, ◌<◌, ◌≤◌, length, slice_index, true};
 ghost use Rattle.std.specs.List.{prefix_len};
+ghost use Rattle.std.specs.Char.{is_ascii_hexdigit, digit_value};
 ghost use Rattle.ntx_syntax.specs.Bytes as class;
 ghost use Rattle.ntx_syntax.specs.Front.{is_in};
 
@@ -78,4 +79,17 @@ pub fn is_quote(b: u8) -> bool
     ensures { result ≡ class.is_quote b }
 {
     b == b'"' || b == b'\''
+}
+
+/// The value of a hexadecimal digit.
+pub fn hex_value(c: u8) -> u8
+    requires { is_ascii_hexdigit c ≡ true }
+    ensures value { result ≡ digit_value c }
+    ensures small { result < 16 }
+{
+    match c {
+        b'0'..=b'9' => c - b'0',
+        b'A'..=b'F' => c - b'A' + 10,
+        _ => c - b'a' + 10,
+    }
 }

@@ -26,3 +26,13 @@ pub fn lexes_once()
 pub fn tokens_stand_in_order()
     ensures { lexes.TokensStandInOrder }
 {}
+
+/// What spells a numeral has a value.
+pub fn numerals_have_values()
+    ensures { lexes.NumeralsHaveValues }
+{}
+
+/// What spells a text has a value.
+pub fn texts_have_values()
+    ensures { lexes.TextsHaveValues }
+{}

@@ -20,9 +20,12 @@ mod word;
 
 pub use fault::{SyntaxFault, SyntaxWhy};
 pub use laws::{
-    cut_is_one, is_refused_as_computed, lexes_as_computed, lexes_once, tokens_stand_in_order,
+    cut_is_one, is_refused_as_computed, lexes_as_computed, lexes_once, numerals_have_values,
+    texts_have_values, tokens_stand_in_order,
 };
 pub use lex::tokens;
+pub use numeral::numeral_value;
+pub use text::text_value;
 pub use token::{Sort, Token};
 pub use tree::{
     BinaryOp, Block, Call, Chunk, Exp, Field, FunctionBody, Head, IfArm, LocalName, Name,

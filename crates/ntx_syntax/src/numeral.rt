@@ -1,14 +1,14 @@
 //! Numerals.
 
-ghost use Rattle.std.specs.Prelude.{◌≡◌, ◌^◌, nat_lt, if◌then◌else◌, slice_index, take, is_some, true};
+ghost use Rattle.std.specs.Prelude.{◌≡◌, ◌%◌, ◌^◌, IsSome, nat_lt, if◌then◌else◌, slice_index, take, is_some, true};
 ghost use Rattle.std.specs.List.{list_all};
-ghost use Rattle.std.specs.Char.{is_ascii_digit};
+ghost use Rattle.std.specs.Char.{is_ascii_digit, is_ascii_hexdigit};
 ghost use Rattle.std.specs.Str.Parse.{digits_value};
 ghost use Rattle.ntx_syntax.specs.Values.{numeral_value};
 ghost use Rattle.ntx_syntax.specs.Pieces.{numeral_piece};
 ghost use Rattle.ntx_syntax.specs.Front.{IsFrontOf, EndsForm, begins_hexadecimal};
 
-use crate::bytes::{Class, byte, run, spoils_numeral};
+use crate::bytes::{Class, byte, hex_value, run, spoils_numeral};
 use crate::fault::SyntaxWhy;
 use crate::piece::Piece;
 use crate::token::Sort;
@@ -32,6 +32,34 @@ fn decimal_value(digits: &[u8]) -> Option<u64>
         }
     }
     Some(value)
+}
+
+/// The integer that hexadecimal digits write, modulo 2^64.
+fn hexadecimal_value(digits: &[u8]) -> u64
+    requires { list_all is_ascii_hexdigit digits.now ≡ true }
+    ensures { result ≡ digits_value 16 digits.now % 2 ^ 64 }
+{
+    let mut value = 0;
+    for digit in digits {
+        value = value % (1 << 60) * 16 + hex_value(*digit) as u64;
+    }
+    value
+}
+
+/// The integer that a numeral stands for. A hexadecimal one wraps to 64 bits.
+pub fn numeral_value(bytes: &[u8]) -> i64
+    requires { IsSome (numeral_value bytes.now) }
+    ensures { numeral_value bytes.now ≡ Some result }
+{
+    if begins_hexadecimal(bytes) {
+        hexadecimal_value(&bytes[2..]).cast_signed()
+    } else {
+        match decimal_value(bytes) {
+            Some(value) => value as i64,
+            // A numeral that is not hexadecimal has a value.
+            None => unreachable!(),
+        }
+    }
 }
 
 /// Whether `0x` and a hexadecimal digit stand at the front.

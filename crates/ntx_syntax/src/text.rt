@@ -1,16 +1,19 @@
 //! Texts.
 
-ghost use Rattle.std.specs.Prelude.{◌≡◌, ◌<◌, ◌≤◌, [], ◌∷◌, length, IfSome, option_map, slice_index, true};
-ghost use Rattle.std.specs.Char.{is_ascii_digit, is_ascii_hexdigit, digit_value};
+ghost use Rattle.std.specs.Prelude.{◌≡◌, ◌<◌, ◌≤◌, [], ◌∷◌, length, IfSome, IsSome, option_map, slice_index, true};
+ghost use Rattle.std.specs.Char.{is_ascii_digit};
+ghost use Rattle.ntx_num.specs.Answer.{Gives, result_map};
 ghost use Rattle.ntx_syntax.specs.Bytes.{is_quote};
 ghost use Rattle.ntx_syntax.specs.Values as value;
 ghost use Rattle.ntx_syntax.specs.Pieces.{text_piece};
-ghost use Rattle.ntx_syntax.specs.Front.{IsFrontOf, quoted_len};
+ghost use Rattle.ntx_syntax.specs.Front.{IsFrontOf, quoted_len, character};
 
-use crate::bytes::byte;
+use crate::bytes::{byte, hex_value};
 use crate::fault::SyntaxWhy;
 use crate::piece::Piece;
 use crate::token::Sort;
+use ntx_num::NoMemory;
+use std::alloc::Global;
 
 /// The byte that a letter or a mark behind a backslash stands for.
 fn plain_escape(c: u8) -> Option<u8>
@@ -47,19 +50,6 @@ fn decimal_escape(c: u8, d: u8, e: u8) -> Option<(u8, usize)>
         Some((three as u8, 3))
     } else {
         None
-    }
-}
-
-/// The value of a hexadecimal digit.
-fn hex_value(c: u8) -> u8
-    requires { is_ascii_hexdigit c ≡ true }
-    ensures value { result ≡ digit_value c }
-    ensures small { result < 16 }
-{
-    match c {
-        b'0'..=b'9' => c - b'0',
-        b'A'..=b'F' => c - b'A' + 10,
-        _ => c - b'a' + 10,
     }
 }
 
@@ -132,4 +122,39 @@ pub fn text(bytes: &[u8]) -> (Piece, usize)
         Some(len) => (Piece::Token(Sort::Text), len + 1),
         None => (Piece::Wrong(SyntaxWhy::Text), 1),
     }
+}
+
+/// The character at the front of bytes within a text, and how many bytes spell it.
+fn character(bytes: &[u8]) -> Option<(u8, usize)>
+    requires { 0 < length bytes.now }
+    ensures value { result ≡ character bytes.now }
+    ensures within { IfSome result (λ found. (0 < found.1) × (found.1 ≤ length bytes.now)) }
+{
+    if bytes[0] == b'\\' {
+        let (value, len) = escape(&bytes[1..])?;
+        Some((value, len + 1))
+    } else {
+        Some((bytes[0], 1))
+    }
+}
+
+/// The bytes that a text stands for, of those that spell it with its quotes.
+pub fn text_value(alloc: Global, bytes: &[u8]) -> Result<Vec<u8>, NoMemory>
+    requires { IsSome (value.text_value bytes.now) }
+    ensures { Gives (result_map (λ found. Some found.items) result) (value.text_value bytes.now) }
+{
+    let mut found = Vec::new(alloc);
+    let quote = byte(bytes, 0);
+    let mut at = 1;
+    while byte(bytes, at) != quote {
+        match character(&bytes[at..]) {
+            Some((value, len)) => {
+                found.push(value)?;
+                at += len;
+            }
+            // A text has nothing but characters before its closing quote.
+            None => unreachable!(),
+        }
+    }
+    Ok(found)
 }
