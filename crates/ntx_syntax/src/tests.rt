@@ -1,12 +1,16 @@
 //! Scripts whose tokens or whose fault is written out by hand.
 
-use crate::{Sort, SyntaxFault, SyntaxWhy, tokens};
+use crate::{
+    Sort, SyntaxFault, SyntaxWhy, cut_is_one, is_refused_as_computed, lexes_as_computed,
+    lexes_once, numeral_value, numerals_have_values, text_value, texts_have_values, tokens,
+    tokens_stand_in_order,
+};
 use ntx_num::Fail;
 use std::alloc::Global;
 use std::test::Fail as TestFail;
 
 /// Scripts, and the sort, the start, the end and the line of each of their tokens.
-const ACCEPTED: [(&[u8], &[(Sort, u64, u64, u64)]); 85] = [
+static ACCEPTED: [(&[u8], &[(Sort, u64, u64, u64)]); 85] = [
     (b"+", &[(Sort::Symbol, 0, 1, 1)]),
     (b"-", &[(Sort::Symbol, 0, 1, 1)]),
     (b"*", &[(Sort::Symbol, 0, 1, 1)]),
@@ -129,7 +133,7 @@ const ACCEPTED: [(&[u8], &[(Sort, u64, u64, u64)]); 85] = [
 ];
 
 /// Scripts that are refused, with the line and the reason.
-const REFUSED: [(&[u8], u64, SyntaxWhy); 47] = [
+static REFUSED: [(&[u8], u64, SyntaxWhy); 47] = [
     (b"a / b", 1, SyntaxWhy::Symbol),
     (b"x = 3a", 1, SyntaxWhy::Number),
     (b"...", 1, SyntaxWhy::Symbol),
@@ -179,6 +183,16 @@ const REFUSED: [(&[u8], u64, SyntaxWhy); 47] = [
     (b"\"a\" 3a !", 1, SyntaxWhy::Number),
 ];
 
+/// The table of scripts with tokens, of which a proof knows nothing.
+fn accepted() -> &'static [(&'static [u8], &'static [(Sort, u64, u64, u64)])] {
+    &ACCEPTED
+}
+
+/// The table of refused scripts.
+fn refused() -> &'static [(&'static [u8], u64, SyntaxWhy)] {
+    &REFUSED
+}
+
 /// The fault for which a script is refused, if it is refused.
 fn fault_of(alloc: Global, script: &[u8]) -> Option<SyntaxFault> {
     match tokens(alloc, script) {
@@ -189,7 +203,7 @@ fn fault_of(alloc: Global, script: &[u8]) -> Option<SyntaxFault> {
 
 #[test]
 fn cuts_scripts_into_tokens(rt: HostRuntime) -> Result<(), TestFail> {
-    for (row, (script, want)) in ACCEPTED.iter().enumerate() {
+    for (row, (script, want)) in accepted().iter().enumerate() {
         let Ok(found) = tokens(rt.alloc(), script) else {
             panic!(&rt; "row {row} is refused");
         };
@@ -206,7 +220,7 @@ fn cuts_scripts_into_tokens(rt: HostRuntime) -> Result<(), TestFail> {
 
 #[test]
 fn refuses_scripts_at_their_first_fault(rt: HostRuntime) -> Result<(), TestFail> {
-    for (row, (script, line, why)) in REFUSED.iter().enumerate() {
+    for (row, (script, line, why)) in refused().iter().enumerate() {
         let want = SyntaxFault {
             line: *line,
             why: *why,
@@ -214,4 +228,51 @@ fn refuses_scripts_at_their_first_fault(rt: HostRuntime) -> Result<(), TestFail>
         assert_eq!(rt; fault_of(rt.alloc(), script), Some(want), "row {row}");
     }
     Ok(())
+}
+
+#[test]
+fn numerals_wrap_only_in_hexadecimal(rt: HostRuntime) {
+    assert_eq!(rt; numeral_value(b"0042"), 42);
+    assert_eq!(rt; numeral_value(b"9223372036854775807"), i64::MAX);
+    assert_eq!(rt; numeral_value(b"0x7f"), 127);
+    assert_eq!(rt; numeral_value(b"0xffffffffffffffff"), -1);
+    assert_eq!(rt; numeral_value(b"0x8000000000000000"), i64::MIN);
+    assert_eq!(rt;
+        numeral_value(b"0x1230000000000000f1"),
+        0x3000_0000_0000_00f1
+    );
+}
+
+#[test]
+fn escapes_stand_for_bytes(rt: HostRuntime) -> Result<(), TestFail> {
+    let empty = text_value(rt.alloc(), b"''")?;
+    assert_eq!(rt; empty.as_slice(), b"".as_slice());
+    let letters = text_value(rt.alloc(), b"'\\a\\b\\f\\n\\r\\t\\v\\\\\\'\\\"'")?;
+    assert_eq!(rt;
+        letters.as_slice(),
+        [7, 8, 12, 10, 13, 9, 11, 92, 39, 34].as_slice()
+    );
+    let numbers = text_value(rt.alloc(), b"\"\\0\\65\\2555\\x4a\\xFf'\"")?;
+    assert_eq!(rt;
+        numbers.as_slice(),
+        [0, 65, 255, 53, 74, 255, 39].as_slice()
+    );
+    Ok(())
+}
+
+#[test]
+fn reasons_have_names(rt: HostRuntime) {
+    assert_eq!(rt; SyntaxWhy::Byte.name(), "Byte");
+    assert_eq!(rt; SyntaxWhy::Size.name(), "Size");
+}
+
+#[test]
+fn laws_are_there_to_call() {
+    cut_is_one();
+    lexes_as_computed();
+    is_refused_as_computed();
+    lexes_once();
+    tokens_stand_in_order();
+    numerals_have_values();
+    texts_have_values();
 }
