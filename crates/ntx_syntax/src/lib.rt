@@ -25,6 +25,7 @@ pub use laws::{
 };
 pub use lex::tokens;
 pub use numeral::numeral_value;
+pub use piece::Piece;
 pub use text::text_value;
 pub use token::{Sort, Token};
 pub use tree::{
