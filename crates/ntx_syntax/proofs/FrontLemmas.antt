@@ -1,15 +1,14 @@
 -- The longest piece at the front, by its first byte.
-use Rattle.std.proofs.Common.{◌≡◌, ℕ, zero, suc, ◌+◌, ◌<◌, ◌≤◌, Bool, true, false, ◌&&◌, cond, List, [], ◌∷◌, length, take, drop, Option, Some, None, refl, sym, ap, ◌∙◌, subst, ⊎_elim, arith}
+use Rattle.std.proofs.Common.{◌≡◌, ℕ, zero, suc, ◌<◌, ◌≤◌, Bool, true, false, ◌&&◌, cond, List, [], ◌∷◌, length, take, drop, Option, None, refl, ap, ◌∙◌, arith}
 use Rattle.std.specs.Prelude.{slice_index, nat_eq}
 use Rattle.std.specs.Char.{is_ascii_digit}
-use Rattle.std.proofs.lemmas.Bool.{false≢true, ne_eqb, and_left, and_right}
+use Rattle.std.proofs.lemmas.Bool.{ne_eqb}
 use Rattle.std.proofs.lemmas.List.{length-take-le}
 use Rattle.ntx_syntax.specs.declared.piece.Piece.{Piece}
 use Rattle.ntx_syntax.specs.declared.piece.Piece.TheVariants.{Gap}
 use Rattle.ntx_syntax.specs.Bytes.{is_blank, begins_name, is_quote}
 use Rattle.ntx_syntax.specs.Pieces.{piece_of, piece_if, word_piece, numeral_piece, text_piece, comment_piece, begins_comment, symbol_piece}
 use Rattle.ntx_syntax.specs.Front.{IsFrontOf, IsFront}
-use Rattle.ntx_syntax.proofs.RunLemmas.{slice_index-take}
 
 abbrev pub choice : Bool → Bool → Bool → Bool → Bool → (gap word numeral text comment symbol : Option Piece) → Option Piece
 choice blank name digit quote dashes gap word numeral text comment symbol =

@@ -1,29 +1,27 @@
 -- The laws of the tokens of a script.
-use Rattle.std.proofs.Common.{◌≡◌, ℕ, zero, suc, ◌+◌, ◌-◌, ◌^◌, ◌<◌, ◌≤◌, Bool, true, false, ◌&&◌, ◌||◌, cond, List, [], ◌∷◌, ◌++◌, length, take, drop, Option, Some, None, Result, Ok, Err, refl, sym, ap, ◌∙◌, subst, ⊎_elim, append_assoc, Vec, Global, arith}
-use Rattle.std.specs.Prelude.{is_some, IsSome, IfOk, nat_eq, slice_range, ◌↔◌}
+use Rattle.std.proofs.Common.{◌≡◌, ℕ, zero, suc, ◌+◌, ◌-◌, ◌<◌, ◌≤◌, Bool, true, false, ◌&&◌, ◌||◌, cond, List, [], ◌∷◌, ◌++◌, length, take, drop, Option, Some, None, Result, Ok, Err, refl, sym, ap, ◌∙◌, subst, ⊎_elim, append_assoc, Vec, Global, arith}
+use Rattle.std.specs.Prelude.{is_some, IfOk, nat_eq, slice_range, ◌↔◌}
 use Rattle.std.specs.Char.{is_ascii_digit}
-use Rattle.std.proofs.lemmas.Bool.{false≢true, cases_Bool, cases_lt}
-use Rattle.std.proofs.lemmas.List.{length-take-le, length-append, length-drop, take-append-drop, take_at, drop_at, drop-append-le, nil_from_length}
+use Rattle.std.proofs.lemmas.Bool.{false≢true, cases_lt}
+use Rattle.std.proofs.lemmas.List.{length-take-le, length-append, length-drop, take-append-drop, take_at, drop_at}
 use Rattle.std.proofs.lemmas.List.Sums.{sum_by-append}
 use Rattle.std.proofs.Math.Seq.{take-append-add, take-append_seam}
 use Rattle.ntx_num.specs.Answer.{Answers, result_map}
 use Rattle.ntx_num.specs.declared.answer.Fail.{Fail}
 use Rattle.ntx_syntax.specs.declared.token.Token as token
-use Rattle.ntx_syntax.specs.declared.token.Sort.{Sort}
 use Rattle.ntx_syntax.specs.declared.token.Sort.TheVariants as sort
 use Rattle.ntx_syntax.specs.declared.fault.SyntaxFault.{SyntaxFault}
-use Rattle.ntx_syntax.specs.declared.fault.SyntaxWhy.{SyntaxWhy}
 use Rattle.ntx_syntax.specs.declared.fault.SyntaxWhy.TheVariants as why
 use Rattle.ntx_syntax.specs.declared.piece.Piece.{Piece}
 use Rattle.ntx_syntax.specs.declared.piece.Piece.TheVariants.{Gap, Token, Wrong}
-use Rattle.ntx_syntax.specs.Bytes.{is_blank, is_line_end, begins_name, continues_name, is_quote}
+use Rattle.ntx_syntax.specs.Bytes.{is_blank, is_line_end, begins_name, is_quote}
 use Rattle.ntx_syntax.specs.Values.{numeral_value, text_value}
 use Rattle.ntx_syntax.specs.Pieces.{piece_of, piece_if, word_sort, word_piece, numeral_piece, is_spoiled, text_piece, comment_piece, begins_comment, symbol_piece}
 use Rattle.ntx_syntax.specs.Front.{IsFront}
 use Rattle.ntx_syntax.specs.Lexes.{IsLongestPiece, IsCut, line_ends, said, tokens_of, Lexes, IsRefused, parts_of, lexed_of, StandInOrder, CutIsOne, LexesAsComputed, IsRefusedAsComputed, LexesOnce, TokensStandInOrder}
 use Rattle.ntx_syntax.proofs.WordLemmas.{continues}
 use Rattle.ntx_syntax.proofs.SymbolLemmas.{symbol_piece-one}
-use Rattle.ntx_syntax.proofs.FrontLemmas.{by_tests, piece_of-cons}
+use Rattle.ntx_syntax.proofs.FrontLemmas.{piece_of-cons}
 use Rattle.ntx_syntax.proofs.LexLemmas.{parts_of-front, parts_of-nil}
 
 -- ---- each byte alone is a piece

@@ -1,10 +1,10 @@
 -- The longest text at the front.
-use Rattle.std.proofs.Common.{◌≡◌, ℕ, zero, suc, ◌+◌, ◌-◌, ◌*◌, ◌<◌, ◌≤◌, Bool, true, false, ◌&&◌, ◌||◌, cond, List, [], ◌∷◌, length, get_or, take, drop, Option, Some, None, refl, sym, ap, ◌∙◌, subst, inl, inr, ⊎_elim, ◌⊎◌, arith}
-use Rattle.std.specs.Prelude.{slice_index, is_some, nat_eq, nat_le, option_map, option_and_then, ◌==◌}
+use Rattle.std.proofs.Common.{◌≡◌, ℕ, zero, suc, ◌+◌, ◌-◌, ◌*◌, ◌<◌, ◌≤◌, Bool, true, false, ◌&&◌, cond, List, [], ◌∷◌, length, take, drop, Option, Some, None, refl, sym, ap, ◌∙◌, subst, inl, inr, ⊎_elim, ◌⊎◌, arith}
+use Rattle.std.specs.Prelude.{slice_index, is_some, nat_eq, nat_le, option_map, option_and_then}
 use Rattle.std.specs.List.{prefix_len}
 use Rattle.std.specs.Char.{is_ascii_digit, is_ascii_hexdigit, digit_value}
 use Rattle.std.specs.Str.Parse.{digits_value}
-use Rattle.std.proofs.lemmas.Bool.{false≢true, cases_Bool, cases_lt, ne_eqb, eq-eqb, le-leb}
+use Rattle.std.proofs.lemmas.Bool.{false≢true, cases_Bool, ne_eqb, eq-eqb, le-leb}
 use Rattle.std.proofs.lemmas.Bool.Decides.{nat_tests}
 use Rattle.ntx_syntax.proofs.NumeralLemmas.{digit_value-digit}
 use Rattle.std.proofs.lemmas.List.{at_drop_more, length-take-le, drop-drop}
@@ -15,7 +15,7 @@ use Rattle.ntx_syntax.specs.Bytes.{is_quote, is_line_end}
 use Rattle.ntx_syntax.specs.Values.{plain_escape, decimal_escape, hexadecimal_escape, escape_of, escape, characters, if_empty, text_value}
 use Rattle.ntx_syntax.specs.Pieces.{text_piece, piece_if}
 use Rattle.ntx_syntax.specs.Front.{IsFrontOf, quoted_len}
-use Rattle.ntx_syntax.proofs.RunLemmas.{slice_index-take, slice_index-take_past}
+use Rattle.ntx_syntax.proofs.RunLemmas.{slice_index-take}
 use Rattle.ntx_syntax.proofs.OptionLemmas.{is_at, is_at-zero, is_at-suc, is_some-map, map-zero, map-suc, map-suc_more, map-more, same_choice}
 
 -- ---- escapes

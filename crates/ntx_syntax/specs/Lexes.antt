@@ -1,9 +1,8 @@
 -- The tokens of a script: it is cut into pieces, each the longest that is spelled at its place, and the tokens are the pieces but blanks and
 -- comments, each with its slice and its line (Lua 5.3 Reference Manual, section 3.1). The first piece that may not stand in a script
 -- refuses it.
-use Rattle.std.specs.Prelude.{◌≡◌, ◌↔◌, ◌<◌, ◌≤◌, ℕ, zero, suc, ◌+◌, ◌-◌, Bool, List, [], ◌∷◌, ◌++◌, length, take, drop, count_by, slice_range, Option, None, Some, IsSome, is_some, Result, Ok, Err, if◌then◌else◌}
+use Rattle.std.specs.Prelude.{◌≡◌, ◌↔◌, ◌<◌, ◌≤◌, ℕ, zero, suc, ◌+◌, ◌-◌, List, [], ◌∷◌, ◌++◌, length, take, count_by, slice_range, Option, None, Some, IsSome, is_some, Result, Ok, Err, if◌then◌else◌}
 use Rattle.ntx_num.specs.Answer.{result_map}
-use Rattle.ntx_syntax.specs.declared.token.Sort.{Sort}
 use Rattle.ntx_syntax.specs.declared.token.Token as token
 use Rattle.ntx_syntax.specs.declared.fault.SyntaxFault.{SyntaxFault}
 use Rattle.ntx_syntax.specs.declared.piece.Piece.{Piece}

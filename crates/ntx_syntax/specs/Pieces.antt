@@ -1,9 +1,8 @@
 -- What bytes spell that stand alone: a blank or a comment, a token, or what may not stand in a script (Lua 5.3 Reference Manual, section 3.1).
 -- What may not stand is spelled too, so that the piece at a place is the longest that is spelled there, whatever it is: `3a` is no numeral
 -- and a name, but a wrong number, and a quote that no text begins with is a wrong text by itself.
-use Rattle.std.specs.Prelude.{ℕ, ◌+◌, ◌-◌, ◌==◌, ◌&&◌, ◌||◌, not, Bool, true, false, List, [], ◌∷◌, ◌++◌, length, take, drop, replicate, slice_index, Option, None, Some, is_some, if◌then◌else◌, bytes_eq, codes}
-use Rattle.std.specs.List.{list_all, list_any, prefix_len, starts_with}
-use Rattle.std.specs.Prelude.{nat_eq}
+use Rattle.std.specs.Prelude.{ℕ, ◌+◌, ◌-◌, ◌==◌, ◌&&◌, ◌||◌, not, Bool, false, List, [], ◌∷◌, length, take, drop, slice_index, Option, None, Some, is_some, if◌then◌else◌, bytes_eq, codes}
+use Rattle.std.specs.List.{list_all, list_any, prefix_len}
 use Rattle.std.specs.Char.{is_ascii_digit}
 use Rattle.ntx_syntax.specs.declared.token.Sort.TheVariants.{Name, Keyword, Numeral, Symbol}
 use Rattle.ntx_syntax.specs.declared.token.Sort.TheVariants as sort

@@ -1,9 +1,7 @@
-use Rattle.std.proofs.Common.{sym, ◌∙◌, ap, Some, arith}
-use Rattle.std.specs.Prelude.{nat_eq}
-use Rattle.std.specs.Option.{option_eq}
+use Rattle.std.proofs.Common.{sym, ◌∙◌, ap}
 use Rattle.std.proofs.lemmas.List.{take_rest}
 use Rattle.ntx_syntax.specs.Pieces.{bracket_level, is_level}
-use Rattle.ntx_syntax.proofs.CommentLemmas.{closes_here, not_here, is_level-eq}
+use Rattle.ntx_syntax.proofs.CommentLemmas.{not_here, is_level-eq}
 use Rattle.ntx_syntax.proofs.comment.bracketed_len.Goals as goal
 
 pub loop-at-preserved : goal.loop-at-preserved

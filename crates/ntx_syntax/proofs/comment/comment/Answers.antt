@@ -1,4 +1,4 @@
-use Rattle.std.proofs.Common.{subst, arith}
+use Rattle.std.proofs.Common.{subst}
 use Rattle.std.proofs.lemmas.List.{take_rest}
 use Rattle.ntx_syntax.specs.Front.{IsCommentRest}
 use Rattle.ntx_syntax.proofs.CommentLemmas.{comment_front, two_dashes}

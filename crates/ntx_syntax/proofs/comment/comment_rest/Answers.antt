@@ -1,4 +1,4 @@
-use Rattle.std.proofs.Common.{◌+◌, ◌≤◌, ◌<◌, length, drop, sym, ◌∙◌, ap, subst, arith}
+use Rattle.std.proofs.Common.{◌+◌, ◌≤◌, length, drop, sym, ◌∙◌, ap, subst}
 use Rattle.std.proofs.lemmas.List.{take_rest}
 use Rattle.ntx_syntax.specs.Front.{bracketed_len}
 use Rattle.ntx_syntax.proofs.CommentLemmas.{line_comment, open_comment, closed_comment, bracketed_some}

@@ -1,5 +1,4 @@
-use Rattle.std.proofs.Common.{◌≡◌, ℕ, ◌*◌, ◌^◌, ◌≤◌, ◌+◌, cond, Option, Some, None, sym, ap, arith}
-use Rattle.std.specs.Prelude.{nat_lt}
+use Rattle.std.proofs.Common.{cond, Some, None, sym, ap, arith}
 use Rattle.std.specs.Str.Parse.{digits_value}
 use Rattle.ntx_syntax.proofs.NumeralLemmas.{too_large_before, too_large_after}
 use Rattle.ntx_syntax.proofs.numeral.decimal_value.Goals as goal

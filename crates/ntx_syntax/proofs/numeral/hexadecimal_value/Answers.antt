@@ -1,4 +1,4 @@
-use Rattle.std.proofs.Common.{◌≡◌, ◌%◌, ◌*◌, ◌+◌, ◌^◌, drop, slice_index, subst, sym, arith}
+use Rattle.std.proofs.Common.{◌≡◌, ◌%◌, ◌*◌, ◌+◌, ◌^◌, drop, subst, sym, arith}
 use Rattle.std.specs.Str.Parse.{digits_value, digits_value_after}
 use Rattle.ntx_syntax.proofs.ValueLemmas.{wrapped_digit}
 use Rattle.ntx_syntax.proofs.numeral.hexadecimal_value.Goals as goal
