@@ -30,7 +30,8 @@ IsCut bytes (part ∷ parts) = (rest : List ℕ) × (bytes ≡ part ++ rest) × 
 abbrev pub line_ends : List ℕ → ℕ
 line_ends bytes = count_by is_line_end bytes
 
--- What a piece says from this place to this end, on this line, before others that say this.
+-- What a piece says from this place to this end, on this line, before others that say this. A gap says nothing, nor does what spells no piece,
+-- which no cut has.
 abbrev pub said : Option Piece → ℕ → ℕ → ℕ → Result (List token.Token) SyntaxFault → Result (List token.Token) SyntaxFault
 said None start end line others = others
 said (Some Gap) start end line others = others
@@ -49,7 +50,7 @@ tokens_of start line (part ∷ parts) =
 abbrev pub Lexes : List ℕ → List token.Token → Type 0
 Lexes bytes tokens = (parts : List (List ℕ)) × IsCut bytes parts × (tokens_of 0 1 parts ≡ Ok tokens)
 
--- The script is refused with this fault.
+-- The script is refused with this fault: the first of its pieces that may not stand in a script, on the line where that piece begins.
 abbrev pub IsRefused : List ℕ → SyntaxFault → Type 0
 IsRefused bytes fault = (parts : List (List ℕ)) × IsCut bytes parts × (tokens_of 0 1 parts ≡ Err fault)
 

@@ -247,8 +247,8 @@ pub enum BinaryOp {
     Subtract,
     /// `*`
     Multiply,
-    /// `//`
-    Divide,
+    /// `//`, which rounds toward minus infinity
+    FloorDivide,
     /// `%`
     Modulo,
 }
