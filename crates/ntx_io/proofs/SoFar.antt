@@ -1,28 +1,25 @@
 -- Between two calls of a read to the end or of a whole write: what was given or taken so far.
+use Rattle.std.specs.Prelude.{◌==◌, Bool, true, false}
 use Rattle.std.proofs.Common.{◌≡◌, ℕ, ◌+◌, ◌<◌, ◌≤◌, List, ◌++◌, length, take, drop, Option, Some, None, Ok, Err, subst, sym, ap, ◌∙◌, append_assoc, arith, length-append}
-use Rattle.std.proofs.Math.Seq.{take-append_seam, drop-append-add}
+use Rattle.std.proofs.Math.Seq.{drop-append-add}
 use Rattle.std.proofs.lemmas.List.{take-append-drop}
-use Rattle.ntx_io.specs.Outside.{GivesNext, Reads, Takes}
-use Rattle.ntx_io.specs.Whole.{IsLeftAfter, ReadsWhole, TakesWhole}
+use Rattle.ntx_io.specs.Outside.{GivesNext, Reads, Takes, Adds, AddsFront}
+use Rattle.ntx_io.specs.Whole.{IsLeftAfter, ReadsWhole}
 use Rattle.ntx_num.specs.declared.answer.Fail.TheVariants.{NoMemory, Is}
 use Rattle.ntx_io.specs.declared.whole.ReadWhy.TheVariants.{TooLarge}
 
--- the first k bytes of the text were taken, the others are the rest
-abbrev pub TakenSoFar : Option (List ℕ) → Option (List ℕ) → List ℕ → Type 0
-TakenSoFar (Some taken) now front = now ≡ Some (taken ++ front)
-TakenSoFar None now front = now ≡ None
-
+-- the first bytes of the text were taken, the others are the rest
 pub record WrittenSoFar (old now : Option (List ℕ)) (text rest : List ℕ) : Type 0 where
   pub front : List ℕ
   pub parts : text ≡ front ++ rest
-  pub taken : TakenSoFar old now front
+  pub taken : Adds old now front
 
 -- the bytes given so far and those that are left are those that were left at first
 abbrev pub GivenSoFar : Option (List ℕ) → Option (List ℕ) → List ℕ → Type 0
 GivenSoFar (Some left) now bytes = (rest : List ℕ) × (left ≡ bytes ++ rest) × (now ≡ Some rest)
 GivenSoFar None now bytes = now ≡ None
 
-taken_more : (E : Type 0) (old now new : Option (List ℕ)) (front rest : List ℕ) (k : ℕ) → TakenSoFar old now front → Takes {E = E} now new rest (Ok k) → TakenSoFar old new (front ++ take k rest)
+taken_more : (E : Type 0) (old now new : Option (List ℕ)) (front rest : List ℕ) (k : ℕ) → Adds old now front → Takes {E = E} now new rest (Ok k) → Adds old new (front ++ take k rest)
 taken_more E (Some taken) now new front rest k so_far takes =
     let step : Takes {E = E} (Some (taken ++ front)) new rest (Ok k) = subst (λ n. Takes {E = E} n new rest (Ok k)) so_far takes in
     step ∙ ap Some (append_assoc taken front (take k rest))
@@ -37,16 +34,20 @@ WrittenSoFar-more E old now new text rest k so_far takes = record {
   taken = taken_more E old now new so_far.front rest k so_far.taken takes;
 }
 
+failed_adds : (E : Type 0) (old now new : Option (List ℕ)) (front rest : List ℕ) (e : E) → Adds old now front → Takes {E = E} now new rest (Err e) → Adds old new front
+failed_adds E (Some taken) now new front rest e so_far takes =
+    subst (λ n. Takes {E = E} n new rest (Err e)) so_far takes
+failed_adds E None now new front rest e so_far takes =
+    subst (λ n. Takes {E = E} n new rest (Err e)) so_far takes
+
 -- A write that fails stops with what was taken so far.
-pub stops_written : (A E F : Type 0) (old now new : Option (List ℕ)) (text rest : List ℕ) (e : E) (f : F) → WrittenSoFar old now text rest → Takes {E = F} now new rest (Err f) → TakesWhole {A = A} {E = E} old new text (Err e)
-stops_written A E F (Some taken) now new text rest e f so_far takes =
-    let step : Takes {E = F} (Some (taken ++ so_far.front)) new rest (Err f) = subst (λ n. Takes {E = F} n new rest (Err f)) so_far.taken takes in (
-      length so_far.front,
-      rw (so_far.parts, length-append) (omega arith),
-      step ∙ ap (λ t. Some (taken ++ t)) (sym (ap (take (length so_far.front)) so_far.parts ∙ take-append_seam so_far.front rest)),
-    )
-stops_written A E F None now new text rest e f so_far takes =
-    subst (λ n. Takes {E = F} n new rest (Err f)) so_far.taken takes
+pub stops_written : (E : Type 0) (old now new : Option (List ℕ)) (text rest : List ℕ) (e : E) → WrittenSoFar old now text rest → Takes {E = E} now new rest (Err e) → AddsFront old new text
+stops_written E old now new text rest e so_far takes = record {
+  front = so_far.front;
+  rest = rest;
+  parts = so_far.parts;
+  adds = failed_adds E old now new so_far.front rest e so_far.taken takes;
+}
 
 -- A read after bytes were given leaves what lies behind those that it gave.
 left_after : (E : Type 0) (left rest : List ℕ) (new : Option (List ℕ)) (bytes buffer : List ℕ) (k : ℕ) → left ≡ bytes ++ rest → GivesNext rest new buffer k → IsLeftAfter (length bytes + k) left new
@@ -69,3 +70,15 @@ stops_without_memory E (Some left) now new bytes buffer k limit so_far reads wit
     (length bytes + k, within, left_after E left so_far.0 new bytes buffer k so_far.1 step)
 stops_without_memory E None now new bytes buffer k limit so_far reads within =
     subst (λ n. Reads {E = E} n new buffer (Ok k)) so_far reads
+
+length_of_rest : (old now : Option (List ℕ)) (text rest : List ℕ) → WrittenSoFar old now text rest → length text ≡ 0 → length rest ≡ 0
+length_of_rest old now text rest so_far none =
+    omega (arith, length-append so_far.front rest, ap length so_far.parts)
+
+true_is_no_false : true ≡ false → ⊥
+true_is_no_false e = cc
+
+-- An empty text has no rest to write.
+pub no_rest_of_nothing : (old now : Option (List ℕ)) (text rest : List ℕ) (empty : Bool) → WrittenSoFar old now text rest → length text ≡ 0 → empty ≡ (length rest == 0) → empty ≡ false → ⊥
+no_rest_of_nothing old now text rest empty so_far none is test =
+    true_is_no_false (sym (ap (λ n. n == 0) (length_of_rest old now text rest so_far none)) ∙ sym is ∙ test)

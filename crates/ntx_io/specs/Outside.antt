@@ -38,3 +38,15 @@ abbrev pub Takes : {E : Type 0} → Option (List ℕ) → Option (List ℕ) → 
 Takes (Some taken) new piece (Ok k) = new ≡ Some (taken ++ take k piece)
 Takes (Some taken) new piece (Err e) = new ≡ Some taken
 Takes None new piece result = new ≡ None
+
+-- The text was added to the bytes that were taken.
+abbrev pub Adds : Option (List ℕ) → Option (List ℕ) → List ℕ → Type 0
+Adds (Some taken) new text = new ≡ Some (taken ++ text)
+Adds None new text = new ≡ None
+
+-- Some first bytes of the text were added, and no others.
+pub record AddsFront (old new : Option (List ℕ)) (text : List ℕ) : Type 0 where
+  pub front : List ℕ
+  pub rest : List ℕ
+  pub parts : text ≡ front ++ rest
+  pub adds : Adds old new front

@@ -1,10 +1,10 @@
 -- What reading a source to its end and writing a whole text do.
-use Rattle.std.specs.Prelude.{◌≡◌, ℕ, ◌<◌, ◌≤◌, List, [], ◌++◌, length, take, drop, Option, Some, None, Result, Ok, Err}
+use Rattle.std.specs.Prelude.{◌≡◌, ℕ, ◌<◌, ◌≤◌, List, [], length, drop, Option, Some, None, Result, Ok, Err}
 use Rattle.ntx_num.specs.declared.answer.Fail.{Fail}
 use Rattle.ntx_num.specs.declared.answer.Fail.TheVariants.{NoMemory, Is}
 use Rattle.ntx_io.specs.declared.whole.ReadWhy.{ReadWhy}
 use Rattle.ntx_io.specs.declared.whole.ReadWhy.TheVariants.{ReadFault, TooLarge}
-use Rattle.ntx_io.specs.Outside.{Rose}
+use Rattle.ntx_io.specs.Outside.{Rose, Adds, AddsFront}
 
 -- The first k bytes were taken from those that were left.
 abbrev pub IsLeftAfter : ℕ → List ℕ → Option (List ℕ) → Type 0
@@ -21,9 +21,8 @@ ReadsWhole None new limit result = new ≡ None
 
 -- What writing a whole text does to the bytes that were taken. After a fault some of its first bytes were taken.
 abbrev pub TakesWhole : {A E : Type 0} → Option (List ℕ) → Option (List ℕ) → List ℕ → Result A E → Type 0
-TakesWhole (Some taken) new text (Ok _) = new ≡ Some (taken ++ text)
-TakesWhole (Some taken) new text (Err e) = (k : ℕ) × (k ≤ length text) × (new ≡ Some (taken ++ take k text))
-TakesWhole None new text result = new ≡ None
+TakesWhole old new text (Ok _) = Adds old new text
+TakesWhole old new text (Err e) = AddsFront old new text
 
 -- The count of a source never falls, rises at a fault, and else stays as it was.
 abbrev pub HasReadCause : ℕ → ℕ → Result (List ℕ) (Fail ReadWhy) → Type 0

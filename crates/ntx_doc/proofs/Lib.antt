@@ -1,0 +1,6 @@
+pub mod Position
+pub mod LinesLemmas
+pub mod FieldsLemmas
+pub mod DigitsLemmas
+pub mod ShapeLemmas
+pub mod SpellingLemmas

@@ -1,0 +1,12 @@
+use Rattle.std.proofs.Common.{rules, FitsSigned, w32, arith}
+use Rattle.std.proofs.lemmas.Int.{to_z-of_z}
+use Rattle.ntx_dvi.specs.Bytes.{operation_bytes}
+use Rattle.ntx_dvi.specs.Writer.{step}
+use Rattle.ntx_dvi.proofs.dvi.Dvi.page_end.Goals as goal
+
+pub returns : goal.returns
+unfolding operation_bytes step
+returns c =
+    let total_fits : FitsSigned w32 c.max-self-inside.result = search rules in
+    let width_fits : FitsSigned w32 c.max-self-inside-2.result = search rules in
+    grind (arith, to_z-of_z)

@@ -1,0 +1,4 @@
+pub mod Parameters
+pub mod Settings
+pub mod ParamsView
+pub mod Items

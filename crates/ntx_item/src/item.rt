@@ -1,0 +1,58 @@
+//! The items of a list: its nodes without what packing and line breaking do not look at ("TeX: The Program", sections
+//! 135 to 161).
+
+ghost use Rattle.ntx_item.specs.Items.{PartsAreInRange, SumsAreBounded};
+
+use crate::glue::GlueSpec;
+use ntx_num::Size;
+
+/// One item of a list. All sizes are in scaled points.
+#[derive(Clone, Copy, Debug, PartialEq, Eq)]
+pub enum Item {
+    /// An hlist or a vlist, moved down in an hlist and to the right in a vlist by `shift`.
+    Box {
+        size: Size,
+        shift: i64,
+    },
+    /// A character of a font.
+    Glyph {
+        size: Size,
+    },
+    /// A black box.
+    Rule {
+        size: Size,
+    },
+    /// A space that can stretch and shrink.
+    Glue {
+        spec: GlueSpec,
+    },
+    /// A fixed space. `font` says that it comes from a font's kerning, and is not explicit.
+    Kern {
+        w: i64,
+        font: bool,
+    },
+    /// What a break here costs.
+    Penalty {
+        p: i64,
+    },
+    /// A discretionary break: the size of what stands before and after the break, and of what stands here without a
+    /// break, whether the first two are empty lists, and whether it comes from hyphenation.
+    Disc {
+        pre: Size,
+        post: Size,
+        replace: Size,
+        pre_empty: bool,
+        post_empty: bool,
+        regular: bool,
+    },
+}
+
+/// The law that of items in range the first ones and the others are in range, and each is bounded.
+pub fn parts_are_in_range()
+    ensures { PartsAreInRange }
+{}
+
+/// The law that a sum over items, with its signs, is no greater than the sum of the absolute values.
+pub fn sums_are_bounded()
+    ensures { SumsAreBounded }
+{}

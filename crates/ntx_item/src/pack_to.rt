@@ -1,0 +1,10 @@
+//! The size that a box is packed to ("TeX: The Program", section 644).
+
+/// The size that a box is packed to.
+#[derive(Clone, Copy, Debug, PartialEq, Eq)]
+pub enum PackTo {
+    /// This size, in scaled points.
+    Exactly(i64),
+    /// The natural size and this much more, in scaled points.
+    Additional(i64),
+}
