@@ -1,6 +1,8 @@
 -- What bytes spell that stand alone: a blank or a comment, a token, or what may not stand in a script (Lua 5.3 Reference Manual, section 3.1).
--- What may not stand is spelled too, so that the piece at a place is the longest that is spelled there, whatever it is: `3a` is no numeral
--- and a name, but a wrong number, and a quote that no text begins with is a wrong text by itself.
+-- Unlike Lua it has integers alone, and no decimal one above 2^63-1; texts on one line, without the escapes `\z` and `\u`; no long texts; fewer
+-- symbols; space, tab, CR and LF as the only blanks, and LF alone to end a line; and no letter, `_` or `.` directly behind a numeral.
+-- What may not stand is spelled too, so that the piece at a place is the longest that is spelled there, whatever it is: `3a` is not a numeral
+-- and then a name, but a wrong number, and a quote that no text begins with is a wrong text by itself.
 use Rattle.std.specs.Prelude.{ℕ, ◌+◌, ◌-◌, ◌==◌, ◌&&◌, ◌||◌, not, Bool, false, List, [], ◌∷◌, length, take, drop, slice_index, Option, None, Some, is_some, if◌then◌else◌, bytes_eq, codes}
 use Rattle.std.specs.List.{list_all, list_any, prefix_len}
 use Rattle.std.specs.Char.{is_ascii_digit}
@@ -89,7 +91,7 @@ begins_comment bytes = slice_index bytes 0 == 45 && slice_index bytes 1 == 45
 unfoldable pub symbols : List (List ℕ)
 symbols = codes "+" ∷ codes "-" ∷ codes "*" ∷ codes "//" ∷ codes "%" ∷ codes "&" ∷ codes "~" ∷ codes "|" ∷ codes "<<" ∷ codes ">>" ∷ codes "#" ∷ codes "==" ∷ codes "~=" ∷ codes "<=" ∷ codes ">=" ∷ codes "<" ∷ codes ">" ∷ codes "=" ∷ codes "(" ∷ codes ")" ∷ codes "{" ∷ codes "}" ∷ codes "[" ∷ codes "]" ∷ codes ";" ∷ codes "," ∷ codes "." ∷ codes ".." ∷ []
 
--- symbols of Lua that this language does not have
+-- symbols and beginnings of long brackets of Lua that this language does not have
 unfoldable pub refused_symbols : List (List ℕ)
 refused_symbols = codes "..." ∷ codes "::" ∷ codes ":" ∷ codes "/" ∷ codes "^" ∷ codes "[[" ∷ codes "[=" ∷ []
 

@@ -6,7 +6,7 @@ ghost use Rattle.ntx_syntax.specs.Why.{why_text};
 /// What is wrong with a script.
 #[derive(Clone, Copy, Debug, PartialEq, Eq)]
 pub enum SyntaxWhy {
-    /// A byte that begins no token, outside of texts and comments.
+    /// A byte that is no blank and begins no token, outside of texts and comments.
     Byte,
     /// A decimal numeral above 2^63-1, or a numeral directly followed by a letter, `_` or `.`.
     Number,
@@ -22,7 +22,7 @@ pub enum SyntaxWhy {
     Break,
     /// Syntax that is nested too deep.
     Depth,
-    /// More local names in one function than it may have.
+    /// More named locals of one function in scope at once than there may be.
     Locals,
     /// More bytes than a script may have.
     Size,

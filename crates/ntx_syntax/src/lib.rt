@@ -1,8 +1,12 @@
 //! The syntax of scripts: tokens, faults, and the tree of a script.
 //!
-//! Scripts are written in a profile of Lua 5.3 (Lua 5.3 Reference Manual, sections 3.1 and 9): integers alone, texts on one
-//! line, and fewer symbols. The crate cuts a script into its tokens, and has the types of the tree that a parser makes of
-//! them. It stands on `ntx_num` for answers and on `sqlite_items` for the lists and boxes by which a tree holds its parts.
+//! Scripts are written in a profile of Lua 5.3 (Lua 5.3 Reference Manual, sections 3.1 and 9). Unlike Lua it has integers
+//! alone, and no decimal one above 2^63-1; texts on one line, without the escapes `\z` and `\u`; no long texts; fewer
+//! symbols; space, tab, CR and LF as the only blanks, and LF alone to end a line; and no letter, `_` or `.` directly behind
+//! a numeral.
+//!
+//! The crate cuts a script into its tokens, and has the types of the tree that a parser makes of them. It stands on
+//! `ntx_num` for answers and on `sqlite_items` for the lists and boxes by which a tree holds its parts.
 #![tactic(auto)]
 
 mod bytes;

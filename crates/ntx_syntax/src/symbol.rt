@@ -15,7 +15,7 @@ const SYMBOLS: [&[u8]; 28] = [
     b">=", b"<", b">", b"=", b"(", b")", b"{", b"}", b"[", b"]", b";", b",", b".", b"..",
 ];
 
-/// Symbols of Lua that the language does not have.
+/// Symbols and beginnings of long brackets of Lua that the language does not have.
 const REFUSED_SYMBOLS: [&[u8]; 7] = [b"...", b"::", b":", b"/", b"^", b"[[", b"[="];
 
 /// What bytes spell that begin no blank, comment, word, numeral or text, if they spell one piece.

@@ -1,7 +1,7 @@
 //! The tree of a script (Lua 5.3 Reference Manual, section 9).
 //!
-//! Operators of one precedence that stand one behind the other, and the suffixes of a name or of a parenthesized
-//! expression, are lists: a long flat script has a flat tree.
+//! Operators of one precedence that associate to the left and stand one behind the other, the suffixes of a name or of a
+//! parenthesized expression, and the arms of an `if` are lists: a long flat script has a flat tree.
 
 use sqlite_items::{Boxed, Items};
 
@@ -247,7 +247,7 @@ pub enum BinaryOp {
     Subtract,
     /// `*`
     Multiply,
-    /// `//`, which rounds toward minus infinity
+    /// `//`
     FloorDivide,
     /// `%`
     Modulo,
