@@ -1,0 +1,12 @@
+pub mod Maps
+pub mod AttributeSteps
+pub mod Oks
+pub mod Ranges
+pub mod Lawful
+pub mod Tables
+pub mod StepLaws
+pub mod Walks
+pub mod Turns
+pub mod WalkSteps
+pub mod WholeWalks
+pub mod SoundWalks

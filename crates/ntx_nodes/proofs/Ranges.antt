@@ -1,0 +1,237 @@
+-- The laws of a node's fields, kind by kind.
+use Rattle.std.proofs.Common.{◌≡◌, ℕ, ℤ, pos, ◌-◌, ◌^◌, ◌≤◌, ◌<◌, Some, None, Ok, refl, ap, subst, arith}
+use Rattle.std.specs.Prelude.{Option, Result, ◌≤ℤ◌}
+use Rattle.std.proofs.lemmas.Int.{ints}
+use Rattle.ntx_nodes.specs.Fields.{box_field, rule_field, disc_field, glue_field, kern_field, penalty_field, glyph_field, contents_field, field_of, kind_of, last_subtype}
+use Rattle.ntx_nodes.specs.Heap.{IsWithin, IsDimension, IsInRange}
+use Rattle.ntx_nodes.specs.declared.kind.Kind.{Kind}
+use Rattle.ntx_nodes.specs.declared.kind.Kind.TheVariants as kind
+use Rattle.ntx_nodes.specs.declared.field.Field.{Field}
+use Rattle.ntx_nodes.specs.declared.field.Field.TheVariants as field
+use Rattle.ntx_nodes.specs.declared.field.FieldValue.{FieldValue}
+use Rattle.ntx_nodes.specs.declared.field.FieldValue.TheVariants.{Number, Link}
+use Rattle.ntx_nodes.specs.declared.contents.BoxFields.{BoxFields}
+use Rattle.ntx_nodes.specs.declared.contents.RuleFields.{RuleFields}
+use Rattle.ntx_nodes.specs.declared.contents.DiscFields.{DiscFields}
+use Rattle.ntx_nodes.specs.declared.contents.GlueFields.{GlueFields}
+use Rattle.ntx_nodes.specs.declared.contents.GlyphFields.{GlyphFields}
+use Rattle.ntx_nodes.specs.declared.fields.Fields.{Fields}
+use Rattle.ntx_nodes.specs.declared.trouble.Trouble.{Trouble}
+use Rattle.ntx_nodes.specs.declared.fields.Contents.{Contents}
+use Rattle.ntx_nodes.specs.declared.fields.Contents.TheVariants as contents
+
+-- a link holds a name that has been given
+abbrev pub IsGiven : ℕ → Option ℕ → Type 0
+IsGiven next to = (n : ℕ) → to ≡ Some n → n < next
+
+pub record IsLawfulBox (next : ℕ) (b : BoxFields) : Type 0 where
+  pub width : IsDimension b.width
+  pub height : IsDimension b.height
+  pub depth : IsDimension b.depth
+  pub shift : IsDimension b.shift
+  pub list : IsGiven next b.list
+  pub glue_sign : b.glue_sign ≤ 2
+  pub glue_order : b.glue_order ≤ 3
+  pub glue_num : IsWithin (2 ^ 32) b.glue_num
+  pub glue_den : pos 1 ≤ℤ b.glue_den
+
+abbrev pub IsLawfulContents : ℕ → Contents → Type 0
+IsLawfulContents next (contents.Hlist b) = IsLawfulBox next b
+IsLawfulContents next (contents.Vlist b) = IsLawfulBox next b
+IsLawfulContents next (contents.Rule r) = IsDimension r.width × IsDimension r.height × IsDimension r.depth
+IsLawfulContents next (contents.Disc d) = IsGiven next d.pre × IsGiven next d.post × IsGiven next d.replace
+IsLawfulContents next (contents.Glue g) = IsDimension g.width × IsDimension g.stretch × (g.stretch_order ≤ 3) × IsDimension g.shrink × (g.shrink_order ≤ 3)
+IsLawfulContents next (contents.Kern size) = IsDimension size
+IsLawfulContents next (contents.Penalty cost) = IsWithin (2 ^ 31 - 1) cost
+IsLawfulContents next (contents.Glyph g) = (g.char ≤ 255) × (g.font ≤ 63)
+
+-- the number that a field holds
+same_number : (x y : ℤ) → ◌≡◌ {A = Result FieldValue Trouble} (Ok (Number x)) (Ok (Number y)) → x ≡ y
+same_number x y e = cc
+
+same_link : (x y : Option ℕ) → ◌≡◌ {A = Result FieldValue Trouble} (Ok (Link x)) (Ok (Link y)) → x ≡ y
+same_link x y e = cc
+
+-- a number without a sign, among those with one
+up_to : (n last : ℕ) → n ≤ last → (pos 0 ≤ℤ pos n) × (pos n ≤ℤ pos last)
+up_to n last h = (omega (arith, ints), omega (arith, ints))
+
+down_to : (n last : ℕ) → (pos 0 ≤ℤ pos n) × (pos n ≤ℤ pos last) → n ≤ last
+down_to n last h = omega (arith, ints)
+
+held_up_to : (n last : ℕ) (x : ℤ) → n ≤ last → ◌≡◌ {A = Result FieldValue Trouble} (Ok (Number (pos n))) (Ok (Number x)) → (pos 0 ≤ℤ x) × (x ≤ℤ pos last)
+held_up_to n last x h e = subst (λ y. (pos 0 ≤ℤ y) × (y ≤ℤ pos last)) (same_number (pos n) x e) (up_to n last h)
+
+held : (P : ℤ → Type 0) (y x : ℤ) → P y → ◌≡◌ {A = Result FieldValue Trouble} (Ok (Number y)) (Ok (Number x)) → P x
+held P y x p e = subst P (same_number y x e) p
+
+held_link : (next : ℕ) (to : Option ℕ) (n : ℕ) → IsGiven next to → ◌≡◌ {A = Result FieldValue Trouble} (Ok (Link to)) (Ok (Link (Some n))) → n < next
+held_link next to n given e = given n (same_link to (Some n) e)
+
+-- ---- from the laws of the kinds to those of the fields
+box_numbers : (next : ℕ) (k : Kind) (b : BoxFields) → IsLawfulBox next b → (f : Field) (x : ℤ) → box_field b f ≡ Ok (Number x) → IsInRange k f x
+box_numbers next k b l field.Width x e = held IsDimension b.width x l.width e
+box_numbers next k b l field.Height x e = held IsDimension b.height x l.height e
+box_numbers next k b l field.Depth x e = held IsDimension b.depth x l.depth e
+box_numbers next k b l field.Shift x e = held IsDimension b.shift x l.shift e
+box_numbers next k b l field.List x e = cc
+box_numbers next k b l field.GlueSign x e = held_up_to b.glue_sign 2 x l.glue_sign e
+box_numbers next k b l field.GlueOrder x e = held_up_to b.glue_order 3 x l.glue_order e
+box_numbers next k b l field.GlueNum x e = held (IsWithin (2 ^ 32)) b.glue_num x l.glue_num e
+box_numbers next k b l field.GlueDen x e = held (λ y. pos 1 ≤ℤ y) b.glue_den x l.glue_den e
+box_numbers next k b l _ x e = cc
+
+box_links : (next : ℕ) (b : BoxFields) → IsLawfulBox next b → (f : Field) (n : ℕ) → box_field b f ≡ Ok (Link (Some n)) → n < next
+box_links next b l field.List n e = held_link next b.list n l.list e
+box_links next b l _ n e = cc
+
+pub contents_numbers : (next : ℕ) (c : Contents) → IsLawfulContents next c → (f : Field) (x : ℤ) → contents_field c f ≡ Ok (Number x) → IsInRange (kind_of c) f x
+contents_numbers next (contents.Hlist b) l f x e = box_numbers next kind.Hlist b l f x e
+contents_numbers next (contents.Vlist b) l f x e = box_numbers next kind.Vlist b l f x e
+contents_numbers next (contents.Rule r) l field.Width x e = held IsDimension r.width x l.0 e
+contents_numbers next (contents.Rule r) l field.Height x e = held IsDimension r.height x l.1 e
+contents_numbers next (contents.Rule r) l field.Depth x e = held IsDimension r.depth x l.2 e
+contents_numbers next (contents.Rule r) l _ x e = cc
+contents_numbers next (contents.Disc d) l field.Pre x e = cc
+contents_numbers next (contents.Disc d) l field.Post x e = cc
+contents_numbers next (contents.Disc d) l field.Replace x e = cc
+contents_numbers next (contents.Disc d) l _ x e = cc
+contents_numbers next (contents.Glue g) l field.Width x e = held IsDimension g.width x l.0 e
+contents_numbers next (contents.Glue g) l field.Stretch x e = held IsDimension g.stretch x l.1 e
+contents_numbers next (contents.Glue g) l field.StretchOrder x e = held_up_to g.stretch_order 3 x l.2 e
+contents_numbers next (contents.Glue g) l field.Shrink x e = held IsDimension g.shrink x l.3 e
+contents_numbers next (contents.Glue g) l field.ShrinkOrder x e = held_up_to g.shrink_order 3 x l.4 e
+contents_numbers next (contents.Glue g) l _ x e = cc
+contents_numbers next (contents.Kern size) l field.Kern x e = held IsDimension size x l e
+contents_numbers next (contents.Kern size) l _ x e = cc
+contents_numbers next (contents.Penalty cost) l field.Penalty x e = held (IsWithin (2 ^ 31 - 1)) cost x l e
+contents_numbers next (contents.Penalty cost) l _ x e = cc
+contents_numbers next (contents.Glyph g) l field.Char x e = held_up_to g.char 255 x l.0 e
+contents_numbers next (contents.Glyph g) l field.Font x e = held_up_to g.font 63 x l.1 e
+contents_numbers next (contents.Glyph g) l _ x e = cc
+
+pub contents_links : (next : ℕ) (c : Contents) → IsLawfulContents next c → (f : Field) (n : ℕ) → contents_field c f ≡ Ok (Link (Some n)) → n < next
+contents_links next (contents.Hlist b) l f n e = box_links next b l f n e
+contents_links next (contents.Vlist b) l f n e = box_links next b l f n e
+contents_links next (contents.Rule r) l field.Width n e = cc
+contents_links next (contents.Rule r) l field.Height n e = cc
+contents_links next (contents.Rule r) l field.Depth n e = cc
+contents_links next (contents.Rule r) l _ n e = cc
+contents_links next (contents.Disc d) l field.Pre n e = held_link next d.pre n l.0 e
+contents_links next (contents.Disc d) l field.Post n e = held_link next d.post n l.1 e
+contents_links next (contents.Disc d) l field.Replace n e = held_link next d.replace n l.2 e
+contents_links next (contents.Disc d) l _ n e = cc
+contents_links next (contents.Glue g) l field.Width n e = cc
+contents_links next (contents.Glue g) l field.Stretch n e = cc
+contents_links next (contents.Glue g) l field.StretchOrder n e = cc
+contents_links next (contents.Glue g) l field.Shrink n e = cc
+contents_links next (contents.Glue g) l field.ShrinkOrder n e = cc
+contents_links next (contents.Glue g) l _ n e = cc
+contents_links next (contents.Kern size) l field.Kern n e = cc
+contents_links next (contents.Kern size) l _ n e = cc
+contents_links next (contents.Penalty cost) l field.Penalty n e = cc
+contents_links next (contents.Penalty cost) l _ n e = cc
+contents_links next (contents.Glyph g) l field.Char n e = cc
+contents_links next (contents.Glyph g) l field.Font n e = cc
+contents_links next (contents.Glyph g) l _ n e = cc
+
+-- ---- and back
+abbrev Numbers : Contents → Type 0
+Numbers c = (f : Field) (x : ℤ) → contents_field c f ≡ Ok (Number x) → IsInRange (kind_of c) f x
+
+abbrev Links : ℕ → Contents → Type 0
+Links next c = (f : Field) (n : ℕ) → contents_field c f ≡ Ok (Link (Some n)) → n < next
+
+given : (next : ℕ) (c : Contents) (f : Field) (to : Option ℕ) → Links next c → contents_field c f ≡ Ok (Link to) → IsGiven next to
+given next c f to links is n e = links f n (subst (λ o. contents_field c f ≡ Ok (Link o)) e is)
+
+pub lawful_contents : (next : ℕ) (c : Contents) → Numbers c → Links next c → IsLawfulContents next c
+lawful_contents next (contents.Hlist b) numbers links = record {
+  width = numbers field.Width b.width refl;
+  height = numbers field.Height b.height refl;
+  depth = numbers field.Depth b.depth refl;
+  shift = numbers field.Shift b.shift refl;
+  list = given next (contents.Hlist b) field.List b.list links refl;
+  glue_sign = down_to b.glue_sign 2 (numbers field.GlueSign (pos b.glue_sign) refl);
+  glue_order = down_to b.glue_order 3 (numbers field.GlueOrder (pos b.glue_order) refl);
+  glue_num = numbers field.GlueNum b.glue_num refl;
+  glue_den = numbers field.GlueDen b.glue_den refl;
+}
+lawful_contents next (contents.Vlist b) numbers links = record {
+  width = numbers field.Width b.width refl;
+  height = numbers field.Height b.height refl;
+  depth = numbers field.Depth b.depth refl;
+  shift = numbers field.Shift b.shift refl;
+  list = given next (contents.Vlist b) field.List b.list links refl;
+  glue_sign = down_to b.glue_sign 2 (numbers field.GlueSign (pos b.glue_sign) refl);
+  glue_order = down_to b.glue_order 3 (numbers field.GlueOrder (pos b.glue_order) refl);
+  glue_num = numbers field.GlueNum b.glue_num refl;
+  glue_den = numbers field.GlueDen b.glue_den refl;
+}
+lawful_contents next (contents.Rule r) numbers links = (numbers field.Width r.width refl, numbers field.Height r.height refl, numbers field.Depth r.depth refl)
+lawful_contents next (contents.Disc d) numbers links =
+    (given next (contents.Disc d) field.Pre d.pre links refl, given next (contents.Disc d) field.Post d.post links refl, given next (contents.Disc d) field.Replace d.replace links refl)
+lawful_contents next (contents.Glue g) numbers links = (
+  numbers field.Width g.width refl,
+  numbers field.Stretch g.stretch refl,
+  down_to g.stretch_order 3 (numbers field.StretchOrder (pos g.stretch_order) refl),
+  numbers field.Shrink g.shrink refl,
+  down_to g.shrink_order 3 (numbers field.ShrinkOrder (pos g.shrink_order) refl),
+)
+lawful_contents next (contents.Kern size) numbers links = numbers field.Kern size refl
+lawful_contents next (contents.Penalty cost) numbers links = numbers field.Penalty cost refl
+lawful_contents next (contents.Glyph g) numbers links = (down_to g.char 255 (numbers field.Char (pos g.char) refl), down_to g.font 63 (numbers field.Font (pos g.font) refl))
+
+-- ---- all fields
+pub record IsLawfulFields (next : ℕ) (fields : Fields) : Type 0 where
+  pub subtype : fields.subtype ≤ last_subtype (kind_of fields.contents)
+  pub link : IsGiven next fields.next
+  pub contents : IsLawfulContents next fields.contents
+
+contents_have_no_subtype : (c : Contents) (v : FieldValue) → contents_field c field.Subtype ≡ Ok v → ⊥
+contents_have_no_subtype (contents.Hlist b) v e = cc
+contents_have_no_subtype (contents.Vlist b) v e = cc
+contents_have_no_subtype (contents.Rule r) v e = cc
+contents_have_no_subtype (contents.Disc d) v e = cc
+contents_have_no_subtype (contents.Glue g) v e = cc
+contents_have_no_subtype (contents.Kern size) v e = cc
+contents_have_no_subtype (contents.Penalty cost) v e = cc
+contents_have_no_subtype (contents.Glyph g) v e = cc
+
+contents_have_no_next : (c : Contents) (v : FieldValue) → contents_field c field.Next ≡ Ok v → ⊥
+contents_have_no_next (contents.Hlist b) v e = cc
+contents_have_no_next (contents.Vlist b) v e = cc
+contents_have_no_next (contents.Rule r) v e = cc
+contents_have_no_next (contents.Disc d) v e = cc
+contents_have_no_next (contents.Glue g) v e = cc
+contents_have_no_next (contents.Kern size) v e = cc
+contents_have_no_next (contents.Penalty cost) v e = cc
+contents_have_no_next (contents.Glyph g) v e = cc
+
+pub fields_numbers : (next : ℕ) (fields : Fields) → IsLawfulFields next fields → (f : Field) (x : ℤ) → field_of fields f ≡ Ok (Number x) → IsInRange (kind_of fields.contents) f x
+fields_numbers next fields l field.Subtype x e = held_up_to fields.subtype _ x l.subtype e
+fields_numbers next fields l field.Next x e = cc
+fields_numbers next fields l f x e = contents_numbers next fields.contents l.contents f x e
+
+pub fields_links : (next : ℕ) (fields : Fields) → IsLawfulFields next fields → (f : Field) (n : ℕ) → field_of fields f ≡ Ok (Link (Some n)) → n < next
+fields_links next fields l field.Subtype n e = cc
+fields_links next fields l field.Next n e = held_link next fields.next n l.link e
+fields_links next fields l f n e = contents_links next fields.contents l.contents f n e
+
+inner_numbers : (fields : Fields) → ((f : Field) (x : ℤ) → field_of fields f ≡ Ok (Number x) → IsInRange (kind_of fields.contents) f x) → Numbers fields.contents
+inner_numbers fields numbers field.Subtype x e = absurd (contents_have_no_subtype fields.contents (Number x) e)
+inner_numbers fields numbers field.Next x e = absurd (contents_have_no_next fields.contents (Number x) e)
+inner_numbers fields numbers f x e = numbers f x e
+
+inner_links : (next : ℕ) (fields : Fields) → ((f : Field) (n : ℕ) → field_of fields f ≡ Ok (Link (Some n)) → n < next) → Links next fields.contents
+inner_links next fields links field.Subtype n e = absurd (contents_have_no_subtype fields.contents (Link (Some n)) e)
+inner_links next fields links field.Next n e = absurd (contents_have_no_next fields.contents (Link (Some n)) e)
+inner_links next fields links f n e = links f n e
+
+pub lawful_fields : (next : ℕ) (fields : Fields) → ((f : Field) (x : ℤ) → field_of fields f ≡ Ok (Number x) → IsInRange (kind_of fields.contents) f x)
+    → ((f : Field) (n : ℕ) → field_of fields f ≡ Ok (Link (Some n)) → n < next) → IsLawfulFields next fields
+lawful_fields next fields numbers links = record {
+  subtype = down_to fields.subtype _ (numbers field.Subtype (pos fields.subtype) refl);
+  link = λ n e. links field.Next n (ap (λ o. Ok (Link o)) e);
+  contents = lawful_contents next fields.contents (inner_numbers fields numbers) (inner_links next fields links);
+}

@@ -1,0 +1,22 @@
+use Rattle.std.proofs.Common.{◌≡◌, None, ◌+◌, ◌-◌}
+use Rattle.ntx_nodes.specs.Walk.{max_depth}
+use Rattle.ntx_nodes.specs.Walker.{unvisited, Keeps}
+use Rattle.ntx_nodes.proofs.WalkSteps.{Gets}
+use Rattle.ntx_nodes.proofs.walk.+walk_list.Given as goal
+
+abbrev pub decreases-walk_list : goal.decreases-walk_list
+decreases-walk_list g l = (max_depth + 2) - l.depth
+
+abbrev pub invariant-loop-at : goal.invariant-loop-at
+invariant-loop-at g l =
+    let heap = g.N.Nodes.heap in
+    let visited = g.N.Nodes.visited in
+    record {
+      same : heap l.nodes ≡ heap l.fn.nodes;
+      gets : Gets (heap l.fn.nodes) l.way l.depth l.k l.fn.head (visited l.fn.nodes) l.fn.names l.at (visited l.nodes) l.names;
+      keeps : Keeps (visited l.fn.nodes) (visited l.nodes);
+      unasked : l.fn.names ≡ None → l.names ≡ None;
+    }
+
+abbrev pub decreases-loop-at : goal.decreases-loop-at
+decreases-loop-at g l = unvisited (g.N.Nodes.heap l.nodes) (g.N.Nodes.visited l.nodes)

@@ -1,0 +1,105 @@
+-- A heap of nodes as a value (LuaTeX Reference Manual, chapter "Nodes").
+--     Heap                 the next name, the live nodes by name, and the attributes that made nodes wear
+--     IsLawful heap        what is true of every heap
+use Rattle.std.specs.Prelude.{◌≡◌, ℕ, ◌-◌, ◌<◌, ◌≤◌, ◌^◌, ℤ, pos, neg_ℤ, ◌≤ℤ◌, int_le, Some, Ok, Bool, true, ◌&&◌, is_some}
+use Rattle.std.specs.Ordering.{nat_cmp, int_cmp}
+use Rattle.std.specs.FinMap as map
+use Rattle.std.specs.FinSet as set
+use Rattle.ntx_nodes.specs.Fields.{max_dimension, kind_of, last_subtype, field_of}
+use Rattle.ntx_nodes.specs.declared.kind.Kind.{Kind}
+use Rattle.ntx_nodes.specs.declared.field.Field.{Field}
+use Rattle.ntx_nodes.specs.declared.field.Field.TheVariants.{Subtype, Width, Height, Depth, Shift, GlueSign, GlueOrder, GlueNum, GlueDen, Stretch, StretchOrder, Shrink, ShrinkOrder, Kern, Penalty, Char, Font}
+use Rattle.ntx_nodes.specs.declared.field.FieldValue.TheVariants.{Number, Link}
+use Rattle.ntx_nodes.specs.declared.node.Node.{Node}
+
+-- attributes: from an id to its value
+abbrev pub Attributes : Type 0
+Attributes = map.FinMap int_cmp ℤ
+
+pub record Heap : Type 0 where
+  pub next : ℕ
+  pub nodes : map.FinMap nat_cmp Node
+  pub current : Attributes
+
+-- sets of names
+abbrev pub Names : Type 0
+Names = set.FinSet nat_cmp
+
+-- names are below it
+abbrev pub name_limit : ℕ
+name_limit = 2 ^ 48
+
+-- as many nodes may be live
+abbrev pub max_nodes : ℕ
+max_nodes = 2 ^ 18
+
+-- as many attributes may a node have
+abbrev pub max_attributes : ℕ
+max_attributes = 64
+
+abbrev pub IsWithin : ℕ → ℤ → Type 0
+IsWithin most x = (neg_ℤ (pos most) ≤ℤ x) × (x ≤ℤ pos most)
+
+abbrev pub IsDimension : ℤ → Type 0
+IsDimension x = IsWithin max_dimension x
+
+-- the numbers that a field of a kind may hold
+abbrev pub IsInRange : Kind → Field → ℤ → Type 0
+IsInRange kind Subtype x = (pos 0 ≤ℤ x) × (x ≤ℤ pos (last_subtype kind))
+IsInRange kind Width x = IsDimension x
+IsInRange kind Height x = IsDimension x
+IsInRange kind Depth x = IsDimension x
+IsInRange kind Shift x = IsDimension x
+IsInRange kind GlueSign x = (pos 0 ≤ℤ x) × (x ≤ℤ pos 2)
+IsInRange kind GlueOrder x = (pos 0 ≤ℤ x) × (x ≤ℤ pos 3)
+IsInRange kind GlueNum x = IsWithin (2 ^ 32) x
+IsInRange kind GlueDen x = pos 1 ≤ℤ x
+IsInRange kind Stretch x = IsDimension x
+IsInRange kind StretchOrder x = (pos 0 ≤ℤ x) × (x ≤ℤ pos 3)
+IsInRange kind Shrink x = IsDimension x
+IsInRange kind ShrinkOrder x = (pos 0 ≤ℤ x) × (x ≤ℤ pos 3)
+IsInRange kind Kern x = IsDimension x
+IsInRange kind Penalty x = IsWithin (2 ^ 31 - 1) x
+IsInRange kind Char x = (pos 0 ≤ℤ x) × (x ≤ℤ pos 255)
+IsInRange kind Font x = (pos 0 ≤ℤ x) × (x ≤ℤ pos 63)
+-- the other fields hold links
+IsInRange kind _ x = ⊥
+
+-- the ids and values that attributes take
+abbrev pub last_attribute_id : ℤ
+last_attribute_id = pos 65535
+
+abbrev pub least_attribute_value : ℤ
+least_attribute_value = neg_ℤ (pos 2147483646)
+
+abbrev pub greatest_attribute_value : ℤ
+greatest_attribute_value = pos 2147483647
+
+-- whether an id and a value are in their ranges
+abbrev pub is_attribute : ℤ → ℤ → Bool
+is_attribute id v = (int_le (pos 0) id && int_le id last_attribute_id) && (int_le least_attribute_value v && int_le v greatest_attribute_value)
+
+pub record AreLawful (attributes : Attributes) : Type 0 where
+  pub few : map.len attributes ≤ max_attributes
+  pub entries : (id v : ℤ) → map.get attributes id ≡ Some v → is_attribute id v ≡ true
+
+-- each number is in its field's range, and each link holds a name that has been given
+pub record IsLawfulNode (next : ℕ) (node : Node) : Type 0 where
+  pub numbers : (f : Field) (x : ℤ) → field_of node.fields f ≡ Ok (Number x) → IsInRange (kind_of node.fields.contents) f x
+  pub links : (f : Field) (n : ℕ) → field_of node.fields f ≡ Ok (Link (Some n)) → n < next
+  pub attributes : AreLawful node.attributes
+
+-- Every name that is live or linked has been given, no heap is too large, and each number is in its field's range.
+pub record IsLawful (heap : Heap) : Type 0 where
+  pub next : heap.next ≤ name_limit
+  pub few : map.len heap.nodes ≤ max_nodes
+  pub names : (n : ℕ) (node : Node) → map.get heap.nodes n ≡ Some node → n < heap.next
+  pub nodes : (n : ℕ) (node : Node) → map.get heap.nodes n ≡ Some node → IsLawfulNode heap.next node
+  pub current : AreLawful heap.current
+
+abbrev pub is_live : Heap → ℕ → Bool
+is_live heap n = is_some (map.get heap.nodes n)
+
+-- each name of the set is live
+abbrev pub AreLive : Heap → Names → Type 0
+AreLive heap names = (n : ℕ) → set.contains names n ≡ true → is_live heap n ≡ true

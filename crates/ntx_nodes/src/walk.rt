@@ -1,0 +1,183 @@
+//! Walks through the lists of a heap.
+
+ghost use Rattle.std.specs.Prelude.{◌≡◌, ◌≢◌, ◌+◌, ◌≤◌, ◌<◌, ℕ, List, Option, None, OnOk, IfOk, Ok, Err, IsOk};
+ghost use Rattle.ntx_num.specs.Answer.{result_map, Answers};
+ghost use Rattle.ntx_nodes.specs.Walk.{max_depth, walk, turns_of, walk_from, checked_walk};
+ghost use Rattle.ntx_nodes.specs.WalkLaws.{Sound};
+ghost use Rattle.ntx_nodes.specs.Heap.{Heap};
+ghost use Rattle.ntx_nodes.specs.declared.kind.Way.{Way};
+ghost use Rattle.ntx_nodes.specs.declared.kind.ListKind.{ListKind};
+ghost use Rattle.ntx_nodes.specs.Walker.{Reaches, Walks, unvisited, Keeps, WalksOn, NamesOn, Marks};
+
+use crate::links::{Links, look};
+use crate::reached::Reached;
+use crate::{ListKind, Nodes, Trouble, Way};
+use ntx_num::Fail;
+use std::alloc::Global;
+
+/// Lists lie no deeper inside one another.
+const MAX_DEPTH: u64 = 100;
+
+/// Comes to a node in a list of a kind at a depth: tests it, marks it as visited and tells its name to who asks.
+fn reach<N: Nodes>(
+    nodes: &mut N,
+    way: Way,
+    n: u64,
+    depth: u64,
+    k: ListKind,
+    names: &mut Reached,
+) -> Result<Links, Fail<Trouble>>
+    ensures same { N.heap nodes.new ≡ N.heap nodes.old }
+    ensures reaches { Reaches (N.heap nodes.old) way n depth k (N.visited nodes.old) names.old (N.visited nodes.new) names.new result }
+    ensures shallow { IsOk result → depth ≤ max_depth }
+    ensures fewer { OnOk result (unvisited (N.heap nodes.old) (N.visited nodes.new) < unvisited (N.heap nodes.old) (N.visited nodes.old)) }
+    ensures keeps { OnOk result (Keeps (N.visited nodes.old) (N.visited nodes.new)) }
+    ensures unasked { names.old ≡ None → names.new ≡ None }
+    ensures memory { names.old ≡ None → result ≢ Err Fail.NoMemory }
+{
+    let (kind, links) = match look(nodes, way, n) {
+        Ok(found) => found,
+        Err(why) => return Err(Fail::Is(why)),
+    };
+    match nodes.visit(n) {
+        Ok(true) => {}
+        Ok(false) => return Err(Fail::Is(Trouble::Loop(n))),
+        Err(why) => return Err(Fail::Is(why)),
+    }
+    if depth > MAX_DEPTH {
+        return Err(Fail::Is(Trouble::Nest));
+    }
+    if !way.admits(k, kind) {
+        return Err(Fail::Is(Trouble::WrongKind(n)));
+    }
+    names.take(n)?;
+    Ok(links)
+}
+
+/// Walks a list of a kind at a depth, from the nodes that are visited already.
+fn walk_list<N: Nodes>(
+    nodes: &mut N,
+    way: Way,
+    head: Option<u64>,
+    depth: u64,
+    k: ListKind,
+    names: &mut Reached,
+) -> Result<(), Fail<Trouble>>
+    requires { depth ≤ max_depth + 1 }
+    ensures same { N.heap nodes.new ≡ N.heap nodes.old }
+    ensures walks { Walks (N.heap nodes.old) way head depth k (N.visited nodes.old) names.old (N.visited nodes.new) names.new result }
+    ensures keeps { OnOk result (Keeps (N.visited nodes.old) (N.visited nodes.new)) }
+    ensures unasked { names.old ≡ None → names.new ≡ None }
+    ensures memory { names.old ≡ None → result ≢ Err Fail.NoMemory }
+{
+    let mut at = head;
+    while let Some(n) = at {
+        let links = reach(nodes, way, n, depth, k, names)?;
+        walk_list(nodes, way, links.first, depth + 1, links.kind, names)?;
+        walk_list(nodes, way, links.second, depth + 1, links.kind, names)?;
+        walk_list(nodes, way, links.third, depth + 1, links.kind, names)?;
+        at = links.next;
+    }
+    Ok(())
+}
+
+/// Walks a list at a depth from the nodes that are visited already, which count as reached. Takes no memory.
+///
+/// Refuses as `visit_list`, with Loop too where it reaches one of them.
+pub fn visit_on<N: Nodes>(
+    nodes: &mut N,
+    way: Way,
+    head: Option<u64>,
+    depth: u64,
+    k: ListKind,
+) -> Result<(), Trouble>
+    requires { depth ≤ max_depth + 1 }
+    ensures same { N.heap nodes.new ≡ N.heap nodes.old }
+    ensures walks { WalksOn (N.heap nodes.old) way head depth k (N.visited nodes.old) (N.visited nodes.new) result }
+{
+    let mut names = Reached::unasked();
+    match walk_list(nodes, way, head, depth, k, &mut names) {
+        Ok(()) => Ok(()),
+        Err(Fail::Is(why)) => Err(why),
+        Err(Fail::NoMemory) => unreachable!(),
+    }
+}
+
+/// Walks as `visit_on`, and puts the names that it reaches at the end of others.
+pub fn names_on<N: Nodes>(
+    alloc: Global,
+    nodes: &mut N,
+    way: Way,
+    head: Option<u64>,
+    depth: u64,
+    k: ListKind,
+    told: Vec<u64>,
+) -> Result<Vec<u64>, Fail<Trouble>>
+    requires { depth ≤ max_depth + 1 }
+    ensures same { N.heap nodes.new ≡ N.heap nodes.old }
+    ensures names { NamesOn (N.heap nodes.old) way head depth k (N.visited nodes.old) told.items (N.visited nodes.new) (result_map (λ names. names.items) result) }
+{
+    let mut names = Reached::after(told);
+    walk_list(nodes, way, head, depth, k, &mut names)?;
+    Ok(names.into_names(alloc))
+}
+
+/// Walks the list at a head, without memory, and leaves the nodes that it reaches as those visited.
+///
+/// At each node it refuses with Stale where it is dead, Loop where the walk reached it before, Nest at depth 101, and on
+/// a checked way WrongKind where the list may not hold its kind, in this order.
+pub fn visit_list<N: Nodes>(
+    nodes: &mut N,
+    way: Way,
+    head: Option<u64>,
+    k: ListKind,
+) -> Result<(), Trouble>
+    ensures same { N.heap nodes.new ≡ N.heap nodes.old }
+    ensures answer { result ≡ result_map (λ _. tt) (walk_from (N.heap nodes.old) way head k) }
+    ensures marks { IfOk (walk_from (N.heap nodes.old) way head k) (λ names. Marks (N.visited nodes.new) names) }
+{
+    nodes.begin_walk();
+    visit_on(nodes, way, head, 0, k)
+}
+
+/// The names that a walk of the list at a head reaches, in its order. Refuses as `visit_list`.
+pub fn names_reached<N: Nodes>(
+    alloc: Global,
+    nodes: &mut N,
+    way: Way,
+    head: Option<u64>,
+    k: ListKind,
+) -> Result<Vec<u64>, Fail<Trouble>>
+    ensures same { N.heap nodes.new ≡ N.heap nodes.old }
+    ensures answer { Answers (result_map (λ names. names.items) result) (walk_from (N.heap nodes.old) way head k) }
+{
+    nodes.begin_walk();
+    names_on(alloc, nodes, way, head, 0, k, Vec::new(alloc))
+}
+
+/// The names that the list at a head reaches, in the order of the walk, where each list holds only what it may.
+///
+/// At each node it refuses with Stale where it is dead, Loop where the walk reached it before, Nest at depth 101, and
+/// WrongKind where the list may not hold its kind, in this order.
+pub fn check<N: Nodes>(
+    alloc: Global,
+    nodes: &mut N,
+    head: Option<u64>,
+    k: ListKind,
+) -> Result<Vec<u64>, Fail<Trouble>>
+    ensures same { N.heap nodes.new ≡ N.heap nodes.old }
+    ensures answer { Answers (result_map (λ names. names.items) result) (checked_walk (N.heap nodes.old) head k) }
+{
+    names_reached(alloc, nodes, Way::Checked, head, k)
+}
+
+/// Does nothing. Its contract tells what each walk that ends well has reached: live names, none twice and none of those
+/// before it, the head among them, and with each the nodes to which the walk goes on from it.
+pub fn walks_are_sound()
+    ensures { (heap : Heap) (way : Way) (before : List ℕ) (head : Option ℕ) (depth : ℕ) (k : ListKind) (names : List ℕ) → walk heap way (turns_of heap) before head depth k ≡ Ok names → Sound heap way before head names }
+{}
+
+/// Does nothing. Its contract tells that more turns than there are live nodes change nothing.
+pub fn turns_are_enough()
+    ensures { (heap : Heap) (way : Way) (more : ℕ) (before : List ℕ) (head : Option ℕ) (depth : ℕ) (k : ListKind) → walk heap way (turns_of heap + more) before head depth k ≡ walk heap way (turns_of heap) before head depth k }
+{}
