@@ -1,7 +1,8 @@
 //! Numbers and answers that every crate of `ntx` speaks of: want of memory and refusals as values, sizes in scaled
 //! points, tests of ranges, and the arithmetic of glue and lines: badness, rounded ratios and demerits.
 //!
-//! It stands on `std` alone. The arithmetic is that of "TeX: The Program".
+//! It stands on `std` alone. Badness and demerits are those of "TeX: The Program", and rounded ratios take the place of
+//! its floating point glue ratios.
 #![tactic(auto)]
 
 mod answer;

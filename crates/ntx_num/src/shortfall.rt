@@ -6,7 +6,7 @@ ghost use Rattle.ntx_num.specs.Badness.{badness_of, scaled_ratio, cubed, Badness
 /// The greatest badness.
 const GREATEST: u64 = 10_000;
 
-/// The greatest ratio, in units of 1/297, whose cube is below the greatest badness.
+/// The greatest ratio, in units of 1/297, whose cube is below 2^31.
 const GREATEST_RATIO: u64 = 1_290;
 
 /// The greatest shortfall whose product with 297 is below 2^31.

@@ -1,0 +1,5 @@
+pub mod Endings
+pub mod Marks
+pub mod Rules
+pub mod Typesetting
+pub mod Writing

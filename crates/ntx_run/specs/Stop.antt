@@ -1,0 +1,44 @@
+-- Why a run stopped: the status and place that it ends with, and the line that tells of it.
+use Rattle.std.specs.Prelude.{ℕ, List, [], ◌∷◌, ◌++◌, Some, None, codes, decimal}
+use Rattle.ntx_doc.specs.Why.{why_text}
+use Rattle.ntx_run.specs.declared.stop.Stop.{Stop}
+use Rattle.ntx_run.specs.declared.stop.Stop.TheVariants as stop
+use Rattle.ntx_run.specs.declared.outcome.Outcome.{Outcome}
+use Rattle.ntx_run.specs.declared.outcome.Status.TheVariants as status
+use Rattle.ntx_run.specs.declared.outcome.Place.TheVariants as place
+use Rattle.ntx_run.specs.declared.outcome.Which.{Which}
+use Rattle.ntx_run.specs.declared.outcome.Which.TheVariants as which
+
+-- a run that ended well
+abbrev pub done : Outcome
+done = record { status = status.Done; place = None }
+
+abbrev pub outcome_of : Stop → Outcome
+outcome_of stop.Words = record { status = status.Words; place = None }
+outcome_of (stop.Document fault) = record { status = status.Document; place = Some (place.Doc fault) }
+outcome_of stop.Script = record { status = status.Script; place = None }
+outcome_of stop.Patterns = record { status = status.Patterns; place = None }
+outcome_of (stop.Read input) = record { status = status.ReadFault; place = Some (place.Input input) }
+outcome_of stop.Write = record { status = status.WriteFault; place = None }
+outcome_of stop.Memory = record { status = status.Memory; place = None }
+outcome_of stop.DviFull = record { status = status.DviFull; place = None }
+
+abbrev pub which_text : Which → List ℕ
+which_text which.Document = codes "document"
+which_text which.Script = codes "script"
+which_text which.Patterns = codes "patterns"
+
+-- a line with its line feed
+abbrev line : List ℕ → List ℕ
+line text = text ++ 10 ∷ []
+
+-- The fault line. A failed write and want of memory have none.
+abbrev pub line_of : Stop → List ℕ
+line_of stop.Words = line (codes "! Words")
+line_of (stop.Document fault) = line (codes "! Document line " ++ decimal fault.line ++ codes " " ++ why_text fault.why)
+line_of stop.Script = line (codes "! Script line 0 Size")
+line_of stop.Patterns = line (codes "! Patterns line 0")
+line_of (stop.Read input) = line (codes "! ReadFault " ++ which_text input)
+line_of stop.Write = []
+line_of stop.Memory = []
+line_of stop.DviFull = line (codes "! DviFull")

@@ -1,0 +1,83 @@
+//! The whole program but for the files and the process around it.
+
+ghost use Rattle.std.specs.Prelude.{◌≡◌, map, string_bytes};
+ghost use Rattle.ntx_run.specs.Outside.{Reports, Runs};
+
+use crate::inputs::read_inputs;
+use crate::outcome::{Outcome, Status};
+use crate::stop::Stop;
+use crate::typeset::typeset;
+use crate::words::are_words;
+use ntx_io::{Feed, Sink, Source, write_all};
+use std::alloc::Global;
+
+/// Writes the line that tells of a stop, where there is one, and tells how the run ended.
+fn report<L: Sink>(alloc: Global, stop: Stop, lines: &mut L) -> Outcome
+    ensures { Reports stop
+        (record { taken = L.taken lines.old; faults = L.faults lines.old })
+        (record { taken = L.taken lines.new; faults = L.faults lines.new })
+        result }
+{
+    let Ok(line) = stop.line(alloc) else {
+        return Stop::Memory.outcome();
+    };
+    match write_all(lines, line.as_bytes()) {
+        Ok(()) => stop.outcome(),
+        Err(_fault) => Stop::Write.outcome(),
+    }
+}
+
+/// Typesets a document: `words` are those of the command line after the program's own name, and name the document, the script, the
+/// patterns and the DVI file. The DVI file goes to `dvi`, and what is printed to `lines`.
+///
+/// The inputs are read in this order, each to its end, and the first refusal ends the run: of the words, the document, the script,
+/// the patterns. A script and patterns have to be empty, and there are no fonts.
+pub fn run<D: Source, S: Source, P: Source, O: Sink, L: Sink>(
+    alloc: Global,
+    words: &[String],
+    doc: &mut D,
+    script: &mut S,
+    patterns: &mut P,
+    fonts: &mut Vec<Box<dyn Feed>>,
+    dvi: &mut O,
+    lines: &mut L,
+) -> Outcome
+    ensures runs { Runs (map string_bytes words.now) (map (λ feed. name feed) fonts.old.items)
+        (record {
+          inputs = record {
+            document = record { left = D.left doc.old; faults = D.faults doc.old };
+            script = record { left = S.left script.old; faults = S.faults script.old };
+            patterns = record { left = P.left patterns.old; faults = P.faults patterns.old };
+          };
+          dvi = record { taken = O.taken dvi.old; faults = O.faults dvi.old };
+          lines = record { taken = L.taken lines.old; faults = L.faults lines.old };
+        })
+        (record {
+          inputs = record {
+            document = record { left = D.left doc.new; faults = D.faults doc.new };
+            script = record { left = S.left script.new; faults = S.faults script.new };
+            patterns = record { left = P.left patterns.new; faults = P.faults patterns.new };
+          };
+          dvi = record { taken = O.taken dvi.new; faults = O.faults dvi.new };
+          lines = record { taken = L.taken lines.new; faults = L.faults lines.new };
+        })
+        result }
+    // The feeds are not read.
+    ensures fonts { fonts.new ≡ fonts.old }
+{
+    let feeds = fonts.as_slice();
+    if !are_words(words, feeds.len()) {
+        return report(alloc, Stop::Words, lines);
+    }
+    let commands = match read_inputs(alloc, doc, script, patterns) {
+        Ok(commands) => commands,
+        Err(stop) => return report(alloc, stop, lines),
+    };
+    match typeset(alloc, commands.as_slice(), dvi) {
+        Ok(()) => Outcome {
+            status: Status::Done,
+            place: None,
+        },
+        Err(stop) => report(alloc, stop, lines),
+    }
+}

@@ -1,0 +1,5 @@
+pub mod EachLemmas
+pub mod FontLemmas
+pub mod ScalingLemmas
+pub mod SoundLemmas
+pub mod StepLemmas

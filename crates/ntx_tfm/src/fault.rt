@@ -1,0 +1,52 @@
+//! What can be wrong with a TFM file.
+
+ghost use Rattle.std.specs.Prelude.{◌≡◌};
+
+/// Why a file is no font: the first fault in the order of the variants, where `Short` is also the one for a file that
+/// has fewer words than it says.
+#[derive(Clone, Copy, Debug, PartialEq, Eq)]
+pub enum FontFault {
+    /// There are fewer than 24 bytes, or fewer than four for each word that the file says it has.
+    Short,
+    /// A length is 2^15 or more, the codes are no bytes, or there is no width, height, depth or italic correction.
+    Range,
+    /// The header has fewer than two words.
+    Header,
+    /// The length of the file is not the sum of the lengths of its parts.
+    Lengths,
+    /// The design size is 2048 points or more, or below one point.
+    Size,
+    /// A character's width, height, depth or italic correction is not in its table.
+    Index,
+    /// The first width, height, depth or italic correction is not zero.
+    FirstNotZero,
+    /// A number is not between -16 and 16.
+    FixWord,
+    /// A program of ligatures and kerns begins or leads outside the steps, or a step has no kern, no operation or no
+    /// character.
+    LigProgram,
+    /// The file is larger than its reader takes: for callers that read files.
+    TooLarge,
+}
+
+impl FontFault {
+    ghost use Rattle.ntx_tfm.specs.FaultNames.{name_of};
+
+    /// The fault's name, as a fault line prints it.
+    pub fn name(self) -> &'static str
+        ensures { result.now ≡ name_of self }
+    {
+        match self {
+            FontFault::Short => "Short",
+            FontFault::Range => "Range",
+            FontFault::Header => "Header",
+            FontFault::Lengths => "Lengths",
+            FontFault::Size => "Size",
+            FontFault::Index => "Index",
+            FontFault::FirstNotZero => "FirstNotZero",
+            FontFault::FixWord => "FixWord",
+            FontFault::LigProgram => "LigProgram",
+            FontFault::TooLarge => "TooLarge",
+        }
+    }
+}
