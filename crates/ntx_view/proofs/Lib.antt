@@ -1,0 +1,3 @@
+pub mod Counts
+pub mod Read
+pub mod Sizes

@@ -1,0 +1,10 @@
+//! Lists of nodes as the items that packing and line breaking look at ("TeX: The Program", sections 651 and 866).
+//!
+//! It stands on `ntx_nodes` for lists, on `ntx_tfm` for the sizes of characters, and on `ntx_item`.
+#![tactic(auto)]
+
+mod fields;
+mod items;
+mod natural;
+
+pub use natural::hlist_size;
