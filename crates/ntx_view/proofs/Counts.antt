@@ -64,8 +64,8 @@ grown a b m h = is_reached-append a b m ∙ or_left (is_reached a m) (is_reached
 part_more : (b r c : List ℕ) (n : ℕ) → IsPart b r → Extends (r ++ n ∷ []) c → IsPart (b ++ n ∷ []) c
 part_more b r c n within more q is =
     let in_r : is_reached (r ++ n ∷ []) q ≡ true =
-      is_reached-append r (n ∷ []) q ∙ part_or (is_reached b q) (is_reached (n ∷ []) q) (is_reached r q || is_reached (n ∷ []) q)
-      (λ h. or_left (is_reached r q) (is_reached (n ∷ []) q) (within q h)) (λ h. or_right (is_reached r q) (is_reached (n ∷ []) q) h) (sym (is_reached-append b (n ∷ []) q) ∙ is) in
+    is_reached-append r (n ∷ []) q ∙ part_or (is_reached b q) (is_reached (n ∷ []) q) (is_reached r q || is_reached (n ∷ []) q)
+    (λ h. or_left (is_reached r q) (is_reached (n ∷ []) q) (within q h)) (λ h. or_right (is_reached r q) (is_reached (n ∷ []) q) h) (sym (is_reached-append b (n ∷ []) q) ∙ is) in
     subst (λ x. is_reached x q ≡ true) (sym more.is) (grown (r ++ n ∷ []) more.more q in_r)
 
 -- a walk along one list at a node that passes

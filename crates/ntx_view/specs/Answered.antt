@@ -1,8 +1,10 @@
 -- What a field's answer holds, and how large it is.
-use Rattle.std.specs.Prelude.{ℕ, ℤ, pos, Option, None, Result, Ok}
+use Rattle.std.specs.Prelude.{ℕ, ℤ, pos, Bool, Option, None, Result, Ok}
 use Rattle.ntx_num.specs.declared.size.Size.{Size}
 use Rattle.ntx_nodes.specs.Fields.{max_dimension}
 use Rattle.ntx_nodes.specs.Heap.{Heap}
+use Rattle.ntx_item.specs.declared.item.Item.{Item}
+use Rattle.ntx_item.specs.declared.item.Item.TheVariants.{Disc}
 use Rattle.ntx_item.specs.Parameters.{max_order}
 use Rattle.ntx_item.specs.Items.{max_penalty}
 use Rattle.ntx_nodes.specs.Steps.{get_answer}
@@ -55,3 +57,7 @@ size_answered heap n = record { w = number_in (get_answer n Width heap); h = num
 
 abbrev pub parts_answered : Heap → ℕ → Option ℕ × Option ℕ × Option ℕ
 parts_answered heap n = (link_in (get_answer n Pre heap), link_in (get_answer n Post heap), link_in (get_answer n Replace heap))
+
+-- a discretionary with these parts and these sizes of parts
+abbrev pub disc_with : (Option ℕ → Size) → Option ℕ × Option ℕ × Option ℕ → Bool × Bool × Bool → Item
+disc_with size parts flags = Disc (size parts.0) (size parts.1) (size parts.2) flags.0 flags.1 flags.2

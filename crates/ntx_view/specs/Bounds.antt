@@ -23,6 +23,10 @@ abbrev pub parts_weight : Heap → Contents → ℕ
 parts_weight heap (contents.Disc d) = list_length heap d.pre + list_length heap d.post + list_length heap d.replace
 parts_weight heap _ = 0
 
+-- of these parts
+abbrev pub answered_weight : Heap → Option ℕ × Option ℕ × Option ℕ → ℕ
+answered_weight heap parts = list_length heap parts.0 + list_length heap parts.1 + list_length heap parts.2
+
 abbrev pub node_weight : Heap → Option Node → ℕ
 node_weight heap None = 0
 node_weight heap (Some node) = 1 + parts_weight heap node.fields.contents

@@ -4,7 +4,8 @@
 #![tactic(auto)]
 
 mod fields;
-mod items;
 mod natural;
+mod view;
 
 pub use natural::hlist_size;
+pub use view::items;

@@ -1,10 +1,10 @@
--- proofs/items/names_along/Answers.antt
+-- proofs/view/names_along/Answers.antt
 -- No walk reaches more nodes than may be live.
 use Rattle.std.proofs.Common.{[]}
 use Rattle.ntx_nodes.specs.declared.kind.ListKind.TheVariants.{H}
 use Rattle.ntx_nodes.specs.declared.kind.Way.TheVariants.{Flat}
 use Rattle.ntx_view.proofs.Counts.{sound_few}
-use Rattle.ntx_view.proofs.items.names_along.Goals as goal
+use Rattle.ntx_view.proofs.view.names_along.Goals as goal
 
 pub returns-in-Ok-clause-few : goal.returns-in-Ok-clause-few
 returns-in-Ok-clause-few g c =
