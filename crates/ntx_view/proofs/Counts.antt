@@ -172,7 +172,7 @@ measured heap head k names e =
     record { along = f.fs; walks = f.walks; counts = omega arith; weighs = omega arith }
 
 -- ---- no walk reaches more names than may be live
-live_node : (o : Option Node) → is_some o ≡ true → (node : Node) × (o ≡ Some node)
+pub live_node : (o : Option Node) → is_some o ≡ true → (node : Node) × (o ≡ Some node)
 live_node None e = cc
 live_node (Some node) e = (node, refl)
 

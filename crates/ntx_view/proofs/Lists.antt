@@ -13,7 +13,9 @@ use Rattle.ntx_nodes.specs.declared.node.Node.{Node}
 use Rattle.ntx_item.specs.declared.item.Item.{Item}
 use Rattle.ntx_item.specs.Items.{absolute_width, absolute_stretch, absolute_shrink, IsItemInRange, AreItemsInRange}
 use Rattle.ntx_view.specs.Natural.{IsReaching}
+use Rattle.ntx_nodes.specs.WalkLaws.{AreFresh}
 use Rattle.ntx_view.specs.View.{nodes_named}
+use Rattle.ntx_view.proofs.Counts.{live_node}
 use Rattle.ntx_view.specs.Bounds.{IsModest, AreModest, weight_at}
 
 one_found : (f : Node → Item) (o : Option Node) → map f (cons_option o []) ≡ option_to_list (option_map f o)
@@ -110,3 +112,10 @@ modest_items_in_range heap names items m few weighs =
     let shrinks : sum_by absolute_shrink items ≤ length names * max_dimension = m.shrinks in
     let count : length items ≤ length names = m.count in
     record { count = omega arith; each = m.each; widths = omega arith; stretches = omega arith; shrinks = omega arith }
+
+-- ---- live nodes are found
+pub nodes_found : (heap : Heap) (before names : List ℕ) → AreFresh heap before names → length (nodes_named heap names) ≡ length names
+nodes_found heap before [] fresh = refl
+nodes_found heap before (n ∷ ns) fresh =
+    let node = live_node (map'.get heap.nodes n) fresh.0 in
+    ap (λ o. length (cons_option o (nodes_named heap ns))) node.1 ∙ ap suc (nodes_found heap (before ++ n ∷ []) ns fresh.2)

@@ -1,8 +1,9 @@
 -- A list of nodes as items: what packing and line breaking look at ("TeX: The Program", sections 651 and 866).
 --     items_answer heap fonts head k     the items of the list at a head, one for each node of it, or the first trouble
 --     list_items heap fonts head         the items, where the list is one
+--     IsOneEach heap head items          one item for each node of a list
 --     bare_items heap fonts to           the same with all parts of discretionaries taken as empty: within a part there is none
-use Rattle.std.specs.Prelude.{ℕ, nat_eq, ℤ, pos, Bool, false, List, [], ◌∷◌, map, slice_get, Option, None, Some, is_none, unwrap_or, Result, Ok, Err}
+use Rattle.std.specs.Prelude.{◌≡◌, ℕ, nat_eq, ℤ, pos, Bool, false, List, [], length, map, slice_get, Option, None, Some, is_none, unwrap_or, Result, Ok, Err}
 use Rattle.std.specs.List.{find, filter_map}
 use Rattle.std.specs.FinMap as fin
 use Rattle.ntx_num.specs.Answer.{result_and_then}
@@ -114,3 +115,9 @@ unless_lacking (Some n) items = Err (NoChar n)
 -- The walk through all lists comes first, and then its glyphs, those of inner lists included.
 abbrev pub items_answer : Heap → List FontTables → Option ℕ → ListKind → Result (List Item) Trouble
 items_answer heap fonts head k = result_and_then (checked_walk heap head k) (λ names. unless_lacking (first_lacking heap fonts names) (list_items heap fonts head))
+
+-- There is one item for each node of the list, along which the walk ends well.
+pub record IsOneEach (heap : Heap) (head : Option ℕ) (items : List Item) : Type 0 where
+  pub names : List ℕ
+  pub walk : flat_walk heap head ≡ Ok names
+  pub count : length items ≡ length names

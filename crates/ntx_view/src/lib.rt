@@ -9,3 +9,6 @@ mod view;
 
 pub use natural::hlist_size;
 pub use view::items;
+
+#[cfg(test)]
+mod tests;

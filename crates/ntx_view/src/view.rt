@@ -11,7 +11,7 @@ ghost use Rattle.ntx_item.specs.Items.{AreItemsInRange};
 ghost use Rattle.ntx_view.specs.Natural.{max_reach, IsReaching};
 ghost use Rattle.ntx_view.specs.Bounds.{list_length, weight_at, IsModest, AreModest, answered_weight};
 ghost use Rattle.ntx_view.specs.Answered.{parts_answered, disc_with};
-ghost use Rattle.ntx_view.specs.View.{is_lacking, first_lacking, names_in, nodes_named, bare_item, bare_items, part_size, item_of, list_items, items_answer};
+ghost use Rattle.ntx_view.specs.View.{is_lacking, first_lacking, names_in, nodes_named, bare_item, bare_items, part_size, item_of, items_answer, IsOneEach};
 
 use crate::fields::{bare_item, lacks_character, parts};
 use crate::natural::hlist_size;
@@ -198,6 +198,7 @@ pub fn items<N: Nodes>(
 ) -> Result<Vec<Item>, Fail<Trouble>>
     ensures same { N.heap nodes.new ≡ N.heap nodes.old }
     ensures answer { Answers (result_map (λ items. items.items) result) (items_answer (N.heap nodes.old) fonts.now head k) }
+    ensures one_each { IfOk result (λ items. IsOneEach (N.heap nodes.old) head items.items) }
     ensures in_range { IfOk result (λ items. AreItemsInRange items.items) }
     ensures reaching { IfOk result (λ items. All IsReaching items.items) }
 {

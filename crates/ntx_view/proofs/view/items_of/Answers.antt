@@ -20,10 +20,10 @@ loop-n-preserved g c =
     record {
       same = c.in_ok-found.ensures.same ∙ same;
       items = pushed ∙ ap (λ x. x ++ option_to_list found) c.loop-n.invariant.items
-        ∙ ap (λ o. map (item_of heap c.args.fonts.now) (nodes_named heap (take i names)) ++ option_to_list o)
+          ∙ ap (λ o. map (item_of heap c.args.fonts.now) (nodes_named heap (take i names)) ++ option_to_list o)
           (c.in_ok-found.ensures.item ∙ ap (λ (h : Heap). option_map (item_of h c.args.fonts.now) (fin.get h.nodes n)) same)
-        ∙ sym (items_more (item_of heap c.args.fonts.now) heap names i c.loop-n-test.true);
+          ∙ sym (items_more (item_of heap c.args.fonts.now) heap names i c.loop-n-test.true);
       modest = subst (AreModest heap (take (i + 1) names)) (sym pushed)
-        (modest_more heap names c.loop-n.items.items i found c.loop-n-test.true c.loop-n.invariant.modest
-        (subst (λ h. IfSome found (IsModest (weight_at h n))) same c.in_ok-found.ensures.modest));
+          (modest_more heap names c.loop-n.items.items i found c.loop-n-test.true c.loop-n.invariant.modest
+          (subst (λ h. IfSome found (IsModest (weight_at h n))) same c.in_ok-found.ensures.modest));
     }
