@@ -1,7 +1,9 @@
 -- Where the walk through all lists ends well, the walk along one list does, and the nodes that its items are measured from were all reached.
-use Rattle.std.proofs.Common.{◌≡◌, ℕ, zero, suc, ◌+◌, ◌≤◌, ◌<◌, List, [], ◌∷◌, ◌++◌, Bool, true, false, length, Some, None, Ok, Err, refl, sym, ◌∙◌, ap, subst, append_assoc, append-nil, length-append, arith}
+use Rattle.std.proofs.Common.{◌≡◌, ℕ, zero, suc, ◌+◌, ◌≤◌, ◌<◌, List, [], ◌∷◌, ◌++◌, Bool, true, false, length, Some, None, Ok, Err, IsOk, refl, sym, ◌∙◌, ap, subst, append_assoc, append-nil, length-append, arith}
 use Rattle.std.specs.Prelude.{Option, Result, ◌||◌, nat_eq, sum_by, is_some}
+use Rattle.std.specs.List.{All, AllByRecursion}
 use Rattle.std.specs.FinMap as map
+use Rattle.std.proofs.lemmas.List.Elements.{All-from_recursion}
 use Rattle.std.proofs.lemmas.List.Sums.{sum_by-cons}
 use Rattle.ntx_num.specs.Answer.{result_map, result_and_then}
 use Rattle.ntx_nodes.specs.Heap.{Heap, IsLawful, is_live, max_nodes}
@@ -20,7 +22,7 @@ use Rattle.ntx_nodes.proofs.Oks.{went_Ok}
 use Rattle.ntx_nodes.proofs.Turns.{Passes, passes, unreached, unreached_less, unreached_falls, unreached_most, Extends, extends_on, walk_extends, last_reached}
 use Rattle.ntx_nodes.proofs.Walks.{is_reached-append, node_reached_Ok}
 use Rattle.ntx_nodes.proofs.WalkSteps.{whole_None, whole_at, whole_refused, links_next}
-use Rattle.ntx_view.specs.View.{names_in}
+use Rattle.ntx_view.specs.View.{names_in, PartsEnd, PartsEndAt}
 use Rattle.ntx_view.specs.Bounds.{list_length, parts_weight, weight_at}
 
 same_Ok : {A E : Type 0} (a b : A) → ◌≡◌ {A = Result A E} (Ok a) (Ok b) → a ≡ b
@@ -40,6 +42,7 @@ record Flattens (heap : Heap) (r : List ℕ) (to : Option ℕ) (names b : List �
   pub walks : whole_walk heap Flat b to 0 H ≡ Ok (b ++ fs)
   pub counts : length fs + length r ≤ length names
   pub weighs : sum_by (weight_at heap) fs + length r ≤ length names
+  pub parts : AllByRecursion (PartsEndAt heap) fs
 
 not_in : (b r : List ℕ) (n : ℕ) → IsPart b r → is_reached r n ≡ false → (v : Bool) → is_reached b n ≡ v → is_reached b n ≡ false
 not_in b r n within new true is = let there : is_reached r n ≡ true = within n is in cc
@@ -87,6 +90,23 @@ parts_le heap (contents.Glue x) next = omega arith
 parts_le heap (contents.Kern x) next = omega arith
 parts_le heap (contents.Penalty x) next = omega arith
 parts_le heap (contents.Glyph x) next = omega arith
+
+ends : (heap : Heap) (to : Option ℕ) (fs : List ℕ) → whole_walk heap Flat [] to 0 H ≡ Ok ([] ++ fs) → IsOk (flat_walk heap to)
+ends heap to fs e = subst IsOk (sym e) refl
+
+-- the walks along the parts of a node end well
+parts_end : (heap : Heap) (c : Contents) (next : Option ℕ) → IsOk (flat_walk heap (inner_links c next).first) → IsOk (flat_walk heap (inner_links c next).second) → IsOk (flat_walk heap (inner_links c next).third) → PartsEnd heap c
+parts_end heap (contents.Disc d) next a b c = (a, b, c)
+parts_end heap (contents.Hlist x) next a b c = tt
+parts_end heap (contents.Vlist x) next a b c = tt
+parts_end heap (contents.Rule x) next a b c = tt
+parts_end heap (contents.Glue x) next a b c = tt
+parts_end heap (contents.Kern x) next a b c = tt
+parts_end heap (contents.Penalty x) next a b c = tt
+parts_end heap (contents.Glyph x) next a b c = tt
+
+end_at : (heap : Heap) (n : ℕ) (node : Node) → map.get heap.nodes n ≡ Some node → PartsEnd heap node.fields.contents → PartsEndAt heap n
+end_at heap n node live end other is = let same : node ≡ other = cc in subst (λ (x : Node). PartsEnd heap x.fields.contents) same end
 
 list_length_is : (heap : Heap) (to : Option ℕ) (fs : List ℕ) → whole_walk heap Flat [] to 0 H ≡ Ok ([] ++ fs) → list_length heap to ≡ length fs
 list_length_is heap to fs e = ap (λ x. length (names_in x)) e
@@ -142,6 +162,7 @@ flattens_at heap u below r n d k names (Ok node) lt e is b within =
       walks = flat_at heap b n node reached ∙ on ∙ ap Ok (append_assoc b (n ∷ []) f4.fs);
       counts = omega arith;
       weighs = omega arith;
+      parts = (end_at heap n node p.live (parts_end heap node.fields.contents node.fields.next (ends heap l.first f1.fs f1.walks) (ends heap l.second f2.fs f2.walks) (ends heap l.third f3.fs f3.walks)), f4.parts);
     }
 
 flattens_below : (heap : Heap) (u : ℕ) → Below heap u
@@ -154,6 +175,7 @@ flattens_below heap (suc u) r None d k names lt e = λ b within.
       walks = whole_None heap Flat b 0 H ∙ ap Ok (sym (append-nil b));
       counts = omega arith;
       weighs = omega arith;
+      parts = tt;
     }
 flattens_below heap (suc u) r (Some n) d k names lt e = flattens_at heap u (flattens_below heap u) r n d k names (node_reached heap Checked r n d k) lt e refl
 
@@ -163,13 +185,14 @@ pub record Measured (heap : Heap) (head : Option ℕ) (names : List ℕ) : Type 
   pub walks : flat_walk heap head ≡ Ok along
   pub counts : length along ≤ length names
   pub weighs : sum_by (weight_at heap) along ≤ length names
+  pub parts : All (PartsEndAt heap) along
 
 pub measured : (heap : Heap) (head : Option ℕ) (k : ListKind) (names : List ℕ) → checked_walk heap head k ≡ Ok names → Measured heap head names
 measured heap head k names e =
     let f = flattens_below heap (turns_of heap) [] head 0 k names (unreached_most heap []) e [] (none_part []) in
     let c : length f.fs + 0 ≤ length names = f.counts in
     let w : sum_by (weight_at heap) f.fs + 0 ≤ length names = f.weighs in
-    record { along = f.fs; walks = f.walks; counts = omega arith; weighs = omega arith }
+    record { along = f.fs; walks = f.walks; counts = omega arith; weighs = omega arith; parts = All-from_recursion (PartsEndAt heap) f.fs f.parts }
 
 -- ---- no walk reaches more names than may be live
 pub live_node : (o : Option Node) → is_some o ≡ true → (node : Node) × (o ≡ Some node)

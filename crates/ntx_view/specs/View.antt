@@ -3,7 +3,7 @@
 --     list_items heap fonts head         the items, where the list is one
 --     IsOneEach heap head items          one item for each node of a list
 --     bare_items heap fonts to           the same with all parts of discretionaries taken as empty: within a part there is none
-use Rattle.std.specs.Prelude.{◌≡◌, ℕ, nat_eq, ℤ, pos, Bool, false, List, [], length, map, slice_get, Option, None, Some, is_none, unwrap_or, Result, Ok, Err}
+use Rattle.std.specs.Prelude.{◌≡◌, ℕ, nat_eq, ℤ, pos, Bool, false, List, [], length, map, slice_get, Option, None, Some, is_none, unwrap_or, Result, Ok, Err, IsOk, All}
 use Rattle.std.specs.List.{find, filter_map}
 use Rattle.std.specs.FinMap as fin
 use Rattle.ntx_num.specs.Answer.{result_and_then}
@@ -116,8 +116,19 @@ unless_lacking (Some n) items = Err (NoChar n)
 abbrev pub items_answer : Heap → List FontTables → Option ℕ → ListKind → Result (List Item) Trouble
 items_answer heap fonts head k = result_and_then (checked_walk heap head k) (λ names. unless_lacking (first_lacking heap fonts names) (list_items heap fonts head))
 
--- There is one item for each node of the list, along which the walk ends well.
+-- ---- no list is cut short
+
+-- the walks along the parts of a discretionary end well
+abbrev pub PartsEnd : Heap → Contents → Type 0
+PartsEnd heap (contents.Disc d) = IsOk (flat_walk heap d.pre) × IsOk (flat_walk heap d.post) × IsOk (flat_walk heap d.replace)
+PartsEnd heap _ = Unit {0}
+
+abbrev pub PartsEndAt : Heap → ℕ → Type 0
+PartsEndAt heap n = (node : Node) → fin.get heap.nodes n ≡ Some node → PartsEnd heap node.fields.contents
+
+-- The walk along the list ends well, and so do those along the parts of its discretionaries; there is one item for each node of it.
 pub record IsOneEach (heap : Heap) (head : Option ℕ) (items : List Item) : Type 0 where
   pub names : List ℕ
   pub walk : flat_walk heap head ≡ Ok names
+  pub parts : All (PartsEndAt heap) names
   pub count : length items ≡ length names

@@ -43,6 +43,7 @@ returns-clause-one_each g c =
     record {
       names = m.along;
       walk = m.walks;
+      parts = m.parts;
       count = ap length c.in_ok-items_of.ensures.items ∙ length-map _ (item_of (g.N.Nodes.heap c.names_along.new.nodes) c.args.fonts.now)
           ∙ ap (λ h. length (nodes_named h c.deref-2.result.now)) same ∙ ap (λ x. length (nodes_named heap x)) (along ∙ s.added)
           ∙ nodes_found heap [] s.more s.fresh ∙ ap length (sym s.added);
