@@ -1,25 +1,25 @@
 -- Where the walk through all lists ends well, the walk along one list does, and the nodes that its items are measured from were all reached.
 use Rattle.std.proofs.Common.{◌≡◌, ℕ, zero, suc, ◌+◌, ◌≤◌, ◌<◌, List, [], ◌∷◌, ◌++◌, Bool, true, false, length, Some, None, Ok, Err, IsOk, refl, sym, ◌∙◌, ap, subst, append_assoc, append-nil, length-append, arith}
-use Rattle.std.specs.Prelude.{Option, Result, ◌||◌, nat_eq, sum_by, is_some}
+use Rattle.std.specs.Prelude.{Option, Result, ◌||◌, sum_by, is_some}
 use Rattle.std.specs.List.{All, AllByRecursion}
 use Rattle.std.specs.FinMap as map
 use Rattle.std.proofs.lemmas.List.Elements.{All-from_recursion}
 use Rattle.std.proofs.lemmas.List.Sums.{sum_by-cons}
-use Rattle.ntx_num.specs.Answer.{result_map, result_and_then}
-use Rattle.ntx_nodes.specs.Heap.{Heap, IsLawful, is_live, max_nodes}
-use Rattle.ntx_nodes.specs.Walk.{is_reached, node_reached, walk, turns_of, flat_walk, checked_walk, max_depth}
+use Rattle.ntx_num.specs.Answer.{result_and_then}
+use Rattle.ntx_nodes.specs.Heap.{Heap, IsLawful, max_nodes}
+use Rattle.ntx_nodes.specs.Walk.{is_reached, node_reached, turns_of, flat_walk, checked_walk}
 use Rattle.ntx_nodes.specs.Walker.{inner_links, links_of, whole_walk}
 use Rattle.ntx_nodes.specs.WalkLaws.{AreFresh, Sound}
 use Rattle.ntx_nodes.specs.declared.kind.ListKind.{ListKind}
-use Rattle.ntx_nodes.specs.declared.kind.ListKind.TheVariants.{H, V, Part}
+use Rattle.ntx_nodes.specs.declared.kind.ListKind.TheVariants.{H}
 use Rattle.ntx_nodes.specs.declared.kind.Way.{Way}
-use Rattle.ntx_nodes.specs.declared.kind.Way.TheVariants.{Checked, Plain, Flat}
+use Rattle.ntx_nodes.specs.declared.kind.Way.TheVariants.{Checked, Flat}
 use Rattle.ntx_nodes.specs.declared.fields.Contents.{Contents}
 use Rattle.ntx_nodes.specs.declared.fields.Contents.TheVariants as contents
 use Rattle.ntx_nodes.specs.declared.node.Node.{Node}
 use Rattle.ntx_nodes.specs.declared.trouble.Trouble.{Trouble}
 use Rattle.ntx_nodes.proofs.Oks.{went_Ok}
-use Rattle.ntx_nodes.proofs.Turns.{Passes, passes, unreached, unreached_less, unreached_falls, unreached_most, Extends, extends_on, walk_extends, last_reached}
+use Rattle.ntx_nodes.proofs.Turns.{passes, unreached, unreached_less, unreached_falls, unreached_most, Extends, extends_on, walk_extends}
 use Rattle.ntx_nodes.proofs.Walks.{is_reached-append, node_reached_Ok}
 use Rattle.ntx_nodes.proofs.WalkSteps.{whole_None, whole_at, whole_refused, links_next}
 use Rattle.ntx_view.specs.View.{names_in, PartsEnd, PartsEndAt}

@@ -1,8 +1,8 @@
 -- Items of nodes, one after another.
-use Rattle.std.proofs.Common.{◌≡◌, ℕ, zero, suc, ◌+◌, ◌*◌, ◌≤◌, ◌<◌, List, [], ◌∷◌, ◌++◌, length, map, take, get_or, Some, None, refl, sym, ◌∙◌, ap, subst, length-append, append-nil, arith}
+use Rattle.std.proofs.Common.{◌≡◌, ℕ, suc, ◌+◌, ◌*◌, ◌≤◌, ◌<◌, List, [], ◌∷◌, ◌++◌, length, map, take, get_or, Some, None, refl, sym, ◌∙◌, ap, subst, length-append, append-nil, arith}
 use Rattle.std.specs.Prelude.{Option, sum_by}
 use Rattle.std.specs.Option.{option_map, option_to_list, IfSome}
-use Rattle.std.specs.List.{All, filter_map, cons_option}
+use Rattle.std.specs.List.{All, cons_option}
 use Rattle.std.specs.FinMap as map'
 use Rattle.std.proofs.lemmas.List.{take_more, map-append, length-take-le}
 use Rattle.std.proofs.lemmas.List.Elements.{filter_map-append, All-nil, All-push, All-weaker}

@@ -1,10 +1,10 @@
 -- What the fields of a lawful heap hold.
-use Rattle.std.proofs.Common.{◌≡◌, ℕ, ◌≤◌, ◌<◌, ℤ, pos, ◌≤ℤ◌, Ok, Err, arith}
+use Rattle.std.proofs.Common.{◌≡◌, ℕ, ◌≤◌, ℤ, pos, ◌≤ℤ◌, Ok, arith}
 use Rattle.std.specs.Int.RustNames.{unsigned_abs}
 use Rattle.std.proofs.lemmas.Int.{ints}
 use Rattle.ntx_nodes.specs.Fields.{kind_of, field_of}
 use Rattle.ntx_nodes.specs.Heap.{Heap, IsLawful, IsInRange}
-use Rattle.ntx_nodes.specs.Steps.{at, get_answer}
+use Rattle.ntx_nodes.specs.Steps.{get_answer}
 use Rattle.ntx_nodes.specs.declared.kind.Kind.{Kind}
 use Rattle.ntx_nodes.specs.declared.field.Field.{Field}
 use Rattle.ntx_nodes.specs.declared.field.Field.TheVariants.{Width, Height, Depth, Shift, Stretch, Shrink, Kern, Penalty, StretchOrder, ShrinkOrder, Char, Font}

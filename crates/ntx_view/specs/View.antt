@@ -3,7 +3,7 @@
 --     list_items heap fonts head         the items, where the list is one
 --     IsOneEach heap head items          one item for each node of a list
 --     bare_items heap fonts to           the same with all parts of discretionaries taken as empty: within a part there is none
-use Rattle.std.specs.Prelude.{◌≡◌, ℕ, nat_eq, ℤ, pos, Bool, false, List, [], length, map, slice_get, Option, None, Some, is_none, unwrap_or, Result, Ok, Err, IsOk, All}
+use Rattle.std.specs.Prelude.{◌≡◌, ℕ, nat_eq, pos, Bool, false, List, [], length, map, slice_get, Option, None, Some, is_none, unwrap_or, Result, Ok, Err, IsOk, All}
 use Rattle.std.specs.List.{find, filter_map}
 use Rattle.std.specs.FinMap as fin
 use Rattle.ntx_num.specs.Answer.{result_and_then}
@@ -13,12 +13,10 @@ use Rattle.ntx_nodes.specs.Walk.{checked_walk, flat_walk}
 use Rattle.ntx_nodes.specs.declared.kind.ListKind.{ListKind}
 use Rattle.ntx_nodes.specs.declared.contents.BoxFields.{BoxFields}
 use Rattle.ntx_nodes.specs.declared.contents.RuleFields.{RuleFields}
-use Rattle.ntx_nodes.specs.declared.contents.DiscFields.{DiscFields}
 use Rattle.ntx_nodes.specs.declared.contents.GlueFields.{GlueFields}
 use Rattle.ntx_nodes.specs.declared.contents.GlyphFields.{GlyphFields}
 use Rattle.ntx_nodes.specs.declared.fields.Contents.{Contents}
 use Rattle.ntx_nodes.specs.declared.fields.Contents.TheVariants as contents
-use Rattle.ntx_nodes.specs.declared.fields.Fields.{Fields}
 use Rattle.ntx_nodes.specs.declared.node.Node.{Node}
 use Rattle.ntx_nodes.specs.declared.trouble.Trouble.{Trouble}
 use Rattle.ntx_nodes.specs.declared.trouble.Trouble.TheVariants.{NoChar}

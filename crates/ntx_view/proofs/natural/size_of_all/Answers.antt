@@ -1,5 +1,5 @@
 -- proofs/natural/size_of_all/Answers.antt
-use Rattle.std.proofs.Common.{◌≡◌, ◌≤◌, ◌+ℤ◌, ℤ, get_or, subst, sym, ap, ◌∙◌}
+use Rattle.std.proofs.Common.{◌≤◌, ◌+ℤ◌, get_or, subst, sym, ap, ◌∙◌}
 use Rattle.std.specs.Int.RustNames.{unsigned_abs}
 use Rattle.ntx_num.specs.declared.size.Size.{Size}
 use Rattle.ntx_item.specs.Items.{max_total}

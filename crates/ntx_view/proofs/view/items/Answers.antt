@@ -1,6 +1,6 @@
 -- proofs/view/items/Answers.antt
 -- The items are measured from nodes that the walk reached, each once, and no walk reaches more than may be live.
-use Rattle.std.proofs.Common.{◌≡◌, ◌≤◌, [], length, subst, sym, ap, ◌∙◌, arith}
+use Rattle.std.proofs.Common.{◌≤◌, [], length, subst, sym, ap, ◌∙◌, arith}
 use Rattle.std.specs.List.{sum_by}
 use Rattle.std.proofs.lemmas.List.{length-map}
 use Rattle.ntx_nodes.specs.Heap.{max_nodes}
