@@ -1,9 +1,10 @@
 -- Between two calls of a read to the end or of a whole write: what was given or taken so far.
+use Rattle.std.specs.Prelude.{◌==◌, Bool, true, false}
 use Rattle.std.proofs.Common.{◌≡◌, ℕ, ◌+◌, ◌<◌, ◌≤◌, List, ◌++◌, length, take, drop, Option, Some, None, Ok, Err, subst, sym, ap, ◌∙◌, append_assoc, arith, length-append}
-use Rattle.std.proofs.Math.Seq.{take-append_seam, drop-append-add}
+use Rattle.std.proofs.Math.Seq.{drop-append-add}
 use Rattle.std.proofs.lemmas.List.{take-append-drop}
 use Rattle.ntx_io.specs.Outside.{GivesNext, Reads, Takes, Adds, AddsFront}
-use Rattle.ntx_io.specs.Whole.{IsLeftAfter, ReadsWhole, TakesWhole}
+use Rattle.ntx_io.specs.Whole.{IsLeftAfter, ReadsWhole}
 use Rattle.ntx_num.specs.declared.answer.Fail.TheVariants.{NoMemory, Is}
 use Rattle.ntx_io.specs.declared.whole.ReadWhy.TheVariants.{TooLarge}
 
@@ -69,3 +70,15 @@ stops_without_memory E (Some left) now new bytes buffer k limit so_far reads wit
     (length bytes + k, within, left_after E left so_far.0 new bytes buffer k so_far.1 step)
 stops_without_memory E None now new bytes buffer k limit so_far reads within =
     subst (λ n. Reads {E = E} n new buffer (Ok k)) so_far reads
+
+length_of_rest : (old now : Option (List ℕ)) (text rest : List ℕ) → WrittenSoFar old now text rest → length text ≡ 0 → length rest ≡ 0
+length_of_rest old now text rest so_far none =
+    omega (arith, length-append so_far.front rest, ap length so_far.parts)
+
+true_is_no_false : true ≡ false → ⊥
+true_is_no_false e = cc
+
+-- An empty text has no rest to write.
+pub no_rest_of_nothing : (old now : Option (List ℕ)) (text rest : List ℕ) (empty : Bool) → WrittenSoFar old now text rest → length text ≡ 0 → empty ≡ (length rest == 0) → empty ≡ false → ⊥
+no_rest_of_nothing old now text rest empty so_far none is test =
+    true_is_no_false (sym (ap (λ n. n == 0) (length_of_rest old now text rest so_far none)) ∙ sym is ∙ test)

@@ -1,3 +1,4 @@
 pub mod Outside
 pub mod Whole
 pub mod Memory
+pub mod File

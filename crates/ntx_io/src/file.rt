@@ -1,7 +1,10 @@
 //! Files and standard output. What they hold is outside what any contract says: these adapters tell no content, only the count of their
-//! faults.
+//! faults. They pass on what the file under them gives and takes.
 
-ghost use Rattle.std.specs.Prelude.{None};
+ghost use Rattle.std.specs.Prelude.{None, ◌≡◌, ◌≤◌, IfOk, length};
+ghost use Rattle.std.specs.Io.KnownBytes.{ReadConsumes, WriteAppends};
+ghost use Rattle.ntx_io.specs.File.{told_by};
+ghost use Rattle.ntx_io.specs.Outside.{HasCause, Reads, Takes, TakesSome};
 
 use crate::outside::{Failed, Sink, Source};
 use std::fs;
@@ -17,7 +20,9 @@ pub struct FileSource<F> {
 
 impl<F: Read + Drop> FileSource<F> {
     /// A source over the file at `path`.
-    pub fn open<R: Files<File = F>>(rt: &R, path: &str) -> FileSource<F> {
+    pub fn open<R: Files<File = F>>(rt: &R, path: &str) -> FileSource<F>
+        ensures { result.faults ≡ 0 }
+    {
         FileSource {
             file: fs::open(rt, path).ok(),
             faults: 0,
@@ -30,7 +35,13 @@ impl<F: Read + Drop> Source for FileSource<F> {
 
     ghost faults = { λ s. s.faults };
 
-    fn read(&mut self, buf: &mut [u8]) -> Result<usize, Failed> {
+    fn read(&mut self, buf: &mut [u8]) -> Result<usize, Failed>
+        ensures bound { IfOk result (λ k. k ≤ length buf.new) }
+        ensures bytes { Reads None None buf.new result }
+        ensures cause { HasCause self.old.faults self.new.faults result }
+
+        ensures passes { ReadConsumes (told_by F.remaining self.old.file) (told_by F.remaining self.new.file) result buf.new }
+    {
         if let Some(file) = &mut self.file {
             if let Ok(count) = file.read(buf) {
                 return Ok(count);
@@ -50,7 +61,9 @@ pub struct FileSink<F> {
 
 impl<F: Write + Drop> FileSink<F> {
     /// A sink over the file at `path`, which is created or emptied.
-    pub fn create<R: Files<File = F>>(rt: &R, path: &str) -> FileSink<F> {
+    pub fn create<R: Files<File = F>>(rt: &R, path: &str) -> FileSink<F>
+        ensures { result.faults ≡ 0 }
+    {
         FileSink {
             file: fs::create(rt, path).ok(),
             faults: 0,
@@ -63,7 +76,13 @@ impl<F: Write + Drop> Sink for FileSink<F> {
 
     ghost faults = { λ s. s.faults };
 
-    fn write(&mut self, bytes: &[u8]) -> Result<usize, Failed> {
+    fn write(&mut self, bytes: &[u8]) -> Result<usize, Failed>
+        ensures some { TakesSome bytes.now result }
+        ensures bytes { Takes None None bytes.now result }
+        ensures cause { HasCause self.old.faults self.new.faults result }
+
+        ensures passes { WriteAppends (told_by F.contents self.old.file) (told_by F.contents self.new.file) result bytes.now }
+    {
         if let Some(file) = &mut self.file {
             if let Ok(count) = file.write(bytes) {
                 if count > 0 || bytes.is_empty() {
@@ -85,7 +104,9 @@ pub struct StdoutSink<'a, P> {
 
 impl<'a, P: Print> StdoutSink<'a, P> {
     /// A sink over the standard output of this runtime.
-    pub fn new(rt: &'a P) -> StdoutSink<'a, P> {
+    pub fn new(rt: &'a P) -> StdoutSink<'a, P>
+        ensures { result.faults ≡ 0 }
+    {
         StdoutSink { out: rt, faults: 0 }
     }
 }

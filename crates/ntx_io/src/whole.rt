@@ -58,6 +58,8 @@ pub fn read_all<S: Source>(
 pub fn write_all<K: Sink>(sink: &mut K, bytes: &[u8]) -> Result<(), WriteFault>
     ensures bytes { TakesWhole (K.taken sink.old) (K.taken sink.new) bytes.now result }
     ensures cause { HasCause (K.faults sink.old) (K.faults sink.new) result }
+    // No empty piece is written.
+    ensures nothing { length bytes.now ≡ 0 → IsOk result × (sink.new ≡ sink.old) }
 {
     let mut rest = bytes;
     while !rest.is_empty() {

@@ -1,5 +1,5 @@
--- The parameters of paragraphs and pages: their names, and what each may be set to. They are TeX's of these names ("TeX: The Program", sections
--- 224, 236 and 247), and hyphenchar, which TeX keeps with each font (section 549).
+-- The parameters of paragraphs and pages: their names, and what each may be set to. The names are TeX's ("TeX: The Program", sections 224, 236
+-- and 247), also hyphenchar's, which TeX keeps with each font (section 549). The ranges of numbers are narrower than TeX's.
 --     name_of p, glue_name_of g               the name
 --     param_named name, glue_param_named name the parameter of this name
 --     range_of p                              the least and the greatest value, in scaled points where it is a dimension

@@ -1,4 +1,4 @@
--- What the parameters are set to, and the values that plain TeX gives them ("The TeXbook", appendix B), where parskip alone stretches too.
+-- What the parameters are set to, and their defaults: those of plain TeX ("The TeXbook", appendix B), but parskip does not stretch.
 --     value_of s p, glue_of s g             what the parameter is
 --     with_value s p v, with_glue s g spec  the settings with this parameter set to this value, and the others as they were
 --     put_step p v s, put_glue_step g spec s  the same, or OutOfRange where the value is not in the parameter's range
@@ -14,7 +14,7 @@ use Rattle.ntx_item.specs.declared.glue.GlueSpec.{GlueSpec}
 use Rattle.ntx_item.specs.declared.out_of_range.OutOfRange.{OutOfRange}
 use Rattle.ntx_item.specs.Parameters.{IsInRange, IsGlueInRange, is_in_range, is_glue_in_range}
 
--- Dimensions and glue are in scaled points.
+-- Dimensions are in scaled points, and so is glue, but for stretch and shrink of an infinite order.
 pub record Settings : Type 0 where
   pub pretolerance : ℤ
   pub tolerance : ℤ

@@ -1,7 +1,7 @@
 //! What packing and line breaking look at: the items of a list, glue, and the parameters of paragraphs and pages.
 //!
-//! Items are the nodes of a list without their names, links and attributes. The parameters are those of TeX of the same
-//! names ("TeX: The Program", sections 135 to 161, 236, 247 and 644). The crate stands on `ntx_num` for sizes.
+//! Items are the nodes of a list without their names, links and attributes ("TeX: The Program", sections 135 to 161). The
+//! parameters are those of TeX of the same names (sections 224, 236, 247 and 549). The crate stands on `ntx_num` for sizes.
 #![tactic(auto)]
 
 mod glue;

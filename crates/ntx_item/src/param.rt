@@ -12,7 +12,7 @@ use ntx_num::in_range;
 pub enum Param {
     /// The greatest badness of a line in the first pass, which tries no hyphenation; below 0 there is no first pass.
     Pretolerance,
-    /// The greatest badness of a line in the later passes.
+    /// The greatest badness that the later passes look for in a line.
     Tolerance,
     /// What each line adds to its badness before it is squared into demerits.
     Linepenalty,

@@ -11,12 +11,13 @@ use crate::out_of_range::OutOfRange;
 use crate::param::Param;
 use std::marker::Model;
 
-/// What the parameters are set to. Each is in its range. Dimensions and glue are in scaled points.
+/// What the parameters are set to. Each is in its range. Dimensions are in scaled points, and so is
+/// glue, but for stretch and shrink of an infinite order.
 #[derive(Clone, Copy, Debug)]
 pub struct Params {
     /// The greatest badness of a line in the first pass, which tries no hyphenation; below 0 there is no first pass.
     pub pretolerance: i64,
-    /// The greatest badness of a line in the later passes.
+    /// The greatest badness that the later passes look for in a line.
     pub tolerance: i64,
     /// What each line adds to its badness before it is squared into demerits.
     pub linepenalty: i64,

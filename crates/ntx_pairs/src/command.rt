@@ -7,6 +7,6 @@ pub enum Pair {
     None,
     /// A kern between them, in scaled points.
     Kern(i64),
-    /// A ligature: its operation, one of 0 to 3, 5 to 7 and 11, and its character.
+    /// A ligature: its operation, from `pair` one of 0 to 3, 5 to 7 and 11, and its character.
     Lig(u8, u8),
 }

@@ -8,17 +8,17 @@ use Rattle.ntx_dvi.specs.declared.full.DviFull.{DviFull}
 use Rattle.ntx_dvi.specs.Operation.{Operation, Begin, End}
 use Rattle.ntx_dvi.specs.Progress.{Progress, start}
 use Rattle.ntx_dvi.specs.Bytes.{operation_bytes, ending, fillers}
-use Rattle.ntx_dvi.specs.File.{after}
+use Rattle.ntx_dvi.specs.File.{after, file_bytes}
 use Rattle.ntx_dvi.specs.Output.{ends_within}
 use Rattle.ntx_dvi.specs.Writer.{Writer, new_writer}
 use Rattle.ntx_doc.specs.declared.command.Command.{Command}
 use Rattle.ntx_run.specs.declared.stop.Stop.{Stop}
 use Rattle.ntx_run.specs.declared.stop.Stop.TheVariants as stop
-use Rattle.ntx_run.specs.Page.{pages_of, pages_operations}
+use Rattle.ntx_run.specs.Page.{pages_of, pages_operations, document_operations}
 use Rattle.ntx_run.specs.Written.{Written, behind, written, with_written, WritesAs, Writes}
 use Rattle.ntx_run.specs.Run.{max_dvi, file_of}
-use Rattle.ntx_run.specs.Outside.{Output, Typesets}
-use Rattle.ntx_run.specs.Settled.{TakesAll, Settles}
+use Rattle.ntx_run.specs.Outside.{Output}
+use Rattle.ntx_run.specs.Parts.{TakesAll, HandsOver, Typesets}
 use Rattle.ntx_run.proofs.Writing.{true_is_no_false, written_if, written-nil, written-cons, written-append, written-append_full}
 
 -- ---- what is added to a sink
@@ -76,7 +76,7 @@ file_is_part commands full = written-append_full max_dvi start (pages_part comma
 
 -- ---- the first part goes to the sink and stops
 
-first_stops : (commands : List Command) (drawn : Result (Unit {0}) (Fail DviFull)) (mid : Writer) (before after : Output) (why : Stop) → WritesAs drawn (new_writer max_dvi) mid (pages_part commands) → Settles drawn mid.waiting before after (Err why) → Typesets commands before after (Err why)
+first_stops : (commands : List Command) (drawn : Result (Unit {0}) (Fail DviFull)) (mid : Writer) (before after : Output) (why : Stop) → WritesAs drawn (new_writer max_dvi) mid (pages_part commands) → HandsOver drawn mid.waiting before after (Err why) → Typesets commands before after (Err why)
 first_stops commands (Ok a) mid before after stop.Write writes settles =
     let bytes : mid.waiting ≡ (part_of commands).bytes = ap (λ w. w.waiting) writes.goes in
     let file = file_is commands writes.room in
@@ -93,7 +93,7 @@ first_stops commands (Err fail.NoMemory) mid before after stop.Memory writes set
     (subst (λ o. AddsFront before.taken o.taken (file_of commands).bytes) (sym settles) (adds_no_front before.taken (file_of commands).bytes), ap (λ o. o.faults) settles)
 first_stops commands drawn mid before after why writes settles = absurd settles
 
-pub typesets_stopped : (commands : List Command) (drawn : Result (Unit {0}) (Fail DviFull)) (mid : Writer) (before after : Output) (why : Stop) → Writes drawn (new_writer max_dvi) mid (pages_part commands) → Settles drawn mid.waiting before after (Err why) → Typesets commands before after (Err why)
+pub typesets_stopped : (commands : List Command) (drawn : Result (Unit {0}) (Fail DviFull)) (mid : Writer) (before after : Output) (why : Stop) → Writes drawn (new_writer max_dvi) mid (pages_part commands) → HandsOver drawn mid.waiting before after (Err why) → Typesets commands before after (Err why)
 typesets_stopped commands drawn mid before after why writes settles =
     first_stops commands drawn mid before after why writes.done settles
 
@@ -107,7 +107,7 @@ between commands = record (with_written (new_writer max_dvi) (part_of commands))
 abbrev tail_of : List Command → Written
 tail_of commands = written max_dvi (part_of commands).progress (End ∷ [])
 
-second_ends : (commands : List Command) (ended : Result (Unit {0}) (Fail DviFull)) (last : Writer) (before mid after : Output) (result : Result (Unit {0}) Stop) → (part_of commands).full ≡ false → TakesAll (part_of commands).bytes before mid → WritesAs ended (between commands) last (End ∷ []) → Settles ended last.waiting mid after result → Typesets commands before after result
+second_ends : (commands : List Command) (ended : Result (Unit {0}) (Fail DviFull)) (last : Writer) (before mid after : Output) (result : Result (Unit {0}) Stop) → (part_of commands).full ≡ false → TakesAll (part_of commands).bytes before mid → WritesAs ended (between commands) last (End ∷ []) → HandsOver ended last.waiting mid after result → Typesets commands before after result
 second_ends commands (Ok a) last before mid after (Ok b) room first writes settles =
     let bytes : last.waiting ≡ (tail_of commands).bytes = ap (λ w. w.waiting) writes.goes in
     let file = file_is commands room in (
@@ -141,14 +141,14 @@ second_ends commands (Err fail.NoMemory) last before mid after (Err stop.Memory)
     )
 second_ends commands ended last before mid after result room first writes settles = absurd settles
 
-no_settling : (e : Fail DviFull) (bytes : List ℕ) (before after : Output) (b : Unit {0}) → Settles (Err e) bytes before after (Ok b) → ⊥
+no_settling : (e : Fail DviFull) (bytes : List ℕ) (before after : Output) (b : Unit {0}) → HandsOver (Err e) bytes before after (Ok b) → ⊥
 no_settling (fail.Is full) bytes before after b settles = settles
 no_settling fail.NoMemory bytes before after b settles = settles
 
 abbrev emptied : Writer → Writer
 emptied w = record w { waiting = [] }
 
-pub typesets_ended : (commands : List Command) (drawn : Result (Unit {0}) (Fail DviFull)) (b : Unit {0}) (ended : Result (Unit {0}) (Fail DviFull)) (first second last : Writer) (before mid after : Output) (result : Result (Unit {0}) Stop) → Writes drawn (new_writer max_dvi) first (pages_part commands) → Settles drawn first.waiting before mid (Ok b) → second ≡ record first { waiting = [] } → Writes ended second last (End ∷ []) → Settles ended last.waiting mid after result → Typesets commands before after result
+pub typesets_ended : (commands : List Command) (drawn : Result (Unit {0}) (Fail DviFull)) (b : Unit {0}) (ended : Result (Unit {0}) (Fail DviFull)) (first second last : Writer) (before mid after : Output) (result : Result (Unit {0}) Stop) → Writes drawn (new_writer max_dvi) first (pages_part commands) → HandsOver drawn first.waiting before mid (Ok b) → second ≡ record first { waiting = [] } → Writes ended second last (End ∷ []) → HandsOver ended last.waiting mid after result → Typesets commands before after result
 typesets_ended commands (Ok a) b ended first second last before mid after result writes taken second_is writes_end settles =
     let bytes : first.waiting ≡ (part_of commands).bytes = ap (λ w. w.waiting) writes.done.goes in
     let is : second ≡ between commands = second_is ∙ ap emptied writes.done.goes in
@@ -204,3 +204,16 @@ file_ends commands room =
       | true ↦ λ e. absurd (true_is_no_false (sym (ap (λ w. w.full) (file_is_part commands e) ∙ e) ∙ room))
       | false ↦ λ e. let file = file_is commands e in subst (λ w. EndsWithFiller w.bytes) (sym file) (behind_ends (part_of commands).bytes (tail_of commands) (tail_ends max_dvi (part_of commands).progress (sym (ap (λ w. w.full) file) ∙ room)))
     ] refl
+
+-- What is written whole is the bytes of the operations.
+written_whole : (limit : ℕ) (p : Progress) (operations : List Operation) → (written limit p operations).full ≡ false → (written limit p operations).bytes ≡ file_bytes p operations
+written_whole limit p [] room = ap (λ w. w.bytes) (written-nil limit p)
+written_whole limit p (x ∷ xs) room =
+    let first : (b : Bool) → (written_if b limit p x xs).full ≡ false → (written_if b limit p x xs).bytes ≡ file_bytes p (x ∷ xs) = elim [
+      | true ↦ λ found. ap (λ rest. operation_bytes p x ++ rest) (written_whole limit (after p x) xs found)
+      | false ↦ λ found. absurd (true_is_no_false found)
+    ] in
+    ap (λ w. w.bytes) (written-cons limit p x xs) ∙ first (ends_within limit p.place (operation_bytes p x)) (sym (ap (λ w. w.full) (written-cons limit p x xs)) ∙ room)
+
+pub file_whole : (commands : List Command) → (file_of commands).full ≡ false → (file_of commands).bytes ≡ file_bytes start (document_operations commands)
+file_whole commands room = written_whole max_dvi start (document_operations commands) room

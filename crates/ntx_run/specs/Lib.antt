@@ -4,5 +4,4 @@ pub mod Written
 pub mod Stop
 pub mod Run
 pub mod Outside
-pub mod Settled
-pub mod Inputs
+pub mod Parts

@@ -1,6 +1,6 @@
 -- A whole run as a function of the words of the command line, the names of the fonts' feeds and the bytes that the sources tell: its status,
 -- its place, the bytes of its DVI file and the lines that it prints.
-use Rattle.std.specs.Prelude.{ℕ, ◌^◌, ◌==◌, ◌-◌, nat_lt, ◌&&◌, ◌||◌, not, Bool, true, if◌then◌else◌, List, [], ◌∷◌, length, Result, Ok, Err}
+use Rattle.std.specs.Prelude.{ℕ, ◌^◌, ◌==◌, ◌-◌, nat_lt, ◌&&◌, ◌||◌, not, Bool, true, if◌then◌else◌, List, [], ◌∷◌, ◌++◌, map, length, Option, None, Result, Ok, Err}
 use Rattle.std.specs.List.{list_all}
 use Rattle.ntx_num.specs.Answer.{result_and_then}
 use Rattle.ntx_doc.specs.declared.command.Command.{Command}
@@ -10,22 +10,36 @@ use Rattle.ntx_doc.specs.Document.{document_of}
 use Rattle.ntx_dvi.specs.Progress.{start}
 use Rattle.ntx_run.specs.declared.stop.Stop.{Stop}
 use Rattle.ntx_run.specs.declared.stop.Stop.TheVariants as stop
-use Rattle.ntx_run.specs.declared.outcome.Outcome.{Outcome}
+use Rattle.ntx_run.specs.declared.outcome.Status.{Status}
+use Rattle.ntx_run.specs.declared.outcome.Status.TheVariants as status
+use Rattle.ntx_run.specs.declared.outcome.Place.{Place}
 use Rattle.ntx_run.specs.Page.{document_operations}
 use Rattle.ntx_run.specs.Written.{Written, written}
-use Rattle.ntx_run.specs.Stop.{done, outcome_of, line_of}
+use Rattle.ntx_run.specs.Stop.{status_of, place_of, line_of}
+
+-- the name and the bytes of a font
+pub record FontTold : Type 0 where
+  pub name : List ℕ
+  pub bytes : List ℕ
 
 -- the bytes of the inputs
 pub record Told : Type 0 where
   pub document : List ℕ
   pub script : List ℕ
   pub patterns : List ℕ
+  pub fonts : List FontTold
 
--- how a run ends, and what it has given by then
+-- how a run ends, and what it has given by then: the bytes of the DVI file, what was printed, and the line that tells of a fault
 pub record Ending : Type 0 where
-  pub outcome : Outcome
+  pub status : Status
+  pub place : Option Place
   pub dvi : List ℕ
-  pub lines : List ℕ
+  pub printed : List ℕ
+  pub fault_line : List ℕ
+
+-- all that is printed
+abbrev pub lines_of : Ending → List ℕ
+lines_of ending = ending.printed ++ ending.fault_line
 
 -- ---- words
 
@@ -34,9 +48,13 @@ abbrev pub is_path : List ℕ → Bool
 is_path [] = true
 is_path (byte ∷ bytes) = not (byte == 45) || length bytes == 0
 
--- The words are the paths of the document, the script, the patterns and the DVI file, and there are no fonts.
-unfoldable pub are_words : List (List ℕ) → List (List ℕ) → Bool
-are_words words names = length words == 4 && list_all is_path words && length names == 0
+-- The words are the paths of the document, the script, the patterns and the DVI file.
+abbrev pub are_paths : List (List ℕ) → Bool
+are_paths words = length words == 4 && list_all is_path words
+
+-- The words are four paths, and there are no fonts.
+unfoldable pub fits_form : List (List ℕ) → List (List ℕ) → Bool
+fits_form words names = are_paths words && length names == 0
 
 -- ---- inputs
 
@@ -77,15 +95,18 @@ file_of commands = written max_dvi start (document_operations commands)
 -- ---- runs
 
 abbrev pub stopped : Stop → List ℕ → Ending
-stopped why dvi = record { outcome = outcome_of why; dvi = dvi; lines = line_of why }
+stopped why dvi = record { status = status_of why; place = place_of why; dvi = dvi; printed = []; fault_line = line_of why }
+
+abbrev pub ended_well : List ℕ → Ending
+ended_well dvi = record { status = status.Done; place = None; dvi = dvi; printed = []; fault_line = [] }
 
 abbrev pub file_ending : Written → Ending
-file_ending file = if file.full then stopped stop.DviFull file.bytes else record { outcome = done; dvi = file.bytes; lines = [] }
+file_ending file = if file.full then stopped stop.DviFull file.bytes else ended_well file.bytes
 
 abbrev pub ending_of : Result (List Command) Stop → Ending
 ending_of (Ok commands) = file_ending (file_of commands)
 ending_of (Err why) = stopped why []
 
 -- The words are refused before anything is read.
-abbrev pub run_of : List (List ℕ) → List (List ℕ) → Told → Ending
-run_of words names told = if are_words words names then ending_of (read_told told) else stopped stop.Words []
+abbrev pub run_of : List (List ℕ) → Told → Ending
+run_of words told = if fits_form words (map (λ font. font.name) told.fonts) then ending_of (read_told told) else stopped stop.Words []

@@ -1,17 +1,15 @@
 -- Why a run stopped: the status and place that it ends with, and the line that tells of it.
-use Rattle.std.specs.Prelude.{ℕ, List, [], ◌∷◌, ◌++◌, Some, None, codes, decimal}
+use Rattle.std.specs.Prelude.{ℕ, List, [], ◌∷◌, ◌++◌, Option, Some, None, codes, decimal}
 use Rattle.ntx_doc.specs.Why.{why_text}
 use Rattle.ntx_run.specs.declared.stop.Stop.{Stop}
 use Rattle.ntx_run.specs.declared.stop.Stop.TheVariants as stop
 use Rattle.ntx_run.specs.declared.outcome.Outcome.{Outcome}
+use Rattle.ntx_run.specs.declared.outcome.Status.{Status}
 use Rattle.ntx_run.specs.declared.outcome.Status.TheVariants as status
+use Rattle.ntx_run.specs.declared.outcome.Place.{Place}
 use Rattle.ntx_run.specs.declared.outcome.Place.TheVariants as place
 use Rattle.ntx_run.specs.declared.outcome.Which.{Which}
 use Rattle.ntx_run.specs.declared.outcome.Which.TheVariants as which
-
--- a run that ended well
-abbrev pub done : Outcome
-done = record { status = status.Done; place = None }
 
 abbrev pub outcome_of : Stop → Outcome
 outcome_of stop.Words = record { status = status.Words; place = None }
@@ -22,6 +20,12 @@ outcome_of (stop.Read input) = record { status = status.ReadFault; place = Some 
 outcome_of stop.Write = record { status = status.WriteFault; place = None }
 outcome_of stop.Memory = record { status = status.Memory; place = None }
 outcome_of stop.DviFull = record { status = status.DviFull; place = None }
+
+abbrev pub status_of : Stop → Status
+status_of why = (outcome_of why).status
+
+abbrev pub place_of : Stop → Option Place
+place_of why = (outcome_of why).place
 
 abbrev pub which_text : Which → List ℕ
 which_text which.Document = codes "document"

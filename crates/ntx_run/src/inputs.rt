@@ -3,8 +3,7 @@
 ghost use Rattle.std.specs.Prelude.{◌≡◌, ◌≤◌, IfOk, [], Some, Option, List, ℕ};
 ghost use Rattle.ntx_num.specs.Answer.{result_map};
 ghost use Rattle.ntx_doc.specs.Shape.{IsBoxOfRules};
-ghost use Rattle.ntx_run.specs.Inputs.{ReadsDocument, ReadsEmpty};
-ghost use Rattle.ntx_run.specs.Outside.{ReadsInputs};
+ghost use Rattle.ntx_run.specs.Parts.{ReadsDocument, ReadsEmpty, Reads};
 
 use crate::outcome::Which;
 use crate::stop::Stop;
@@ -69,7 +68,7 @@ pub fn read_inputs<D: Source, S: Source, P: Source>(
     script: &mut S,
     patterns: &mut P,
 ) -> Result<Vec<Command>, Stop>
-    ensures reads { ReadsInputs
+    ensures reads { Reads
         (record {
           document = record { left = D.left document.old; faults = D.faults document.old };
           script = record { left = S.left script.old; faults = S.faults script.old };

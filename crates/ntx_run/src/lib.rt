@@ -21,4 +21,4 @@ mod words;
 
 pub use outcome::{Outcome, Place, Status, Which};
 pub use program::run;
-pub use words::are_words;
+pub use words::are_paths;

@@ -1,13 +1,14 @@
 //! The whole program but for the files and the process around it.
 
 ghost use Rattle.std.specs.Prelude.{◌≡◌, map, string_bytes};
-ghost use Rattle.ntx_run.specs.Outside.{Reports, Runs};
+ghost use Rattle.ntx_run.specs.Outside.{Runs};
+ghost use Rattle.ntx_run.specs.Parts.{Reports};
 
 use crate::inputs::read_inputs;
 use crate::outcome::{Outcome, Status};
 use crate::stop::Stop;
 use crate::typeset::typeset;
-use crate::words::are_words;
+use crate::words::fits_form;
 use ntx_io::{Feed, Sink, Source, write_all};
 use std::alloc::Global;
 
@@ -18,6 +19,9 @@ fn report<L: Sink>(alloc: Global, stop: Stop, lines: &mut L) -> Outcome
         (record { taken = L.taken lines.new; faults = L.faults lines.new })
         result }
 {
+    if let Stop::Write | Stop::Memory = stop {
+        return stop.outcome();
+    }
     let Ok(line) = stop.line(alloc) else {
         return Stop::Memory.outcome();
     };
@@ -30,8 +34,8 @@ fn report<L: Sink>(alloc: Global, stop: Stop, lines: &mut L) -> Outcome
 /// Typesets a document: `words` are those of the command line after the program's own name, and name the document, the script, the
 /// patterns and the DVI file. The DVI file goes to `dvi`, and what is printed to `lines`.
 ///
-/// The inputs are read in this order, each to its end, and the first refusal ends the run: of the words, the document, the script,
-/// the patterns. A script and patterns have to be empty, and there are no fonts.
+/// The inputs are read in this order, and the first refusal ends the run: of the words, the document, the script, the patterns. What is
+/// behind a refusal, or behind a source that failed, is not read. A script and patterns have to be empty, and there are no fonts.
 pub fn run<D: Source, S: Source, P: Source, O: Sink, L: Sink>(
     alloc: Global,
     words: &[String],
@@ -42,12 +46,17 @@ pub fn run<D: Source, S: Source, P: Source, O: Sink, L: Sink>(
     dvi: &mut O,
     lines: &mut L,
 ) -> Outcome
-    ensures runs { Runs (map string_bytes words.now) (map (λ feed. name feed) fonts.old.items)
+    ensures { Runs (map string_bytes words.now)
         (record {
           inputs = record {
             document = record { left = D.left doc.old; faults = D.faults doc.old };
             script = record { left = S.left script.old; faults = S.faults script.old };
             patterns = record { left = P.left patterns.old; faults = P.faults patterns.old };
+            fonts = map (λ feed. record {
+              name = name feed;
+              left = (⟦<dyn Feed as Feed>⟧ feed.vtable).left feed.value;
+              faults = (⟦<dyn Feed as Feed>⟧ feed.vtable).faults feed.value;
+            }) fonts.old.items;
           };
           dvi = record { taken = O.taken dvi.old; faults = O.faults dvi.old };
           lines = record { taken = L.taken lines.old; faults = L.faults lines.old };
@@ -57,16 +66,19 @@ pub fn run<D: Source, S: Source, P: Source, O: Sink, L: Sink>(
             document = record { left = D.left doc.new; faults = D.faults doc.new };
             script = record { left = S.left script.new; faults = S.faults script.new };
             patterns = record { left = P.left patterns.new; faults = P.faults patterns.new };
+            fonts = map (λ feed. record {
+              name = name feed;
+              left = (⟦<dyn Feed as Feed>⟧ feed.vtable).left feed.value;
+              faults = (⟦<dyn Feed as Feed>⟧ feed.vtable).faults feed.value;
+            }) fonts.new.items;
           };
           dvi = record { taken = O.taken dvi.new; faults = O.faults dvi.new };
           lines = record { taken = L.taken lines.new; faults = L.faults lines.new };
         })
-        result }
-    // The feeds are not read.
-    ensures fonts { fonts.new ≡ fonts.old }
+        result.status result.place }
 {
     let feeds = fonts.as_slice();
-    if !are_words(words, feeds.len()) {
+    if !fits_form(words, feeds.len()) {
         return report(alloc, Stop::Words, lines);
     }
     let commands = match read_inputs(alloc, doc, script, patterns) {

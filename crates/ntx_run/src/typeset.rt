@@ -7,8 +7,7 @@ ghost use Rattle.ntx_dvi.specs.Writer.{IsNew, IsBetweenPages};
 ghost use Rattle.ntx_run.specs.Page.{AreRules, IsOnPage, page_of, rules_of, page_operations, pages_of, pages_operations};
 ghost use Rattle.ntx_run.specs.PageView.{seen};
 ghost use Rattle.ntx_run.specs.Written.{Writes};
-ghost use Rattle.ntx_run.specs.Settled.{Settles};
-ghost use Rattle.ntx_run.specs.Outside.{Typesets};
+ghost use Rattle.ntx_run.specs.Parts.{HandsOver, Typesets};
 
 use crate::draw::draw_page;
 use crate::operations;
@@ -61,12 +60,12 @@ fn draw_pages(alloc: Global, commands: &[Command], dvi: &mut Dvi) -> Result<(), 
 }
 
 /// Hands the bytes that wait to the sink, and tells how the drawing of them went.
-fn settle<O: Sink>(
+fn hand_over<O: Sink>(
     drawn: Result<(), Fail<DviFull>>,
     dvi: &mut Dvi,
     sink: &mut O,
 ) -> Result<(), Stop>
-    ensures settles { Settles drawn dvi.old.waiting
+    ensures hands_over { HandsOver drawn dvi.old.waiting
         (record { taken = O.taken sink.old; faults = O.faults sink.old })
         (record { taken = O.taken sink.new; faults = O.faults sink.new })
         result }
@@ -97,9 +96,9 @@ pub fn typeset<O: Sink>(alloc: Global, commands: &[Command], sink: &mut O) -> Re
         return Err(Stop::Memory);
     };
     let drawn = draw_pages(alloc, commands, &mut dvi);
-    if let Err(stop) = settle(drawn, &mut dvi, sink) {
+    if let Err(stop) = hand_over(drawn, &mut dvi, sink) {
         return Err(stop);
     }
     let ended = operations::end(&mut dvi);
-    settle(ended, &mut dvi, sink)
+    hand_over(ended, &mut dvi, sink)
 }

@@ -1,8 +1,8 @@
 //! The words of the command line.
 
-ghost use Rattle.std.specs.Prelude.{◌≡◌, ◌==◌, ◌&&◌, length, string_bytes};
+ghost use Rattle.std.specs.Prelude.{◌≡◌, ◌==◌, ◌&&◌, map, string_bytes};
 ghost use Rattle.std.specs.List.{list_all};
-ghost use Rattle.ntx_run.specs.Run.{is_path};
+ghost use Rattle.ntx_run.specs.Run.{is_path, are_paths};
 
 /// Whether a word names a file: it does not begin with a hyphen, or it is the hyphen alone.
 fn is_path(word: &str) -> bool
@@ -15,15 +15,23 @@ fn is_path(word: &str) -> bool
 }
 
 /// Whether each word names a file.
-fn are_paths(words: &[String]) -> bool
+fn all_are_paths(words: &[String]) -> bool
     ensures { result ≡ list_all (λ word. is_path (string_bytes word)) words.now }
 {
     words.iter().all(|word| is_path(word.as_str()))
 }
 
-/// Whether the words are the paths of the document, the script, the patterns and the DVI file, and there are no feeds.
-pub fn are_words(words: &[String], feeds: usize) -> bool
-    ensures { result ≡ (length words.now == 4 && list_all (λ word. is_path (string_bytes word)) words.now && feeds == 0) }
+/// Whether the words are the paths of the document, the script, the patterns and the DVI file: four words, none of which begins with a
+/// hyphen other than the hyphen itself.
+pub fn are_paths(words: &[String]) -> bool
+    ensures { result ≡ are_paths (map string_bytes words.now) }
 {
-    words.len() == 4 && are_paths(words) && feeds == 0
+    words.len() == 4 && all_are_paths(words)
+}
+
+/// Whether the words are of the form of the command line, for so many fonts.
+pub fn fits_form(words: &[String], fonts: usize) -> bool
+    ensures { result ≡ (are_paths (map string_bytes words.now) && fonts == 0) }
+{
+    are_paths(words) && fonts == 0
 }

@@ -1,4 +1,5 @@
--- What is wrong with a TFM file: the first of ten faults in a fixed order ("TeX: The Program", sections 560 to 574, whose checks these are).
+-- What is wrong with a TFM file: the first of ten tests that fails, in a fixed order. "TeX: The Program", sections 560 to 575, has most of
+-- them, and others that are not made here.
 use Rattle.std.specs.Prelude.{◌≡◌, ℕ, ◌+◌, ◌-◌, ◌*◌, ◌/◌, Bool, true, not, ◌&&◌, ◌||◌, nat_lt, nat_le, nat_eq, if◌then◌else◌, List, length, Option, Some, None}
 use Rattle.ntx_tfm.specs.declared.fault.FontFault.{FontFault}
 use Rattle.ntx_tfm.specs.declared.fault.FontFault.TheVariants.{Short, Range, Header, Size, Index, FirstNotZero, FixWord, LigProgram}
@@ -92,7 +93,7 @@ fault_of_lengths bytes l =
 unfoldable pub first_fault : List ℕ → Option FontFault
 first_fault bytes = if nat_lt (length bytes) 24 then Some Short else fault_of_lengths bytes (lengths_of bytes)
 
--- What reading the tables stands on: a file without fault.
+-- What reading the tables stands on: what a file without fault has of it.
 pub record IsSound (bytes : List ℕ) (l : Lengths) : Type 0 where
   pub laid_out : IsLaidOut bytes l
   pub size : has_size bytes ≡ true

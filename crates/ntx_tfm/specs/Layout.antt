@@ -58,7 +58,7 @@ are_short l =
     nat_lt l.lf 32768 && nat_lt l.lh 32768 && nat_lt l.bc 32768 && nat_lt l.ec 32768 && nat_lt l.nw 32768 && nat_lt l.nh 32768 && nat_lt l.nd 32768
     && nat_lt l.ni 32768 && nat_lt l.nl 32768 && nat_lt l.nk 32768 && nat_lt l.ne 32768 && nat_lt l.np 32768
 
--- the codes are bytes, and the tables of sizes have an entry
+-- the codes are bytes and bc is at most ec + 1, and the tables of sizes have an entry
 unfoldable pub are_usable : Lengths → Bool
 are_usable l = nat_le l.bc (l.ec + 1) && nat_le l.ec 255 && nat_lt 0 l.nw && nat_lt 0 l.nh && nat_lt 0 l.nd && nat_lt 0 l.ni
 

@@ -11,7 +11,7 @@ divisor_of z = if nat_lt z 8388608 then 1 else if nat_lt z 16777216 then 2 else 
 abbrev pub reduced : ℕ → ℕ
 reduced z = z / divisor_of z
 
--- The last three bytes times the size, each product rounded down, with alpha = 16 times the divisor and beta = 256 / alpha.
+-- The last three bytes times the size, each division rounded down, with alpha = 16 times the divisor and beta = 256 / alpha.
 unfoldable pub magnitude : ℕ → Quad → ℕ
 magnitude z q = ((q.d * reduced z / 256 + q.c * reduced z) / 256 + q.b * reduced z) / (16 / divisor_of z)
 

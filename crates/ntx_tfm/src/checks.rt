@@ -1,4 +1,4 @@
-//! The faults of a TFM file ("TeX: The Program", sections 560 to 574).
+//! The faults of a TFM file ("TeX: The Program", sections 560 to 575).
 
 ghost use Rattle.std.specs.Prelude.{◌≡◌, ◌<◌, ◌≤◌, ◌+◌, ◌*◌, Some, length, IfNone, IfOk, IfErr};
 ghost use Rattle.ntx_tfm.specs.Layout.{IsLaidOut, lengths_of, word_count};

@@ -43,10 +43,10 @@ impl FontName {
 pub struct FontDef {
     /// The file's checksum.
     pub checksum: u32,
-    /// The size at which the font is used, in scaled points, from 1 to 2^26 - 1.
+    /// The size at which the font is used, in scaled points, in a font from 1 to 2^26 - 1.
     pub size: i64,
-    /// The size for which it was designed, in scaled points, from 65536 to 2^26 - 1.
+    /// The size for which it was designed, in scaled points, in a font from 65536 to 2^26 - 1.
     pub design: i64,
-    /// The font's name, of 1 to 255 bytes.
+    /// The font's name, in a font of 1 to 255 bytes.
     pub name: FontName,
 }

@@ -2,19 +2,19 @@
 
 ghost use Rattle.std.specs.Prelude.{◌≡◌};
 
-/// Why a file is no font: the first fault in the order of the variants, where `Short` is also the one for a file that
-/// has fewer words than it says.
+/// Why a file is no font: the first fault in the order of the variants, but that `Short` for a file of fewer words than
+/// it says comes after `Lengths`.
 #[derive(Clone, Copy, Debug, PartialEq, Eq)]
 pub enum FontFault {
     /// There are fewer than 24 bytes, or fewer than four for each word that the file says it has.
     Short,
-    /// A length is 2^15 or more, the codes are no bytes, or there is no width, height, depth or italic correction.
+    /// A length is 2^15 or more, the codes are no bytes or begin past their end, or there is no width, height, depth or italic correction.
     Range,
     /// The header has fewer than two words.
     Header,
     /// The length of the file is not the sum of the lengths of its parts.
     Lengths,
-    /// The design size is 2048 points or more, or below one point.
+    /// The design size is 1024 points or more, or below one point.
     Size,
     /// A character's width, height, depth or italic correction is not in its table.
     Index,

@@ -77,7 +77,7 @@ impl Lengths {
             && self.np < 0x8000
     }
 
-    /// Whether the codes are bytes and the tables of sizes have an entry.
+    /// Whether the codes are bytes, from `bc` to at least `bc - 1`, and the tables of sizes have an entry.
     #[tactic(auto, unfolding(crate::specs::Layout::are_usable))]
     pub fn are_usable(self) -> bool
         requires { self.ec < 32768 }

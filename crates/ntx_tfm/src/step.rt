@@ -3,8 +3,8 @@
 /// One step of a font's programs of ligatures and kerns ("TeX: The Program", section 545), as the file has it.
 #[derive(Clone, Copy, Debug, PartialEq, Eq)]
 pub struct LigStep {
-    /// How many steps are passed over where the step does not apply. 128 ends the program, and above 128 a first step
-    /// only says where the program starts.
+    /// How many steps are passed over where the step does not apply. 128 and more end the program, but a first step
+    /// above 128 says where the program starts.
     pub skip: u8,
     /// The right character for which the step applies.
     pub next: u8,

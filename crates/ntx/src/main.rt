@@ -1,0 +1,73 @@
+//! The program `ntx DOC SCRIPT PATTERNS DVI`: opens the files that the command line names and typesets the document.
+//!
+//! What the files hold is the only thing that no contract says: everything else is [`ntx_run::run`]'s. The process ends with the
+//! run's status.
+#![tactic(auto)]
+
+use ntx_io::{Feed, FileSink, FileSource, MemSource, NullSink, StdoutSink};
+use ntx_run::{Outcome, Status, are_paths, run};
+use std::alloc::Global;
+use std::env;
+use std::io::ErrorKind;
+use std::process::ExitCode;
+use std::rt::{Env, Files};
+
+/// The words of the command line after the program's own name. Where the system gives none, or gives words that are no text, there are no
+/// words.
+fn words<R: Env + Alloc<A = Global>>(rt: &R) -> Result<Vec<String>, Status> {
+    let mut words = Vec::new(rt.alloc());
+    match env::args(rt) {
+        Ok(args) => {
+            for word in args.skip(1) {
+                if words.push(word).is_err() {
+                    return Err(Status::Memory);
+                }
+            }
+            Ok(words)
+        }
+        Err(error) if error.kind() == ErrorKind::OutOfMemory => Err(Status::Memory),
+        Err(_) => Ok(words),
+    }
+}
+
+/// Typesets the document that the words name. Where they name none no file is opened.
+fn typeset<R: Files + Print + Alloc<A = Global>>(rt: &R, words: &[String]) -> Outcome {
+    let alloc = rt.alloc();
+    let mut fonts: Vec<Box<dyn Feed>> = Vec::new(alloc);
+    let mut lines = StdoutSink::new(rt);
+    match words {
+        [doc, script, patterns, dvi] if are_paths(words) => run(
+            alloc,
+            words,
+            &mut FileSource::open(rt, doc.as_str()),
+            &mut FileSource::open(rt, script.as_str()),
+            &mut FileSource::open(rt, patterns.as_str()),
+            &mut fonts,
+            &mut FileSink::create(rt, dvi.as_str()),
+            &mut lines,
+        ),
+        _ => run(
+            alloc,
+            words,
+            &mut nothing(alloc),
+            &mut nothing(alloc),
+            &mut nothing(alloc),
+            &mut fonts,
+            &mut NullSink::new(),
+            &mut lines,
+        ),
+    }
+}
+
+/// A source over nothing.
+fn nothing(alloc: Global) -> MemSource {
+    MemSource::new(Vec::new(alloc), Vec::new(alloc))
+}
+
+fn main(rt: HostRuntime) -> ExitCode {
+    let status = match words(&rt) {
+        Ok(words) => typeset(&rt, words.as_slice()).status,
+        Err(status) => status,
+    };
+    ExitCode::from(status as u8)
+}

@@ -1,0 +1,109 @@
+//! A job in memory.
+
+use ntx_io::{Feed, MemSink, MemSource};
+use ntx_run::{Outcome, run};
+use std::alloc::Global;
+use std::test::Fail;
+
+/// The calls at which each source and sink fails, counted from 1.
+#[derive(Clone, Copy, Default)]
+pub struct Fails {
+    /// Of the document.
+    pub doc: Option<u64>,
+    /// Of the script.
+    pub script: Option<u64>,
+    /// Of the patterns.
+    pub patterns: Option<u64>,
+    /// Of the DVI file.
+    pub dvi: Option<u64>,
+    /// Of what is printed.
+    pub lines: Option<u64>,
+}
+
+/// The inputs of a job.
+#[derive(Clone, Copy)]
+pub struct Job<'a> {
+    /// The words of the command line.
+    pub words: &'a [&'a str],
+    /// The document.
+    pub doc: &'a [u8],
+    /// The script.
+    pub script: &'a [u8],
+    /// The patterns.
+    pub patterns: &'a [u8],
+    /// When the sources and sinks fail.
+    pub fails: Fails,
+}
+
+/// What a job gave.
+#[derive(Drop)]
+pub struct Given {
+    /// How it ended.
+    pub outcome: Outcome,
+    /// The bytes of the DVI file.
+    pub dvi: Vec<u8>,
+    /// What was printed.
+    pub lines: Vec<u8>,
+}
+
+/// Four words that name files.
+pub const FILES: [&str; 4] = ["box.txt", "script.lua", "patterns.txt", "box.dvi"];
+
+/// A box with one rule.
+pub const BOX: &[u8] = b"hbox\nrule 65536 65536 0\nend";
+
+fn calls(alloc: Global, at: Option<u64>) -> Result<Vec<u64>, Fail> {
+    let mut calls = Vec::new(alloc);
+    if let Some(call) = at {
+        calls.push(call)?;
+    }
+    Ok(calls)
+}
+
+fn source(alloc: Global, bytes: &[u8], fails: Option<u64>) -> Result<MemSource, Fail> {
+    Ok(MemSource::new(bytes.to_vec(alloc)?, calls(alloc, fails)?))
+}
+
+/// The words as texts of their own.
+pub fn texts(alloc: Global, words: &[&str]) -> Result<Vec<String>, Fail> {
+    let mut texts = Vec::new(alloc);
+    for word in words {
+        texts.push(String::from_str(alloc, word)?)?;
+    }
+    Ok(texts)
+}
+
+impl Job<'_> {
+    /// Runs the job with ample memory.
+    pub fn run(&self, alloc: Global) -> Result<Given, Fail> {
+        let mut fonts: Vec<Box<dyn Feed>> = Vec::new(alloc);
+        let mut dvi = MemSink::new(alloc, 4096, calls(alloc, self.fails.dvi)?)?;
+        let mut lines = MemSink::new(alloc, 4096, calls(alloc, self.fails.lines)?)?;
+        let outcome = run(
+            alloc,
+            texts(alloc, self.words)?.as_slice(),
+            &mut source(alloc, self.doc, self.fails.doc)?,
+            &mut source(alloc, self.script, self.fails.script)?,
+            &mut source(alloc, self.patterns, self.fails.patterns)?,
+            &mut fonts,
+            &mut dvi,
+            &mut lines,
+        );
+        Ok(Given {
+            outcome,
+            dvi: dvi.taken().to_vec(alloc)?,
+            lines: lines.taken().to_vec(alloc)?,
+        })
+    }
+}
+
+/// A job with this document, and nothing that fails.
+pub fn of_document(doc: &[u8]) -> Job<'_> {
+    Job {
+        words: &FILES,
+        doc,
+        script: b"",
+        patterns: b"",
+        fails: Fails::default(),
+    }
+}

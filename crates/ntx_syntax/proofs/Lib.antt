@@ -1,0 +1,11 @@
+pub mod CommentLemmas
+pub mod FrontLemmas
+pub mod LawLemmas
+pub mod LexLemmas
+pub mod NumeralLemmas
+pub mod OptionLemmas
+pub mod RunLemmas
+pub mod SymbolLemmas
+pub mod TextLemmas
+pub mod ValueLemmas
+pub mod WordLemmas

@@ -1,0 +1,58 @@
+//! Why a script is refused.
+
+ghost use Rattle.std.specs.Prelude.{◌≡◌};
+ghost use Rattle.ntx_syntax.specs.Why.{why_text};
+
+/// What is wrong with a script.
+#[derive(Clone, Copy, Debug, PartialEq, Eq)]
+pub enum SyntaxWhy {
+    /// A byte that begins no token, outside of texts and comments.
+    Byte,
+    /// A decimal numeral above 2^63-1, or a numeral directly followed by a letter, `_` or `.`.
+    Number,
+    /// A text that its line does not close, or with an escape that is none.
+    Text,
+    /// A long comment that is not closed.
+    Comment,
+    /// One of `...`, `::`, `:`, `/`, `^`, `[[` and `[=`, which are no symbols of this language.
+    Symbol,
+    /// A token that cannot follow those before it, or the end where a token is missing.
+    Expected,
+    /// `break` outside of a loop.
+    Break,
+    /// Syntax that is nested too deep.
+    Depth,
+    /// More local names in one function than it may have.
+    Locals,
+    /// More bytes than a script may have.
+    Size,
+}
+
+impl SyntaxWhy {
+    /// The name of the reason, as a fault line prints it.
+    pub fn name(&self) -> &'static str
+        ensures { result.now ≡ why_text self.now }
+    {
+        match self {
+            SyntaxWhy::Byte => "Byte",
+            SyntaxWhy::Number => "Number",
+            SyntaxWhy::Text => "Text",
+            SyntaxWhy::Comment => "Comment",
+            SyntaxWhy::Symbol => "Symbol",
+            SyntaxWhy::Expected => "Expected",
+            SyntaxWhy::Break => "Break",
+            SyntaxWhy::Depth => "Depth",
+            SyntaxWhy::Locals => "Locals",
+            SyntaxWhy::Size => "Size",
+        }
+    }
+}
+
+/// A refused script: the line, and what is wrong there.
+#[derive(Clone, Copy, Debug, PartialEq, Eq)]
+pub struct SyntaxFault {
+    /// The number of the line, from 1; 0 where the script as a whole is too large.
+    pub line: u64,
+    /// What is wrong there.
+    pub why: SyntaxWhy,
+}

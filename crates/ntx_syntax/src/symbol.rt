@@ -1,0 +1,63 @@
+//! Symbols.
+
+ghost use Rattle.std.specs.Prelude.{◌≡◌, ◌<◌, length};
+ghost use Rattle.ntx_syntax.specs.Pieces.{symbol_piece};
+ghost use Rattle.ntx_syntax.specs.Front.{IsFrontOf, symbol_at};
+
+use crate::fault::SyntaxWhy;
+use crate::piece::Piece;
+use crate::token::Sort;
+use crate::word::is_among;
+
+/// The symbols of the language.
+const SYMBOLS: [&[u8]; 28] = [
+    b"+", b"-", b"*", b"//", b"%", b"&", b"~", b"|", b"<<", b">>", b"#", b"==", b"~=", b"<=",
+    b">=", b"<", b">", b"=", b"(", b")", b"{", b"}", b"[", b"]", b";", b",", b".", b"..",
+];
+
+/// Symbols of Lua that the language does not have.
+const REFUSED_SYMBOLS: [&[u8]; 7] = [b"...", b"::", b":", b"/", b"^", b"[[", b"[="];
+
+/// What bytes spell that begin no blank, comment, word, numeral or text, if they spell one piece.
+fn symbol_piece(bytes: &[u8]) -> Option<Piece>
+    ensures { result ≡ symbol_piece bytes.now }
+{
+    if is_among(&SYMBOLS, bytes) {
+        Some(Piece::Token(Sort::Symbol))
+    } else if is_among(&REFUSED_SYMBOLS, bytes) {
+        Some(Piece::Wrong(SyntaxWhy::Symbol))
+    } else if bytes.len() == 1 {
+        Some(Piece::Wrong(SyntaxWhy::Byte))
+    } else {
+        None
+    }
+}
+
+/// What so many bytes at the front spell as a symbol, if there are so many.
+fn symbol_at(len: usize, bytes: &[u8]) -> Option<Piece>
+    ensures { result ≡ symbol_at len bytes.now }
+{
+    if len <= bytes.len() {
+        symbol_piece(&bytes[..len])
+    } else {
+        None
+    }
+}
+
+/// The symbol at the front, the longest that stands there, or the byte there that begins nothing.
+pub fn symbol(bytes: &[u8]) -> (Piece, usize)
+    requires { 0 < length bytes.now }
+    ensures { IsFrontOf symbol_piece bytes.now result.1 result.0 }
+{
+    match symbol_at(3, bytes) {
+        Some(piece) => (piece, 3),
+        None => match symbol_at(2, bytes) {
+            Some(piece) => (piece, 2),
+            None => match symbol_at(1, bytes) {
+                Some(piece) => (piece, 1),
+                // Each byte alone spells a symbol or is wrong.
+                None => unreachable!(),
+            },
+        },
+    }
+}

@@ -1,0 +1,267 @@
+//! The tree of a script (Lua 5.3 Reference Manual, section 9).
+//!
+//! Operators of one precedence that stand one behind the other, and the suffixes of a name or of a parenthesized
+//! expression, are lists: a long flat script has a flat tree.
+
+use sqlite_items::{Boxed, Items};
+
+/// The bytes of a name.
+pub type Name = Items<u8>;
+
+/// A name that is declared local, a parameter among them, and the line of its token, from 1.
+#[derive(Drop)]
+pub struct LocalName {
+    /// The name.
+    pub name: Name,
+    /// The line of its token.
+    pub line: u64,
+}
+
+/// A whole script.
+#[derive(Drop)]
+pub struct Chunk {
+    /// What it does.
+    pub block: Block,
+}
+
+/// Statements, and `return` where the block ends in one.
+#[cycle(tree)]
+#[derive(Drop)]
+pub struct Block {
+    /// The statements before `return`.
+    pub stats: Items<Stat>,
+    /// The last statement, if it is `return`.
+    pub last: Option<Return>,
+}
+
+/// `return` and its values.
+#[cycle(tree)]
+#[derive(Drop)]
+pub struct Return {
+    /// The line of `return`.
+    pub line: u64,
+    /// The values.
+    pub values: Items<Exp>,
+}
+
+/// A statement.
+#[cycle(tree)]
+#[derive(Drop)]
+pub struct Stat {
+    /// The line of its first token.
+    pub line: u64,
+    /// What it is.
+    pub kind: StatKind,
+}
+
+/// What a statement is.
+#[cycle(tree)]
+#[derive(Drop)]
+pub enum StatKind {
+    /// `;`
+    Empty,
+    /// `varlist = explist`
+    Assign(Items<Var>, Items<Exp>),
+    /// `call`
+    Call(Call),
+    /// `break`
+    Break,
+    /// `do block end`
+    Do(Block),
+    /// `while exp do block end`
+    While(Exp, Block),
+    /// `repeat block until exp`
+    Repeat(Block, Exp),
+    /// `if exp then block {elseif exp then block} [else block] end`: the arm of `if` and those of each `elseif`, and
+    /// the block of `else`.
+    If(Items<IfArm>, Option<Block>),
+    /// `for Name = exp , exp [, exp] do block end`: the name, the first value, the limit, the step and the body.
+    NumericFor(LocalName, Exp, Exp, Option<Exp>, Block),
+    /// `for namelist in explist do block end`
+    GenericFor(Items<LocalName>, Items<Exp>, Block),
+    /// `function Name {. Name} body`: the first name, those behind each `.`, and the body.
+    Function(Name, Items<Name>, FunctionBody),
+    /// `local function Name body`
+    LocalFunction(LocalName, FunctionBody),
+    /// `local namelist [= explist]`
+    Local(Items<LocalName>, Items<Exp>),
+}
+
+/// `exp then block`, behind `if` or `elseif`.
+#[cycle(tree)]
+#[derive(Drop)]
+pub struct IfArm {
+    /// The condition.
+    pub condition: Exp,
+    /// What is done where it holds.
+    pub block: Block,
+}
+
+/// `( [namelist] ) block end`
+#[cycle(tree)]
+#[derive(Drop)]
+pub struct FunctionBody {
+    /// The parameters.
+    pub parameters: Items<LocalName>,
+    /// What the function does.
+    pub block: Block,
+}
+
+/// What can be assigned to.
+#[cycle(tree)]
+#[derive(Drop)]
+pub enum Var {
+    /// `Name`
+    Name(Name),
+    /// `prefix [ exp ]`
+    Index(Prefix, Exp),
+    /// `prefix . Name`
+    Field(Prefix, Name),
+}
+
+/// `prefix ( [explist] )`
+#[cycle(tree)]
+#[derive(Drop)]
+pub struct Call {
+    /// What is called.
+    pub function: Prefix,
+    /// The arguments.
+    pub arguments: Items<Exp>,
+}
+
+/// A variable, a call or a parenthesized expression: its head, and what stands behind it from the left.
+#[cycle(tree)]
+#[derive(Drop)]
+pub struct Prefix {
+    /// What it begins with.
+    pub head: Head,
+    /// What stands behind, each applied to all before it.
+    pub suffixes: Items<Suffix>,
+}
+
+/// What a prefix begins with.
+#[cycle(tree)]
+#[derive(Drop)]
+pub enum Head {
+    /// `Name`
+    Name(Name),
+    /// `( exp )`
+    Parenthesized(Boxed<Exp>),
+}
+
+/// What stands behind a prefix.
+#[cycle(tree)]
+#[derive(Drop)]
+pub enum Suffix {
+    /// `[ exp ]`
+    Index(Exp),
+    /// `. Name`
+    Field(Name),
+    /// `( [explist] )`
+    Call(Items<Exp>),
+}
+
+/// An expression.
+#[cycle(tree)]
+#[derive(Drop)]
+pub enum Exp {
+    /// `nil`
+    Nil,
+    /// `false`
+    False,
+    /// `true`
+    True,
+    /// A numeral, as the integer that it stands for.
+    Numeral(i64),
+    /// A text, as the bytes that it stands for.
+    Text(Items<u8>),
+    /// `function body`
+    Function(FunctionBody),
+    /// `prefix`
+    Prefix(Prefix),
+    /// `{ [field {(,|;) field} [,|;]] }`
+    Table(Items<Field>),
+    /// `exp binop exp`: the first operand, and each operator of one precedence with the operand behind it. Operators
+    /// that associate to the right stand alone in their list.
+    Binary(Boxed<Exp>, Items<Operation>),
+    /// `unop exp`
+    Unary(UnaryOp, Boxed<Exp>),
+}
+
+/// An operator and the operand behind it.
+#[cycle(tree)]
+#[derive(Drop)]
+pub struct Operation {
+    /// The operator.
+    pub operator: BinaryOp,
+    /// The operand to its right.
+    pub operand: Exp,
+}
+
+/// A field of a table.
+#[cycle(tree)]
+#[derive(Drop)]
+pub enum Field {
+    /// `[ exp ] = exp`
+    Keyed(Exp, Exp),
+    /// `Name = exp`
+    Named(Name, Exp),
+    /// `exp`
+    Positional(Exp),
+}
+
+/// An operator between two operands.
+#[derive(Clone, Copy, Debug, PartialEq, Eq)]
+pub enum BinaryOp {
+    /// `or`
+    Or,
+    /// `and`
+    And,
+    /// `<`
+    Less,
+    /// `>`
+    Greater,
+    /// `<=`
+    LessEqual,
+    /// `>=`
+    GreaterEqual,
+    /// `~=`
+    NotEqual,
+    /// `==`
+    Equal,
+    /// `|`
+    BitOr,
+    /// `~`
+    BitXor,
+    /// `&`
+    BitAnd,
+    /// `<<`
+    ShiftLeft,
+    /// `>>`
+    ShiftRight,
+    /// `..`
+    Concat,
+    /// `+`
+    Add,
+    /// `-`
+    Subtract,
+    /// `*`
+    Multiply,
+    /// `//`, which rounds toward minus infinity
+    FloorDivide,
+    /// `%`
+    Modulo,
+}
+
+/// An operator before its operand.
+#[derive(Clone, Copy, Debug, PartialEq, Eq)]
+pub enum UnaryOp {
+    /// `not`
+    Not,
+    /// `#`
+    Length,
+    /// `-`
+    Minus,
+    /// `~`
+    BitNot,
+}
