@@ -1,0 +1,4 @@
+pub mod Natural
+pub mod View
+pub mod Answered
+pub mod Bounds

@@ -1,0 +1,14 @@
+//! Lists of nodes as the items that packing and line breaking look at ("TeX: The Program", sections 651 and 866).
+//!
+//! It stands on `ntx_nodes` for lists, on `ntx_tfm` for the sizes of characters, and on `ntx_item`.
+#![tactic(auto)]
+
+mod fields;
+mod natural;
+mod view;
+
+pub use natural::hlist_size;
+pub use view::items;
+
+#[cfg(test)]
+mod tests;
