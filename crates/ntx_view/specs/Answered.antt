@@ -19,7 +19,7 @@ abbrev pub number_in : Result FieldValue Trouble → ℤ
 number_in (Ok (Number x)) = x
 number_in _ = pos 0
 
--- the fields that an item has from its node
+-- the fields that hold a dimension or a penalty
 abbrev pub IsMeasure : Field → Type 0
 IsMeasure Width = Unit {0}
 IsMeasure Height = Unit {0}
@@ -31,6 +31,7 @@ IsMeasure Kern = Unit {0}
 IsMeasure Penalty = Unit {0}
 IsMeasure _ = ⊥
 
+-- the fields that hold a byte: orders of infinity, and what names a character
 abbrev pub IsByteField : Field → Type 0
 IsByteField StretchOrder = Unit {0}
 IsByteField ShrinkOrder = Unit {0}

@@ -1,8 +1,8 @@
 -- How large the sizes of a list are: TeX's dimensions, added over its nodes.
 --     list_length heap to     how many nodes a list has
 --     weight_at heap n        from how many nodes an item is measured: its own, and of a discretionary those of its parts
---     IsModest weight item    an item that is measured from as many nodes
---     AreModest               the items of the nodes of these names
+--     IsModest weight item    an item in range, no wider than as many nodes can make it, that reaches no farther than `max_reach`
+--     AreModest               items that are together no larger than the nodes of these names can make them
 use Rattle.std.specs.Prelude.{ℕ, ◌+◌, ◌*◌, ◌≤◌, List, length, Option, None, Some, All, sum_by}
 use Rattle.std.specs.FinMap as fin
 use Rattle.ntx_nodes.specs.Fields.{max_dimension}

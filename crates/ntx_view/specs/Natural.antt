@@ -1,7 +1,7 @@
 -- The natural size of a horizontal list of items ("TeX: The Program", sections 649 to 656): how wide its items are together, and how far they reach
 -- above and below the baseline, at least 0.
 --     hlist_size items       that size
---     IsReaching item        neither reach is too great for the arithmetic
+--     IsReaching item        it reaches at most 2^31 scaled points above and below the baseline, in absolute value
 use Rattle.std.specs.Prelude.{ℕ, ◌^◌, ◌≤◌, ℤ, pos, ◌+ℤ◌, ◌-ℤ◌, unsigned_abs, List, fold}
 use Rattle.std.specs.Int.{int_max}
 use Rattle.ntx_num.specs.declared.size.Size.{Size}

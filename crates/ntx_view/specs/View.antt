@@ -1,8 +1,9 @@
 -- A list of nodes as items: what packing and line breaking look at ("TeX: The Program", sections 651 and 866).
 --     items_answer heap fonts head k     the items of the list at a head, one for each node of it, or the first trouble
---     list_items heap fonts head         the items, where the list is one
+--     list_items heap fonts head         the items, where the walk along the list ends well
 --     IsOneEach heap head items          one item for each node of a list
---     bare_items heap fonts to           the same with all parts of discretionaries taken as empty: within a part there is none
+--     bare_items heap fonts to           the same, but with no size for the parts of discretionaries: within a part there are
+--                                        no discretionaries
 use Rattle.std.specs.Prelude.{◌≡◌, ℕ, nat_eq, pos, Bool, false, List, [], length, map, slice_get, Option, None, Some, is_none, unwrap_or, Result, Ok, Err, IsOk, All}
 use Rattle.std.specs.List.{find, filter_map}
 use Rattle.std.specs.FinMap as fin

@@ -187,8 +187,8 @@ fn items_of<N: Nodes>(
 /// reaches farther than 2^31 scaled points above or below the baseline.
 ///
 /// Refuses as `check` does: at each node of the walk through the list and all lists in it with Stale where it is dead,
-/// Loop where the walk reached it before, Nest at depth 101, and WrongKind where its list may not hold its kind. Then it
-/// refuses with NoChar at the first glyph of that walk whose font or character is not there.
+/// Loop where the walk reached it before, Nest at depth 101, and WrongKind where its list may not hold its kind, in this
+/// order. Then it refuses with NoChar at the first glyph of that walk whose font or character is not there.
 pub fn items<N: Nodes>(
     alloc: Global,
     nodes: &mut N,
