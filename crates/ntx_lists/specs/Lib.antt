@@ -1,0 +1,4 @@
+pub mod Lists
+pub mod Survey
+pub mod Trees
+pub mod Copies

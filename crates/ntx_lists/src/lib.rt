@@ -1,0 +1,20 @@
+//! Surgery on TeX's node lists, and freeing and copying them, over any heap of nodes (LuaTeX Reference Manual, chapter
+//! "Nodes"; "TeX: The Program", sections 199 to 206).
+//!
+//! Each call is one step of the heap: `specs/Lists.antt` states those along one list, `specs/Trees.antt` freeing, and
+//! `specs/Copies.antt` copying. A call that refuses changes nothing, but that a refused copy may have used up names.
+//!
+//! It stands on `ntx_num` and `ntx_nodes`.
+#![tactic(auto)]
+
+mod copy;
+mod free;
+mod insert;
+mod links;
+mod survey;
+#[cfg(test)]
+mod tests;
+
+pub use copy::{copy_list, copy_tree};
+pub use free::{flush_list, free_tree};
+pub use insert::{insert_after, insert_before, length, remove, slide, tail};
