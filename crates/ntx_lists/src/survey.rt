@@ -1,8 +1,8 @@
 //! One way along a list.
 
-ghost use Rattle.std.specs.Prelude.{◌≡◌, ◌+◌, ◌<◌, ◌^◌, ◌∷◌, ◌++◌, [], ℕ, List};
+ghost use Rattle.std.specs.Prelude.{◌≡◌, ◌+◌, ◌<◌, ◌^◌};
 ghost use Rattle.ntx_lists.specs.Lists.{next_of};
-ghost use Rattle.ntx_lists.specs.Survey.{survey_of, Surveys};
+ghost use Rattle.ntx_lists.specs.Survey.{survey_with, Surveys};
 
 use ntx_nodes::{Field, FieldValue, Nodes, Trouble};
 
@@ -23,17 +23,18 @@ impl Survey {
     /// With one more node at the end, where `cur` is looked for.
     fn with(self, n: u64, cur: u64) -> Survey
         requires { self.length + 1 < 2 ^ 64 }
-        ensures { (names : List ℕ) → self ≡ survey_of names cur → result ≡ survey_of (names ++ n ∷ []) cur }
+        ensures { result ≡ survey_with self n cur }
     {
+        let here = cur == n;
         Survey {
             length: self.length + 1,
             last: Some(n),
-            before: if !self.found && n == cur {
-                self.last
-            } else {
+            before: if self.found || !here {
                 self.before
+            } else {
+                self.last
             },
-            found: self.found || n == cur,
+            found: self.found || here,
         }
     }
 }
