@@ -109,19 +109,19 @@ goes_on heap head cur n v w x seen first goes visits is_first =
       subst (λ (s : Names). unvisited heap s < unvisited heap w) marked (unvisited_less heap w n at.node at.is new),
     )
 
-pub goes_ended : (heap : Heap) (head cur : ℕ) (v w : Names) (seen : Survey) → Goes heap head cur v None w seen → Surveys heap head cur v (Ok seen)
-goes_ended heap head cur v w seen goes before marks = let g = goes before marks in (g.0, g.1 ∙ whole_None heap Flat (before ++ g.0) 0 H, g.3)
+pub goes_ended : (heap : Heap) (head cur : ℕ) (v w : Names) (seen : Survey) → Goes heap head cur v None w seen → Surveys heap head cur v w (Ok seen)
+goes_ended heap head cur v w seen goes before marks = let g = goes before marks in (g.0, g.1 ∙ whole_None heap Flat (before ++ g.0) 0 H, g.2, g.3)
 
 dead_at : (heap : Heap) (n : ℕ) (o : Option Node) (f : Node → Result (Bool × Names) Trouble) (g : Node → Result Node Trouble) (why : Trouble) → ((node : Node) → f node ≡ Err why → g node ≡ Err why) → of_found n f o ≡ Err why → of_found n g o ≡ Err why
 dead_at heap n None f g why h e = cc
 dead_at heap n (Some node) f g why h e = h node e
 
-pub goes_dead : (heap : Heap) (head cur n : ℕ) (v w : Names) (seen : Survey) (why : Trouble) → Goes heap head cur v (Some n) w seen → visit_step n heap w ≡ Err why → Surveys heap head cur v (Err why)
-goes_dead heap head cur n v w seen why goes e before marks =
+pub goes_dead : (heap : Heap) (head cur n : ℕ) (v w x : Names) (seen : Survey) (why : Trouble) → Goes heap head cur v (Some n) w seen → visit_step n heap w ≡ Err why → Surveys heap head cur v x (Err why)
+goes_dead heap head cur n v w x seen why goes e before marks =
     let g = goes before marks in
     g.1 ∙ whole_refused heap Flat (before ++ g.0) n 0 H why (dead_at heap n (map.get heap.nodes n) (λ _. Ok (not (set.contains w n), set.insert w n)) _ why (λ node x. cc) e)
 
-pub goes_back : (heap : Heap) (head cur n : ℕ) (v w x : Names) (seen : Survey) (first : Bool) → Goes heap head cur v (Some n) w seen → visit_step n heap w ≡ Ok (first, x) → first ≡ false → Surveys heap head cur v (Err (Loop n))
+pub goes_back : (heap : Heap) (head cur n : ℕ) (v w x : Names) (seen : Survey) (first : Bool) → Goes heap head cur v (Some n) w seen → visit_step n heap w ≡ Ok (first, x) → first ≡ false → Surveys heap head cur v x (Err (Loop n))
 goes_back heap head cur n v w x seen first goes visits not_first before marks =
     let g = goes before marks in
     let at = at_Ok {A = Bool × Names} heap n (λ _. Ok (not (set.contains w n), set.insert w n)) (first, x) visits in

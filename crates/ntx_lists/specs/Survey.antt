@@ -1,14 +1,16 @@
 -- What is seen on the way along one list, as far as its calls need it.
 --     survey_of names cur      what is seen on the way along these names
---     Surveys                  what a survey gives that goes on from nodes visited already
-use Rattle.std.specs.Prelude.{◌≡◌, ℕ, ◌+◌, List, [], ◌∷◌, ◌++◌, length, nat_eq, not, ◌||◌, if◌then◌else◌, Option, None, Some, Result, Ok, Err, MatchResult}
-use Rattle.ntx_nodes.specs.Heap.{Heap, Names}
+--     Surveys, Finds           what a survey gives that goes on from nodes visited already, and what is found by it
+--     Follows                  what setting a link does
+use Rattle.std.specs.Prelude.{◌≡◌, ℕ, ◌+◌, List, [], ◌∷◌, ◌++◌, length, nat_eq, not, ◌||◌, if◌then◌else◌, Option, None, Some, Result, Ok, Err, true, IfOk, MatchResult}
+use Rattle.ntx_num.specs.Answer.{result_map}
+use Rattle.ntx_nodes.specs.Heap.{Heap, Names, is_live}
 use Rattle.ntx_nodes.specs.Walk.{is_reached}
 use Rattle.ntx_nodes.specs.Walker.{Marks, whole_walk}
 use Rattle.ntx_nodes.specs.declared.kind.ListKind.TheVariants.{H}
 use Rattle.ntx_nodes.specs.declared.kind.Way.TheVariants.{Flat}
 use Rattle.ntx_nodes.specs.declared.trouble.Trouble.{Trouble}
-use Rattle.ntx_lists.specs.Lists.{name_before}
+use Rattle.ntx_lists.specs.Lists.{name_before, next_of, with_next, list_with, room_for}
 use Rattle.ntx_lists.specs.declared.survey.Survey.{Survey}
 
 -- the last of these names, and without any what was before them
@@ -28,8 +30,28 @@ survey_with seen n cur = record {
   found = seen.found || nat_eq cur n;
 }
 
--- the names of the list, after any list of just the names visited, and what is seen of them
-abbrev pub Surveys : Heap → ℕ → ℕ → Names → Result Survey Trouble → Type 0
-Surveys heap head cur visited result =
+-- The names of the list, after any list of just the names visited, what is seen of them, and all of them visited then.
+abbrev pub Surveys : Heap → ℕ → ℕ → Names → Names → Result Survey Trouble → Type 0
+Surveys heap head cur visited marked result =
     (before : List ℕ) → Marks visited before
-    → MatchResult result (λ seen. (names : List ℕ) × (whole_walk heap Flat before (Some head) 0 H ≡ Ok (before ++ names)) × (seen ≡ survey_of names cur)) (λ why. whole_walk heap Flat before (Some head) 0 H ≡ Err why)
+    → MatchResult result (λ seen. (names : List ℕ) × (whole_walk heap Flat before (Some head) 0 H ≡ Ok (before ++ names)) × Marks marked (before ++ names) × (seen ≡ survey_of names cur)) (λ why. whole_walk heap Flat before (Some head) 0 H ≡ Err why)
+
+-- a link to a live node, or to nothing
+abbrev pub IsLiveLink : Heap → Option ℕ → Type 0
+IsLiveLink heap to = (m : ℕ) → to ≡ Some m → is_live heap m ≡ true
+
+-- The node before cur in a list beside these names. It is live, and so is what follows cur.
+abbrev pub Finds : Heap → ℕ → ℕ → List ℕ → Result (Option ℕ) Trouble → Type 0
+Finds heap head cur others result =
+    (result ≡ result_map (λ names. name_before None names cur) (list_with heap others head cur))
+    × IfOk result (λ before. IsLiveLink heap before × IsLiveLink heap (next_of heap cur))
+
+-- The node before cur, where new has room there. All that an insertion links is live.
+abbrev pub FindsRoom : Heap → ℕ → ℕ → ℕ → Result (Option ℕ) Trouble → Type 0
+FindsRoom heap head cur new result =
+    (result ≡ room_for heap head cur new (λ names. name_before None names cur))
+    × IfOk result (λ before. IsLiveLink heap before × IsLiveLink heap (next_of heap cur) × (is_live heap cur ≡ true) × (is_live heap new ≡ true))
+
+-- A live node is followed by another live one, or by nothing.
+abbrev pub Follows : Heap → Heap → ℕ → Option ℕ → Result (Unit {0}) Trouble → Type 0
+Follows old new n to result = is_live old n ≡ true → IsLiveLink old to → (result ≡ Ok tt) × (new ≡ with_next old n to)

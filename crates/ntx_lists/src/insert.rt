@@ -3,7 +3,8 @@
 ghost use Rattle.std.specs.Prelude.{◌≡◌, ◌∷◌, [], ℕ, List, Option};
 ghost use Rattle.ntx_num.specs.Answer.{result_map, StepsAtOnce};
 ghost use Rattle.ntx_lists.specs.Lists.{tail_answer, length_answer, list_with, room_for, name_before, insert_before_step, insert_after_step, remove_step};
-ghost use Rattle.ntx_nodes.specs.Steps.{at};
+ghost use Rattle.ntx_nodes.specs.Walker.{Marks};
+ghost use Rattle.ntx_lists.specs.Survey.{Finds, FindsRoom, Follows};
 
 use crate::survey::{following, go_along};
 use ntx_nodes::{Field, FieldValue, Nodes, Trouble};
@@ -44,8 +45,10 @@ pub fn length<N: Nodes>(nodes: &mut N, head: Option<u64>) -> Result<u64, Trouble
 /// list comes to one of those, and else with NotInList where `cur` is not in the list.
 fn find<N: Nodes>(nodes: &mut N, head: u64, cur: u64) -> Result<Option<u64>, Trouble>
     ensures same { N.heap nodes.new ≡ N.heap nodes.old }
+    ensures finds { (others : List ℕ) → Marks (N.visited nodes.old) others → Finds (N.heap nodes.old) head cur others result }
 {
     let seen = go_along(nodes, head, cur)?;
+    nodes.lawful();
     if !seen.found {
         return Err(Trouble::NotInList(cur));
     }
@@ -55,7 +58,7 @@ fn find<N: Nodes>(nodes: &mut N, head: u64, cur: u64) -> Result<Option<u64>, Tro
 /// Makes the tests of an insertion, and gives the node before `cur`.
 fn find_room<N: Nodes>(nodes: &mut N, head: u64, cur: u64, new: u64) -> Result<Option<u64>, Trouble>
     ensures same { N.heap nodes.new ≡ N.heap nodes.old }
-    ensures answer { result ≡ room_for (N.heap nodes.old) head cur new (λ names. name_before None names cur) }
+    ensures finds { FindsRoom (N.heap nodes.old) head cur new result }
 {
     nodes.kind_of(head)?;
     nodes.kind_of(cur)?;
@@ -66,7 +69,9 @@ fn find_room<N: Nodes>(nodes: &mut N, head: u64, cur: u64, new: u64) -> Result<O
 }
 
 /// Lets a node be followed by another, or by nothing.
-fn set_next<N: Nodes>(nodes: &mut N, n: u64, to: Option<u64>) -> Result<(), Trouble> {
+fn set_next<N: Nodes>(nodes: &mut N, n: u64, to: Option<u64>) -> Result<(), Trouble>
+    ensures { Follows (N.heap nodes.old) (N.heap nodes.new) n to result }
+{
     nodes.set(n, Field::Next, FieldValue::Link(to))
 }
 

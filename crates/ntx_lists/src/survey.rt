@@ -54,7 +54,7 @@ pub(crate) fn following<N: Nodes>(nodes: &N, n: u64) -> Option<u64>
 /// At each node it refuses with Stale where it is dead, and else with Loop where it was visited before.
 pub(crate) fn go_along<N: Nodes>(nodes: &mut N, head: u64, cur: u64) -> Result<Survey, Trouble>
     ensures same { N.heap nodes.new ≡ N.heap nodes.old }
-    ensures surveys { Surveys (N.heap nodes.old) head cur (N.visited nodes.old) result }
+    ensures surveys { Surveys (N.heap nodes.old) head cur (N.visited nodes.old) (N.visited nodes.new) result }
 {
     nodes.lawful();
     let mut seen = Survey {
