@@ -22,8 +22,8 @@ use Rattle.ntx_nodes.specs.declared.trouble.Trouble.TheVariants.{NotInList}
 use Rattle.ntx_nodes.proofs.Oks.{at_Ok, Found}
 use Rattle.ntx_nodes.proofs.SoundWalks.{sound_walk}
 use Rattle.ntx_nodes.proofs.Walks.{is_reached-append, marks_more, nat_eq_same}
-use Rattle.ntx_lists.specs.Lists.{last_of, name_before, next_of, tail_answer, length_answer, list_beside, list_with, room_for}
-use Rattle.ntx_lists.specs.Survey.{last_from, survey_of, Surveys, IsLiveLink, Finds, FindsRoom}
+use Rattle.ntx_lists.specs.Lists.{last_of, name_before, next_of, tail_answer, length_answer, list_beside, list_with, room_for, place_in}
+use Rattle.ntx_lists.specs.Survey.{last_from, survey_of, Surveys, IsLiveLink, Finds, FindsIn, FindsRoom}
 use Rattle.ntx_lists.specs.declared.survey.Survey.{Survey}
 
 -- ---- from no marks
@@ -155,4 +155,19 @@ room_found heap h head cur new a b d w r same ea eb ed marks finds =
     let answer : Result (Option ℕ) Trouble = result_map (λ names. name_before None names cur) (list_with heap (new ∷ []) head cur) in (
       f.0 ∙ sym (ap (of_found head (λ _. at heap cur (λ _. at heap new (λ _. answer)))) (live_of heap head a ea).1 ∙ ap (of_found cur (λ _. at heap new (λ _. answer))) (live_of heap cur b eb).1 ∙ ap (of_found new (λ _. answer)) (live_of heap new d ed).1),
       both_live heap head cur new r f.1 (is_live_of heap cur b eb) (is_live_of heap new d ed),
+    )
+
+-- ---- a place to be left
+cur_live : (heap : Heap) (cur : ℕ) (r : Result (Option ℕ) Trouble) → IfOk r (λ before. IsLiveLink heap before × IsLiveLink heap (next_of heap cur)) → is_live heap cur ≡ true
+    → IfOk r (λ before. IsLiveLink heap before × IsLiveLink heap (next_of heap cur) × (is_live heap cur ≡ true))
+cur_live heap cur (Ok before) h p = (h.0, h.1, p)
+cur_live heap cur (Err why) h p = tt
+
+pub place_found : (heap h : Heap) (head cur : ℕ) (a b : Kind × ℕ) (v : Names) (r : Result (Option ℕ) Trouble) → h ≡ heap → Ok a ≡ kind_answer head heap → Ok b ≡ kind_answer cur heap
+    → v ≡ set.empty → ((others : List ℕ) → Marks v others → Finds h head cur others r) → FindsIn heap head cur r
+place_found heap h head cur a b v r same ea eb e finds =
+    let f = subst (λ x. Finds x head cur [] r) same (finds [] (no_marks v e)) in
+    let answer : Result (Option ℕ) Trouble = result_map (λ names. name_before None names cur) (list_with heap [] head cur) in (
+      f.0 ∙ sym (ap (of_found head (λ _. at heap cur (λ _. answer))) (live_of heap head a ea).1 ∙ ap (of_found cur (λ _. answer)) (live_of heap cur b eb).1),
+      cur_live heap cur r f.1 (is_live_of heap cur b eb),
     )

@@ -91,5 +91,9 @@ removed heap names cur = with_next (with_next_at heap (name_before None names cu
 abbrev pub left_by : Heap → ℕ → ℕ → Option ℕ × Option ℕ
 left_by heap head cur = (head_with head cur (next_of heap cur) (Some head), next_of heap cur)
 
+-- the tests of a removal: head and cur are live, and cur is in the list
+abbrev pub place_in : {A : Type 0} → Heap → ℕ → ℕ → (List ℕ → A) → Result A Trouble
+place_in heap head cur f = at heap head (λ _. at heap cur (λ _. result_map f (list_with heap [] head cur)))
+
 abbrev pub remove_step : ℕ → ℕ → Heap → Result ((Option ℕ × Option ℕ) × Heap) Trouble
-remove_step head cur heap = at heap head (λ _. at heap cur (λ _. result_map (λ names. (left_by heap head cur, removed heap names cur)) (list_with heap [] head cur)))
+remove_step head cur heap = place_in heap head cur (λ names. (left_by heap head cur, removed heap names cur))

@@ -10,7 +10,7 @@ use Rattle.ntx_nodes.specs.Walker.{Marks, whole_walk}
 use Rattle.ntx_nodes.specs.declared.kind.ListKind.TheVariants.{H}
 use Rattle.ntx_nodes.specs.declared.kind.Way.TheVariants.{Flat}
 use Rattle.ntx_nodes.specs.declared.trouble.Trouble.{Trouble}
-use Rattle.ntx_lists.specs.Lists.{name_before, next_of, with_next, list_with, room_for}
+use Rattle.ntx_lists.specs.Lists.{name_before, next_of, with_next, with_next_at, list_with, room_for, place_in}
 use Rattle.ntx_lists.specs.declared.survey.Survey.{Survey}
 
 -- the last of these names, and without any what was before them
@@ -46,6 +46,12 @@ Finds heap head cur others result =
     (result ≡ result_map (λ names. name_before None names cur) (list_with heap others head cur))
     × IfOk result (λ before. IsLiveLink heap before × IsLiveLink heap (next_of heap cur))
 
+-- The node before cur, where cur can be taken out. All that a removal links is live.
+abbrev pub FindsIn : Heap → ℕ → ℕ → Result (Option ℕ) Trouble → Type 0
+FindsIn heap head cur result =
+    (result ≡ place_in heap head cur (λ names. name_before None names cur))
+    × IfOk result (λ before. IsLiveLink heap before × IsLiveLink heap (next_of heap cur) × (is_live heap cur ≡ true))
+
 -- The node before cur, where new has room there. All that an insertion links is live.
 abbrev pub FindsRoom : Heap → ℕ → ℕ → ℕ → Result (Option ℕ) Trouble → Type 0
 FindsRoom heap head cur new result =
@@ -55,3 +61,7 @@ FindsRoom heap head cur new result =
 -- A live node is followed by another live one, or by nothing.
 abbrev pub Follows : Heap → Heap → ℕ → Option ℕ → Result (Unit {0}) Trouble → Type 0
 Follows old new n to result = is_live old n ≡ true → IsLiveLink old to → (result ≡ Ok tt) × (new ≡ with_next old n to)
+
+-- the same of a node that may be none
+abbrev pub FollowsAt : Heap → Heap → Option ℕ → Option ℕ → Result (Unit {0}) Trouble → Type 0
+FollowsAt old new n to result = IsLiveLink old n → IsLiveLink old to → (result ≡ Ok tt) × (new ≡ with_next_at old n to)

@@ -1,10 +1,10 @@
 //! Calls along one list.
 
-ghost use Rattle.std.specs.Prelude.{◌≡◌, ◌∷◌, [], ℕ, List, Option};
-ghost use Rattle.ntx_num.specs.Answer.{result_map, StepsAtOnce};
-ghost use Rattle.ntx_lists.specs.Lists.{tail_answer, length_answer, list_with, room_for, name_before, insert_before_step, insert_after_step, remove_step};
+ghost use Rattle.std.specs.Prelude.{◌≡◌, ℕ, List};
+ghost use Rattle.ntx_num.specs.Answer.{StepsAtOnce};
+ghost use Rattle.ntx_lists.specs.Lists.{tail_answer, length_answer, insert_before_step, insert_after_step, remove_step};
 ghost use Rattle.ntx_nodes.specs.Walker.{Marks};
-ghost use Rattle.ntx_lists.specs.Survey.{Finds, FindsRoom, Follows};
+ghost use Rattle.ntx_lists.specs.Survey.{Finds, FindsIn, FindsRoom, Follows, FollowsAt};
 
 use crate::survey::{following, go_along};
 use ntx_nodes::{Field, FieldValue, Nodes, Trouble};
@@ -55,6 +55,17 @@ fn find<N: Nodes>(nodes: &mut N, head: u64, cur: u64) -> Result<Option<u64>, Tro
     Ok(seen.before)
 }
 
+/// Makes the tests of a removal, and gives the node before `cur`.
+fn find_in<N: Nodes>(nodes: &mut N, head: u64, cur: u64) -> Result<Option<u64>, Trouble>
+    ensures same { N.heap nodes.new ≡ N.heap nodes.old }
+    ensures finds { FindsIn (N.heap nodes.old) head cur result }
+{
+    nodes.kind_of(head)?;
+    nodes.kind_of(cur)?;
+    nodes.begin_walk();
+    find(nodes, head, cur)
+}
+
 /// Makes the tests of an insertion, and gives the node before `cur`.
 fn find_room<N: Nodes>(nodes: &mut N, head: u64, cur: u64, new: u64) -> Result<Option<u64>, Trouble>
     ensures same { N.heap nodes.new ≡ N.heap nodes.old }
@@ -75,6 +86,16 @@ fn set_next<N: Nodes>(nodes: &mut N, n: u64, to: Option<u64>) -> Result<(), Trou
     nodes.set(n, Field::Next, FieldValue::Link(to))
 }
 
+/// The same of a node that may be none, where nothing is done.
+fn set_next_at<N: Nodes>(nodes: &mut N, at: Option<u64>, to: Option<u64>) -> Result<(), Trouble>
+    ensures { FollowsAt (N.heap nodes.old) (N.heap nodes.new) at to result }
+{
+    match at {
+        Some(n) => set_next(nodes, n, to),
+        None => Ok(()),
+    }
+}
+
 /// Puts `new` into a list before `cur`, and gives the head that the list has then.
 ///
 /// Refuses in this order with Stale of `head`, of `cur` and of `new`; along the list with Stale where a node is dead, and
@@ -84,9 +105,7 @@ pub fn insert_before<N: Nodes>(nodes: &mut N, head: u64, cur: u64, new: u64) -> 
 {
     let before = find_room(nodes, head, cur, new)?;
     set_next(nodes, new, Some(cur))?;
-    if let Some(before) = before {
-        set_next(nodes, before, Some(new))?;
-    }
+    set_next_at(nodes, before, Some(new))?;
     Ok(if head == cur { new } else { head })
 }
 
@@ -113,14 +132,9 @@ pub fn remove<N: Nodes>(
 ) -> Result<(Option<u64>, Option<u64>), Trouble>
     ensures step { StepsAtOnce result (N.heap nodes.old) (N.heap nodes.new) (remove_step head cur (N.heap nodes.old)) }
 {
-    nodes.kind_of(head)?;
-    nodes.kind_of(cur)?;
-    nodes.begin_walk();
-    let before = find(nodes, head, cur)?;
+    let before = find_in(nodes, head, cur)?;
     let after = following(nodes, cur);
-    if let Some(before) = before {
-        set_next(nodes, before, after)?;
-    }
+    set_next_at(nodes, before, after)?;
     set_next(nodes, cur, None)?;
     Ok((if head == cur { after } else { Some(head) }, after))
 }
