@@ -1,6 +1,6 @@
 -- A list with one node more or less.
 use Rattle.std.proofs.Common.{◌≡◌, ℕ, List, [], ◌∷◌, Bool, true, false, cond, Some, None, Ok, Err, refl, sym, ◌∙◌, ap, subst}
-use Rattle.std.specs.Prelude.{Option, Result, is_some, IfOk}
+use Rattle.std.specs.Prelude.{Option, Result, is_some, nat_eq, IfOk}
 use Rattle.std.specs.Ordering.{nat_cmp, eq_by_cmp}
 use Rattle.std.specs.Cmp.{nat_cmp_total}
 use Rattle.std.specs.FinMap as map
@@ -10,6 +10,8 @@ use Rattle.ntx_num.specs.Answer.{StepsAtOnce}
 use Rattle.ntx_nodes.specs.Steps.{of_found, at, put_fields}
 use Rattle.ntx_nodes.specs.declared.node.Node.{Node}
 use Rattle.ntx_nodes.specs.declared.trouble.Trouble.{Trouble}
+use Rattle.std.proofs.lemmas.Bool.{eqb-true}
+use Rattle.ntx_nodes.proofs.Walks.{nat_eq_same}
 use Rattle.ntx_nodes.proofs.Oks.{at_Ok, mapped_Ok}
 use Rattle.ntx_lists.specs.Lists.{name_before, next_of, follow_by, with_next, with_next_at, list_with, head_with, room_for, place_in, inserted_before, insert_before_step, inserted_after, insert_after_step, removed, left_by, remove_step}
 use Rattle.ntx_lists.specs.Survey.{IsLiveLink, FindsIn, FindsRoom, Follows, FollowsAt}
@@ -42,6 +44,12 @@ pub record Room {A : Type 0} (heap : Heap) (head cur new : ℕ) (f : List ℕ �
   pub is : name_before None names cur ≡ before
   pub gives : room_for heap head cur new f ≡ Ok (f names)
 
+room_gives : {A : Type 0} (heap : Heap) (head cur new : ℕ) (f : List ℕ → A) (a b d : Node) (names : List ℕ) → map.get heap.nodes head ≡ Some a → map.get heap.nodes cur ≡ Some b → map.get heap.nodes new ≡ Some d
+    → list_with heap (new ∷ []) head cur ≡ Ok names → room_for heap head cur new f ≡ Ok (f names)
+room_gives heap head cur new f a b d names ea eb ed e =
+    let r : Result (List ℕ) Trouble = list_with heap (new ∷ []) head cur in
+    ap (of_found head (λ _. at heap cur (λ _. at heap new (λ _. result_map f r)))) ea ∙ ap (of_found cur (λ _. at heap new (λ _. result_map f r))) eb ∙ ap (of_found new (λ _. result_map f r)) ed ∙ ap (result_map f) e
+
 room : {A : Type 0} (heap : Heap) (head cur new : ℕ) (f : List ℕ → A) (before : Option ℕ) → Ok before ≡ room_for heap head cur new (λ names. name_before None names cur) → Room heap head cur new f before
 room heap head cur new f before e =
     let g : List ℕ → Option ℕ = λ names. name_before None names cur in
@@ -50,12 +58,17 @@ room heap head cur new f before e =
     let b = at_Ok heap cur (λ _. at heap new (λ _. result_map g list)) before a.gives in
     let d = at_Ok heap new (λ _. result_map g list) before b.gives in
     let m = mapped_Ok g list before d.gives in
-    record { names = m.value; is = m.gives; gives = rw (a.is, b.is, d.is, m.is) refl }
+    record { names = m.value; is = m.gives; gives = room_gives heap head cur new f a.node b.node d.node m.value a.is b.is d.is m.is }
 
 pub record Place {A : Type 0} (heap : Heap) (head cur : ℕ) (f : List ℕ → A) (before : Option ℕ) : Type 0 where
   pub names : List ℕ
   pub is : name_before None names cur ≡ before
   pub gives : place_in heap head cur f ≡ Ok (f names)
+
+place_gives : {A : Type 0} (heap : Heap) (head cur : ℕ) (f : List ℕ → A) (a b : Node) (names : List ℕ) → map.get heap.nodes head ≡ Some a → map.get heap.nodes cur ≡ Some b → list_with heap [] head cur ≡ Ok names → place_in heap head cur f ≡ Ok (f names)
+place_gives heap head cur f a b names ea eb e =
+    let r : Result (List ℕ) Trouble = list_with heap [] head cur in
+    ap (of_found head (λ _. at heap cur (λ _. result_map f r))) ea ∙ ap (of_found cur (λ _. result_map f r)) eb ∙ ap (result_map f) e
 
 place : {A : Type 0} (heap : Heap) (head cur : ℕ) (f : List ℕ → A) (before : Option ℕ) → Ok before ≡ place_in heap head cur (λ names. name_before None names cur) → Place heap head cur f before
 place heap head cur f before e =
@@ -64,7 +77,14 @@ place heap head cur f before e =
     let a = at_Ok heap head (λ _. at heap cur (λ _. result_map g list)) before (sym e) in
     let b = at_Ok heap cur (λ _. result_map g list) before a.gives in
     let m = mapped_Ok g list before b.gives in
-    record { names = m.value; is = m.gives; gives = rw (a.is, b.is, m.is) refl }
+    record { names = m.value; is = m.gives; gives = place_gives heap head cur f a.node b.node m.value a.is b.is m.is }
+
+-- ---- the new head
+pub head_is : {A : Type 0} (head cur : ℕ) (a b : A) → head ≡ cur → head_with head cur a b ≡ a
+head_is head cur a b e = ap (λ t. cond t a b) (subst (λ x. nat_eq head x ≡ true) e (nat_eq_same head))
+
+pub head_stays : {A : Type 0} (head cur : ℕ) (a b : A) → (head ≡ cur → ⊥) → head_with head cur a b ≡ b
+head_stays head cur a b h = elim (nat_eq head cur) as (λ t. nat_eq head cur ≡ t → cond t a b ≡ b) [ true ↦ λ e. absurd (h (eqb-true head cur e)) | false ↦ λ e. refl ] refl
 
 -- ---- refusals
 map_err : {A B : Type 0} (f : List ℕ → A) (g : List ℕ → B) (why : Trouble) (r : Result (List ℕ) Trouble) → Err why ≡ result_map g r → result_map f r ≡ Err why
