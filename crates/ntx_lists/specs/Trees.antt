@@ -1,5 +1,5 @@
 -- What freeing does to a heap ("TeX: The Program", section 202): exactly the names that a walk reaches leave it.
-use Rattle.std.specs.Prelude.{◌≡◌, ℕ, List, [], ◌∷◌, ◌++◌, Option, None, Result, Ok}
+use Rattle.std.specs.Prelude.{◌≡◌, ℕ, List, [], ◌∷◌, Option, None, Some, Result, Ok}
 use Rattle.std.specs.Ordering.{nat_cmp}
 use Rattle.std.specs.FinMap as map
 use Rattle.ntx_num.specs.Answer.{result_map}
@@ -38,9 +38,14 @@ inner_of (contents.Vlist b) = record { first = b.list; second = None; third = No
 inner_of (contents.Disc d) = record { first = d.pre; second = d.post; third = d.replace }
 inner_of _ = record { first = None; second = None; third = None }
 
--- Where the walk of a list ended well in the whole heap, and all that it had reached before the list is gone, then what it reaches in
--- the list goes too.
-abbrev pub Frees : Heap → Heap → Option ℕ → ℕ → Result (Unit {0}) Trouble → Type 0
-Frees old new head depth result =
-    (whole : Heap) (before more : List ℕ) → old ≡ without whole before → whole_walk whole Plain before head depth H ≡ Ok (before ++ more)
-    → (result ≡ Ok tt) × (new ≡ without whole (before ++ more))
+abbrev pub inner_of_found : Option Node → Inner
+inner_of_found None = record { first = None; second = None; third = None }
+inner_of_found (Some node) = inner_of node.fields.contents
+
+-- the same of the node of this name
+abbrev pub inner_at : Heap → ℕ → Inner
+inner_at heap n = inner_of_found (map.get heap.nodes n)
+
+-- Where the walk of a list ends well in the whole heap, from names that are gone already, all the names that it reaches are gone then.
+abbrev pub Frees : Heap → Heap → Option ℕ → ℕ → Type 0
+Frees old new head depth = (whole : Heap) (gone names : List ℕ) → old ≡ without whole gone → whole_walk whole Plain gone head depth H ≡ Ok names → new ≡ without whole names

@@ -147,7 +147,7 @@ fn names_of_tree<N: Nodes>(alloc: Global, nodes: &mut N, n: u64) -> Result<Vec<u
 {
     nodes.begin_walk();
     nodes.visit(n).map_err(Fail::Is)?;
-    let lists = inner_lists(nodes, n).map_err(Fail::Is)?;
+    let lists = inner_lists(nodes, n);
     let mut names = Vec::new(alloc);
     names.push(n)?;
     let names = names_on(alloc, nodes, Way::Plain, lists.first, 1, ListKind::H, names)?;

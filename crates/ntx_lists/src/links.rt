@@ -1,12 +1,11 @@
 //! The inner lists of a node, and the way through them.
 
-ghost use Rattle.std.specs.Prelude.{◌≡◌, Ok};
+ghost use Rattle.std.specs.Prelude.{◌≡◌};
 ghost use Rattle.ntx_num.specs.Answer.{result_map};
-ghost use Rattle.ntx_nodes.specs.Steps.{at, get_answer};
+ghost use Rattle.ntx_nodes.specs.Steps.{get_answer};
 ghost use Rattle.ntx_nodes.specs.Walk.{tree_walk};
-ghost use Rattle.ntx_nodes.specs.Walker.{link_in, links_of};
-ghost use Rattle.ntx_nodes.specs.declared.kind.Way.TheVariants.{Plain};
-ghost use Rattle.ntx_lists.specs.Trees.{inner_of};
+ghost use Rattle.ntx_nodes.specs.Walker.{link_in};
+ghost use Rattle.ntx_lists.specs.Trees.{inner_at};
 
 use ntx_nodes::{Field, FieldValue, Kind, ListKind, Nodes, Trouble, Way, visit_on};
 
@@ -28,28 +27,27 @@ fn link<N: Nodes>(nodes: &N, n: u64, f: Field) -> Option<u64>
     }
 }
 
-/// The inner lists of a node. Refuses with Stale of a dead `n`.
-pub(crate) fn inner_lists<N: Nodes>(nodes: &N, n: u64) -> Result<Inner, Trouble>
-    ensures { result ≡ at (N.heap nodes.now) n (λ node. Ok (inner_of node.fields.contents)) }
+/// The inner lists of a node, and none of a dead one.
+pub(crate) fn inner_lists<N: Nodes>(nodes: &N, n: u64) -> Inner
+    ensures { result ≡ inner_at (N.heap nodes.now) n }
 {
-    let (kind, _) = nodes.kind_of(n)?;
     let none = Inner {
         first: None,
         second: None,
         third: None,
     };
-    Ok(match kind {
-        Kind::Hlist | Kind::Vlist => Inner {
+    match nodes.kind_of(n) {
+        Ok((Kind::Hlist | Kind::Vlist, _)) => Inner {
             first: link(nodes, n, Field::List),
             ..none
         },
-        Kind::Disc => Inner {
+        Ok((Kind::Disc, _)) => Inner {
             first: link(nodes, n, Field::Pre),
             second: link(nodes, n, Field::Post),
             third: link(nodes, n, Field::Replace),
         },
         _ => none,
-    })
+    }
 }
 
 /// Walks a node with its inner lists, without what follows it. Takes no memory.
@@ -61,7 +59,7 @@ pub(crate) fn visit_tree<N: Nodes>(nodes: &mut N, n: u64) -> Result<(), Trouble>
 {
     nodes.begin_walk();
     nodes.visit(n)?;
-    let lists = inner_lists(nodes, n)?;
+    let lists = inner_lists(nodes, n);
     visit_on(nodes, Way::Plain, lists.first, 1, ListKind::H)?;
     visit_on(nodes, Way::Plain, lists.second, 1, ListKind::H)?;
     visit_on(nodes, Way::Plain, lists.third, 1, ListKind::H)
