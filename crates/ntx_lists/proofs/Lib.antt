@@ -1,3 +1,4 @@
 pub mod Along
 pub mod Places
+pub mod Trees
 pub mod Changes

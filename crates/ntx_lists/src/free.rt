@@ -23,8 +23,12 @@ fn free_list<N: Nodes>(nodes: &mut N, head: Option<u64>, depth: u64)
     while let Some(n) = at {
         let lists = inner_lists(nodes, n);
         at = following(nodes, n);
-        if depth > MAX_DEPTH || nodes.free_one(n).is_err() {
+        if depth > MAX_DEPTH {
             return;
+        }
+        match nodes.free_one(n) {
+            Ok(()) => {}
+            Err(_) => return,
         }
         free_list(nodes, lists.first, depth + 1);
         free_list(nodes, lists.second, depth + 1);
