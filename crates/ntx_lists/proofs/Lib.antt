@@ -2,3 +2,4 @@ pub mod Along
 pub mod Places
 pub mod Trees
 pub mod Changes
+pub mod TreeNames

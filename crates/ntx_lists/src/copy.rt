@@ -146,7 +146,10 @@ fn names_of_tree<N: Nodes>(alloc: Global, nodes: &mut N, n: u64) -> Result<Vec<u
     ensures answer { Answers (result_map (λ names. names.items) result) (tree_walk (N.heap nodes.old) n) }
 {
     nodes.begin_walk();
-    nodes.visit(n).map_err(Fail::Is)?;
+    match nodes.visit(n) {
+        Ok(_) => {}
+        Err(why) => return Err(Fail::Is(why)),
+    }
     let lists = inner_lists(nodes, n);
     let mut names = Vec::new(alloc);
     names.push(n)?;
