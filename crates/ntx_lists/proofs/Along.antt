@@ -95,17 +95,17 @@ goes_on heap head cur n v w x seen first goes visits is_first =
     let marked : set.insert w n ≡ x = ap (λ p. p.1) (same_Ok _ _ at.gives) in
     let next : at.node.fields.next ≡ next_of heap n = sym (ap (option_and_then (λ (node : Node). node.fields.next)) at.is) in (
       λ before marks. (
-        let g = goes before marks in
-        let r : List ℕ = before ++ g.0 in
-        let fresh : is_reached r n ≡ false = sym (g.2 n) ∙ new in
-        let on = flat_on heap r n at.node (node_reached_Ok heap Flat r n 0 H at.node at.is fresh (omega arith) refl) in
-        let grouped : r ++ n ∷ [] ≡ before ++ (g.0 ++ n ∷ []) = append_assoc before g.0 (n ∷ []) in (
-          g.0 ++ n ∷ [],
-          g.1 ∙ on ∙ (λ i. whole_walk heap Flat (grouped i) (next i) 0 H),
-          subst (Marks x) grouped (subst (λ (s : Names). Marks s (r ++ n ∷ [])) marked (marks_more w r n g.2)),
-          ap (λ s. survey_with s n cur) g.3 ∙ survey_more g.0 n cur,
-        )
-      ),
+          let g = goes before marks in
+          let r : List ℕ = before ++ g.0 in
+          let fresh : is_reached r n ≡ false = sym (g.2 n) ∙ new in
+          let on = flat_on heap r n at.node (node_reached_Ok heap Flat r n 0 H at.node at.is fresh (omega arith) refl) in
+          let grouped : r ++ n ∷ [] ≡ before ++ (g.0 ++ n ∷ []) = append_assoc before g.0 (n ∷ []) in (
+            g.0 ++ n ∷ [],
+            g.1 ∙ on ∙ (λ i. whole_walk heap Flat (grouped i) (next i) 0 H),
+            subst (Marks x) grouped (subst (λ (s : Names). Marks s (r ++ n ∷ [])) marked (marks_more w r n g.2)),
+            ap (λ s. survey_with s n cur) g.3 ∙ survey_more g.0 n cur,
+          )
+          ),
       subst (λ (s : Names). unvisited heap s < unvisited heap w) marked (unvisited_less heap w n at.node at.is new),
     )
 

@@ -16,5 +16,5 @@ returns-in_err-set_next-2 g c =
 pub returns : goal.returns
 returns g c = record {
   step = after_done (g.N.Nodes.heap c.args.nodes.now) (g.N.Nodes.heap c.find_room.new.nodes) (g.N.Nodes.heap c.set_next.new.nodes) (g.N.Nodes.heap c.set_next-2.new.nodes) c.args.head c.args.cur c.args.new c.in_ok-find_room.field-0 c.following-after.result
-  c.set_next.result c.set_next-2.result c.in_ok-find_room.ensures.finds c.find_room.ensures.same c.following-after.ensures c.set_next.ensures c.set_next-2.ensures;
+      c.set_next.result c.set_next-2.result c.in_ok-find_room.ensures.finds c.find_room.ensures.same c.following-after.ensures c.set_next.ensures c.set_next-2.ensures;
 }
