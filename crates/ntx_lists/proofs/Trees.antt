@@ -24,7 +24,7 @@ use Rattle.ntx_nodes.proofs.Walks.{unvisited_less, failing-le, node_reached_Ok}
 use Rattle.ntx_nodes.proofs.Turns.{then_same, passes}
 use Rattle.ntx_nodes.proofs.WalkSteps.{whole, whole_None, whole_Some}
 use Rattle.ntx_lists.specs.Lists.{next_of}
-use Rattle.ntx_lists.specs.Trees.{nodes_without, without, inner_of, inner_of_found, inner_at, Frees, free_tree_step, flush_list_step}
+use Rattle.ntx_lists.specs.Trees.{nodes_without, without, inner_of, inner_of_found, inner_at, names_from, Frees, free_tree_step, flush_list_step}
 use Rattle.ntx_lists.specs.declared.links.Inner.{Inner}
 
 -- ---- the kind of a list makes no difference where kinds are not tested
@@ -141,7 +141,7 @@ frees_ended old new head depth frees whole gone names is e =
     f.1 ∙ ap (without whole) same
 
 -- a live node that is freed
-freed_is : (h h1 : Heap) (n : ℕ) (u : Unit {0}) → free_one_step n h ≡ Ok (u, h1) → (node : Node) × (map.get h.nodes n ≡ Some node) × (record h { nodes = map.remove h.nodes n } ≡ h1)
+pub freed_is : (h h1 : Heap) (n : ℕ) (u : Unit {0}) → free_one_step n h ≡ Ok (u, h1) → (node : Node) × (map.get h.nodes n ≡ Some node) × (record h { nodes = map.remove h.nodes n } ≡ h1)
 freed_is h h1 n u e =
     let a = at_Ok {A = Unit {0} × Heap} h n (λ _. Ok (tt, record h { nodes = map.remove h.nodes n })) (u, h1) e in
     (a.node, a.is, ap (λ p. p.1) (same_Ok _ _ a.gives))
@@ -171,7 +171,7 @@ there whole h gone n depth node is here =
     let p = passes whole Plain gone n depth H node here in
     ap (λ (x : Heap). map.get x.nodes n) is ∙ get_without whole.nodes gone n p.new ∙ p.live
 
-one_more : (whole h h1 : Heap) (gone : List ℕ) (n : ℕ) → h ≡ without whole gone → record h { nodes = map.remove h.nodes n } ≡ h1 → h1 ≡ without whole (gone ++ n ∷ [])
+pub one_more : (whole h h1 : Heap) (gone : List ℕ) (n : ℕ) → h ≡ without whole gone → record h { nodes = map.remove h.nodes n } ≡ h1 → h1 ≡ without whole (gone ++ n ∷ [])
 one_more whole h h1 gone n is e = sym e ∙ ap (λ (x : Heap). record x { nodes = map.remove x.nodes n }) is ∙ ap (λ nodes. record whole { nodes = nodes }) (sym (without_last whole.nodes gone n))
 
 pub frees_more : (whole h h1 h2 h3 h4 : Heap) (gone inside : List ℕ) (n depth : ℕ) (node : Node) (lists : Inner) (u : Unit {0}) → h ≡ without whole gone → map.get h.nodes n ≡ Some node → Three whole depth (inner_of node.fields.contents) (gone ++ n ∷ []) inside
@@ -298,3 +298,9 @@ free_tree_done heap h1 h2 h3 h4 h5 n lists u t e same lists_is freed f1 f2 f3 =
     let live : map.get h1.nodes n ≡ Some l.0 = ap (λ (h : Heap). map.get h.nodes n) same ∙ l.1 in
     let left = frees_more heap h1 h2 h3 h4 h5 [] w.0 n 0 l.0 lists t same live ts lists_is freed f1 f2 f3 in
     ap (result_map {B = Unit {0} × Heap} (λ names. (tt, without heap names))) w.1 ∙ (λ i. Ok (tt, sym left i))
+
+-- ---- a run of names
+pub run_more : (whole new : Heap) (first i : ℕ) → new ≡ without whole (names_from first i ++ (first + i) ∷ []) → new ≡ without whole (names_from first (i + 1))
+run_more whole new first i e =
+    let next : i + 1 ≡ suc i = omega arith in
+    e ∙ sym (ap (λ k. without whole (names_from first k)) next)

@@ -1,8 +1,9 @@
 //! Copying lists.
 
-ghost use Rattle.std.specs.Prelude.{◌≡◌, ◌+◌, ◌<◌, ◌^◌, length};
+ghost use Rattle.std.specs.Prelude.{◌≡◌, ◌+◌, ◌<◌, ◌^◌, OnOk};
 ghost use Rattle.ntx_num.specs.Answer.{result_map, Answers};
 ghost use Rattle.ntx_nodes.specs.Walk.{tree_walk};
+ghost use Rattle.ntx_lists.specs.Trees.{without, names_from};
 ghost use Rattle.ntx_lists.specs.Copies.{copy_list_step, copy_tree_step, Copied};
 
 use crate::links::inner_lists;
@@ -24,7 +25,10 @@ fn places_of(alloc: Global, names: &[u64]) -> Result<Places, Fail<Trouble>> {
 }
 
 /// Frees the nodes of as many names from `first` on.
-fn free_run<N: Nodes>(nodes: &mut N, first: u64, count: usize) -> Result<(), Trouble> {
+fn free_run<N: Nodes>(nodes: &mut N, first: u64, count: usize) -> Result<(), Trouble>
+    requires { first + count < 2 ^ 64 }
+    ensures { OnOk result (N.heap nodes.new ≡ without (N.heap nodes.old) (names_from first count)) }
+{
     for i in 0..count {
         nodes.free_one(first + i as u64)?;
     }

@@ -1,5 +1,4 @@
-use Rattle.std.proofs.Common.{◌≡◌, ◌≤◌, ◌<◌, arith}
-use Rattle.std.specs.FinMap as map
+use Rattle.std.proofs.Common.{arith}
 use Rattle.ntx_lists.proofs.Trees.{free_turn, free_refused, freed_less}
 use Rattle.ntx_lists.proofs.free.+free_list.Goals as goal
 

@@ -1,4 +1,4 @@
-use Rattle.std.proofs.Common.{◌≡◌, ◌+◌, ◌≤◌, ◌-◌}
+use Rattle.std.proofs.Common.{◌+◌, ◌≤◌, ◌-◌}
 use Rattle.std.specs.FinMap as map
 use Rattle.ntx_nodes.specs.Walk.{max_depth}
 use Rattle.ntx_lists.proofs.Trees.{FreesOn}

@@ -1,4 +1,4 @@
-use Rattle.ntx_lists.proofs.Trees.{flush_done, flush_refused}
+use Rattle.ntx_lists.proofs.Trees.{flush_done}
 use Rattle.ntx_lists.proofs.free.flush_list.Goals as goal
 
 pub returns : goal.returns

@@ -1,4 +1,4 @@
-use Rattle.ntx_lists.proofs.Trees.{free_tree_done, free_tree_refused, tree_not_freed}
+use Rattle.ntx_lists.proofs.Trees.{free_tree_done}
 use Rattle.ntx_lists.proofs.free.free_tree.Goals as goal
 
 pub returns : goal.returns

@@ -1,4 +1,4 @@
-use Rattle.std.proofs.Common.{◌∙◌, sym}
+use Rattle.std.proofs.Common.{◌∙◌}
 use Rattle.ntx_lists.proofs.Places.{one_mark, room_found}
 use Rattle.ntx_lists.proofs.insert.find_room.Goals as goal
 
