@@ -4,13 +4,13 @@
 --     list_copy, tree_copy          the copies of the nodes of a list, and of a node with its inner lists
 --     copy_list_step, copy_tree_step      what the calls do
 --     Copied                        what a call left
-use Rattle.std.specs.Prelude.{◌≡◌, ◌≤◌, ℕ, ◌+◌, List, [], ◌∷◌, nat_eq, if◌then◌else◌, Option, None, Some, Result, Ok, Err}
+use Rattle.std.specs.Prelude.{◌≡◌, ◌≤◌, ℕ, ◌+◌, List, [], ◌∷◌, nat_eq, if◌then◌else◌, Option, None, Some, Result, Ok, Err, true}
 use Rattle.std.specs.Option.{option_and_then, option_map}
 use Rattle.ntx_num.specs.declared.answer.Fail.{Fail}
 use Rattle.ntx_num.specs.declared.answer.Fail.TheVariants.{NoMemory, Is}
-use Rattle.ntx_nodes.specs.Heap.{Heap}
-use Rattle.ntx_nodes.specs.Steps.{at, making}
-use Rattle.ntx_nodes.specs.Walk.{plain_walk, tree_walk}
+use Rattle.ntx_nodes.specs.Heap.{Heap, is_live}
+use Rattle.ntx_nodes.specs.Steps.{at, copy_of, making}
+use Rattle.ntx_nodes.specs.Walk.{is_reached, plain_walk, tree_walk}
 use Rattle.ntx_nodes.specs.declared.fields.Contents.{Contents}
 use Rattle.ntx_nodes.specs.declared.fields.Contents.TheVariants as contents
 use Rattle.ntx_nodes.specs.declared.node.Node.{Node}
@@ -87,3 +87,9 @@ abbrev pub Copied : {A : Type 0} → Result A (Fail Trouble) → Heap → Heap �
 Copied (Ok a) old new step = step ≡ (Ok a, new)
 Copied (Err (Is why)) old new step = step ≡ (Err why, new)
 Copied (Err NoMemory) old new step = HasMovedOn old new
+
+-- ---- how copying goes
+-- Copies of these live nodes, with no links yet, of which the first takes the next name. Where one cannot be made, those before it
+-- are gone again.
+abbrev pub MakesCopies : Heap → Heap → List ℕ → Result ℕ (Fail Trouble) → Type 0
+MakesCopies old new names result = ((n : ℕ) → is_reached names n ≡ true → is_live old n ≡ true) → Copied result old new (make_copies old (λ _ node. copy_of node) old.next names old)

@@ -1,10 +1,10 @@
 //! Copying lists.
 
-ghost use Rattle.std.specs.Prelude.{◌≡◌, ◌+◌, ◌<◌, ◌^◌, OnOk};
+ghost use Rattle.std.specs.Prelude.{◌≡◌, ◌+◌, ◌<◌, ◌^◌, length, OnOk};
 ghost use Rattle.ntx_num.specs.Answer.{result_map, Answers};
 ghost use Rattle.ntx_nodes.specs.Walk.{tree_walk};
 ghost use Rattle.ntx_lists.specs.Trees.{without, names_from};
-ghost use Rattle.ntx_lists.specs.Copies.{copy_list_step, copy_tree_step, Copied};
+ghost use Rattle.ntx_lists.specs.Copies.{copy_list_step, copy_tree_step, Copied, MakesCopies};
 
 use crate::links::inner_lists;
 use ntx_nodes::{Field, FieldValue, Kind, ListKind, Nodes, Trouble, Way, names_on, names_reached};
@@ -37,7 +37,10 @@ fn free_run<N: Nodes>(nodes: &mut N, first: u64, count: usize) -> Result<(), Tro
 
 /// Makes copies of these nodes, with no links yet, under one name after another, and gives the first name. A copy that
 /// cannot be made takes those before it along.
-fn make_copies<N: Nodes>(nodes: &mut N, names: &[u64]) -> Result<u64, Fail<Trouble>> {
+fn make_copies<N: Nodes>(nodes: &mut N, names: &[u64]) -> Result<u64, Fail<Trouble>>
+    requires { 0 < length names.now }
+    ensures made { MakesCopies (N.heap nodes.old) (N.heap nodes.new) names.now result }
+{
     let mut first = 0;
     for i in 0..names.len() {
         match nodes.copy_one(names[i]) {
@@ -116,7 +119,9 @@ fn copy_names<N: Nodes>(
     nodes: &mut N,
     names: &[u64],
     linked: usize,
-) -> Result<u64, Fail<Trouble>> {
+) -> Result<u64, Fail<Trouble>>
+    requires { 0 < length names.now }
+{
     let places = places_of(alloc, names)?;
     let first = make_copies(nodes, names)?;
     link_copies(nodes, &places, first, names, linked).map_err(Fail::Is)?;
