@@ -3,3 +3,4 @@ pub mod Places
 pub mod Trees
 pub mod Changes
 pub mod TreeNames
+pub mod CopySteps

@@ -50,6 +50,7 @@ fn make_copies<N: Nodes>(nodes: &mut N, names: &[u64]) -> Result<u64, Fail<Troub
                 }
             }
             Err(why) => {
+                nodes.lawful();
                 free_run(nodes, first, i).map_err(Fail::Is)?;
                 return Err(why);
             }
