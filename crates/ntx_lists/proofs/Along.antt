@@ -1,23 +1,23 @@
 -- The way along one list: what is seen of it, and the walk that it follows.
 use Rattle.std.proofs.Common.{◌≡◌, ℕ, ◌+◌, ◌≤◌, ◌<◌, List, [], ◌∷◌, ◌++◌, Bool, true, false, cond, length, Some, None, Ok, Err, refl, sym, ◌∙◌, ap, subst, append_assoc, append-nil, arith}
-use Rattle.std.specs.Prelude.{Option, Result, not, ◌||◌, nat_eq, MatchResult}
+use Rattle.std.specs.Prelude.{Option, Result, not, ◌||◌, nat_eq}
 use Rattle.std.specs.Option.{option_and_then}
 use Rattle.std.specs.FinMap as map
 use Rattle.std.specs.FinSet as set
-use Rattle.ntx_num.specs.Answer.{result_map, result_and_then}
+use Rattle.ntx_num.specs.Answer.{result_and_then}
 use Rattle.ntx_nodes.specs.Heap.{Heap, Names, IsLawful, max_nodes}
 use Rattle.ntx_nodes.specs.Steps.{of_found, at, visit_step}
-use Rattle.ntx_nodes.specs.Walk.{is_reached, node_reached, max_depth}
+use Rattle.ntx_nodes.specs.Walk.{is_reached, node_reached}
 use Rattle.ntx_nodes.specs.Walker.{Marks, whole_walk, unvisited}
 use Rattle.ntx_nodes.specs.declared.kind.ListKind.TheVariants.{H}
 use Rattle.ntx_nodes.specs.declared.kind.Way.TheVariants.{Flat}
 use Rattle.ntx_nodes.specs.declared.node.Node.{Node}
 use Rattle.ntx_nodes.specs.declared.trouble.Trouble.{Trouble}
-use Rattle.ntx_nodes.specs.declared.trouble.Trouble.TheVariants.{Loop, Stale}
+use Rattle.ntx_nodes.specs.declared.trouble.Trouble.TheVariants.{Loop}
 use Rattle.ntx_nodes.proofs.Oks.{at_Ok}
 use Rattle.ntx_nodes.proofs.Walks.{is_reached-append, marks_more, unvisited_less, failing-le, node_reached_Ok}
 use Rattle.ntx_nodes.proofs.WalkSteps.{whole_None, whole_at, whole_refused}
-use Rattle.ntx_lists.specs.Lists.{last_of, name_before, next_of}
+use Rattle.ntx_lists.specs.Lists.{name_before, next_of}
 use Rattle.ntx_lists.specs.Survey.{last_from, survey_of, survey_with, Surveys}
 use Rattle.ntx_lists.specs.declared.survey.Survey.{Survey}
 

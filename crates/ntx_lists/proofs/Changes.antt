@@ -1,13 +1,13 @@
 -- A list with one node more or less.
 use Rattle.std.proofs.Common.{◌≡◌, ℕ, List, [], ◌∷◌, Bool, true, false, cond, Some, None, Ok, Err, refl, sym, ◌∙◌, ap, subst}
-use Rattle.std.specs.Prelude.{Option, Result, is_some, nat_eq, IfOk}
+use Rattle.std.specs.Prelude.{Option, Result, is_some, nat_eq}
 use Rattle.std.specs.Ordering.{nat_cmp, eq_by_cmp}
 use Rattle.std.specs.Cmp.{nat_cmp_total}
 use Rattle.std.specs.FinMap as map
 use Rattle.ntx_num.specs.Answer.{result_map}
 use Rattle.ntx_nodes.specs.Heap.{Heap, is_live}
 use Rattle.ntx_num.specs.Answer.{StepsAtOnce}
-use Rattle.ntx_nodes.specs.Steps.{of_found, at, put_fields}
+use Rattle.ntx_nodes.specs.Steps.{of_found, at}
 use Rattle.ntx_nodes.specs.declared.node.Node.{Node}
 use Rattle.ntx_nodes.specs.declared.trouble.Trouble.{Trouble}
 use Rattle.std.proofs.lemmas.Bool.{eqb-true}

@@ -2,5 +2,3 @@ pub mod Along
 pub mod Places
 pub mod Trees
 pub mod Changes
-pub mod TreeNames
-pub mod CopySteps

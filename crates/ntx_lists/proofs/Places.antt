@@ -19,10 +19,10 @@ use Rattle.ntx_nodes.specs.declared.kind.Way.TheVariants.{Flat}
 use Rattle.ntx_nodes.specs.declared.node.Node.{Node}
 use Rattle.ntx_nodes.specs.declared.trouble.Trouble.{Trouble}
 use Rattle.ntx_nodes.specs.declared.trouble.Trouble.TheVariants.{NotInList}
-use Rattle.ntx_nodes.proofs.Oks.{at_Ok, Found}
+use Rattle.ntx_nodes.proofs.Oks.{at_Ok}
 use Rattle.ntx_nodes.proofs.SoundWalks.{sound_walk}
 use Rattle.ntx_nodes.proofs.Walks.{is_reached-append, marks_more, nat_eq_same}
-use Rattle.ntx_lists.specs.Lists.{last_of, name_before, next_of, tail_answer, length_answer, list_beside, list_with, room_for, place_in}
+use Rattle.ntx_lists.specs.Lists.{last_of, name_before, next_of, tail_answer, length_answer, list_beside, list_with}
 use Rattle.ntx_lists.specs.Survey.{last_from, survey_of, Surveys, IsLiveLink, Finds, FindsIn, FindsRoom}
 use Rattle.ntx_lists.specs.declared.survey.Survey.{Survey}
 

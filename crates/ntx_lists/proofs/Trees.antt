@@ -9,7 +9,7 @@ use Rattle.std.specs.FinSet as set
 use Rattle.ntx_num.specs.Answer.{result_map, result_and_then, StepsAtOnce}
 use Rattle.ntx_nodes.specs.Heap.{Heap, Names}
 use Rattle.ntx_nodes.specs.Steps.{of_found, visit_step, free_one_step}
-use Rattle.ntx_nodes.specs.Walk.{max_depth, is_reached, inner_lists, entered, node_reached, in_turn, enter, walk, turns_of, walk_from, plain_walk, tree_walk}
+use Rattle.ntx_nodes.specs.Walk.{is_reached, inner_lists, entered, node_reached, in_turn, enter, walk, turns_of, plain_walk, tree_walk}
 use Rattle.ntx_nodes.specs.Walker.{Marks, whole_walk, unvisited, WalksOn}
 use Rattle.ntx_nodes.specs.declared.kind.ListKind.{ListKind}
 use Rattle.ntx_nodes.specs.declared.kind.ListKind.TheVariants.{H, V, Part}
@@ -24,7 +24,7 @@ use Rattle.ntx_nodes.proofs.Walks.{unvisited_less, failing-le, node_reached_Ok}
 use Rattle.ntx_nodes.proofs.Turns.{then_same, passes}
 use Rattle.ntx_nodes.proofs.WalkSteps.{whole, whole_None, whole_Some}
 use Rattle.ntx_lists.specs.Lists.{next_of}
-use Rattle.ntx_lists.specs.Trees.{nodes_without, without, inner_of, inner_of_found, inner_at, names_from, Frees, free_tree_step, flush_list_step}
+use Rattle.ntx_lists.specs.Trees.{nodes_without, without, inner_of, inner_of_found, inner_at, Frees, free_tree_step, flush_list_step}
 use Rattle.ntx_lists.specs.declared.links.Inner.{Inner}
 
 -- ---- the kind of a list makes no difference where kinds are not tested
@@ -298,9 +298,3 @@ free_tree_done heap h1 h2 h3 h4 h5 n lists u t e same lists_is freed f1 f2 f3 =
     let live : map.get h1.nodes n ≡ Some l.0 = ap (λ (h : Heap). map.get h.nodes n) same ∙ l.1 in
     let left = frees_more heap h1 h2 h3 h4 h5 [] w.0 n 0 l.0 lists t same live ts lists_is freed f1 f2 f3 in
     ap (result_map {B = Unit {0} × Heap} (λ names. (tt, without heap names))) w.1 ∙ (λ i. Ok (tt, sym left i))
-
--- ---- a run of names
-pub run_more : (whole new : Heap) (first i : ℕ) → new ≡ without whole (names_from first i ++ (first + i) ∷ []) → new ≡ without whole (names_from first (i + 1))
-run_more whole new first i e =
-    let next : i + 1 ≡ suc i = omega arith in
-    e ∙ sym (ap (λ k. without whole (names_from first k)) next)

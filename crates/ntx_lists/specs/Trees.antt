@@ -1,5 +1,5 @@
 -- What freeing does to a heap ("TeX: The Program", section 202): exactly the names that a walk reaches leave it.
-use Rattle.std.specs.Prelude.{◌≡◌, ℕ, zero, suc, ◌+◌, List, [], ◌∷◌, ◌++◌, Option, None, Some, Result, Ok}
+use Rattle.std.specs.Prelude.{◌≡◌, ℕ, List, [], ◌∷◌, Option, None, Some, Result, Ok}
 use Rattle.std.specs.Ordering.{nat_cmp}
 use Rattle.std.specs.FinMap as map
 use Rattle.ntx_num.specs.Answer.{result_map}
@@ -29,11 +29,6 @@ free_tree_step n heap = result_map (λ names. (tt, without heap names)) (tree_wa
 -- all that a list reaches
 abbrev pub flush_list_step : Option ℕ → Heap → Result (Unit {0} × Heap) Trouble
 flush_list_step head heap = result_map (λ names. (tt, without heap names)) (plain_walk heap head)
-
--- as many names, one after another, from first on
-abbrev pub names_from : ℕ → ℕ → List ℕ
-names_from first zero = []
-names_from first (suc count) = names_from first count ++ (first + count) ∷ []
 
 -- ---- how freeing goes
 -- the inner lists of a node

@@ -1,9 +1,6 @@
-//! Worked examples of lists that are changed, freed and copied.
+//! Worked examples of lists that are changed and freed.
 
-use crate::{
-    copy_list, copy_tree, flush_list, free_tree, insert_after, insert_before, length, remove,
-    slide, tail,
-};
+use crate::{flush_list, free_tree, insert_after, insert_before, length, remove, slide, tail};
 use ntx_nodes::{Field, FieldValue, Kind, Nodes, PlainHeap, Trouble};
 use ntx_num::Fail;
 use std::process::Abort;
@@ -73,7 +70,7 @@ fn a_node_goes_after_another_or_leaves(rt: HostRuntime) -> Result<(), test::Fail
 }
 
 #[test]
-fn a_shared_node_stops_flushing_and_copying(rt: HostRuntime) -> Result<(), test::Fail> {
+fn a_shared_node_stops_flushing(rt: HostRuntime) -> Result<(), test::Fail> {
     let mut heap = PlainHeap::new(rt.alloc(), 1)?;
     let rule = heap.make(Kind::Rule, 0)?;
     let x = heap.make(Kind::Hlist, 0)?;
@@ -84,11 +81,6 @@ fn a_shared_node_stops_flushing_and_copying(rt: HostRuntime) -> Result<(), test:
     assert_eq!(rt; length(&mut heap, Some(x)), Ok(2));
     assert_eq!(rt; flush_list(&mut heap, Some(x)), Err(Trouble::Loop(rule)));
     assert_eq!(rt; heap.live(), 3);
-    assert_eq!(rt;
-        copy_list(rt.alloc(), &mut heap, Some(x)),
-        Err(Fail::Is(Trouble::Loop(rule)))
-    );
-    assert_eq!(rt; heap.live(), 3);
     assert_eq!(rt; free_tree(&mut heap, x), Ok(()));
     assert_eq!(rt; heap.live(), 1);
     assert_eq!(rt; heap.kind_of(y), Ok((Kind::Hlist, 0)));
@@ -96,10 +88,7 @@ fn a_shared_node_stops_flushing_and_copying(rt: HostRuntime) -> Result<(), test:
     assert_eq!(rt; heap.live(), 1);
     link(&mut heap, y, Field::List, Some(y))?;
     assert_eq!(rt; free_tree(&mut heap, y), Err(Trouble::Loop(y)));
-    assert_eq!(rt;
-        copy_list(rt.alloc(), &mut heap, Some(y)),
-        Err(Fail::Is(Trouble::Loop(y)))
-    );
+    assert_eq!(rt; flush_list(&mut heap, Some(y)), Err(Trouble::Loop(y)));
     link(&mut heap, y, Field::List, None)?;
     assert_eq!(rt; flush_list(&mut heap, Some(y)), Ok(()));
     assert_eq!(rt; heap.live(), 0);
@@ -121,8 +110,8 @@ fn a_list_that_comes_back_is_a_loop(rt: HostRuntime) -> Result<(), test::Fail> {
 }
 
 /// A heap of a disc 1 with pre 2 and replace 3, which a box 4 holds and a kern 5 follows there, and of a kern 6 after the box.
-fn box_and_kern(rt: &HostRuntime, first: u64) -> Result<PlainHeap, Fail<Trouble>> {
-    let mut heap = PlainHeap::new(rt.alloc(), first)?;
+fn box_and_kern(rt: &HostRuntime) -> Result<PlainHeap, Fail<Trouble>> {
+    let mut heap = PlainHeap::new(rt.alloc(), 1)?;
     for kind in [
         Kind::Disc,
         Kind::Glyph,
@@ -133,50 +122,23 @@ fn box_and_kern(rt: &HostRuntime, first: u64) -> Result<PlainHeap, Fail<Trouble>
     ] {
         heap.make(kind, 0)?;
     }
-    link(&mut heap, first, Field::Pre, Some(first + 1))?;
-    link(&mut heap, first, Field::Replace, Some(first + 2))?;
-    link(&mut heap, first, Field::Next, Some(first + 4))?;
-    link(&mut heap, first + 3, Field::List, Some(first))?;
-    link(&mut heap, first + 3, Field::Next, Some(first + 5))?;
+    link(&mut heap, 1, Field::Pre, Some(2))?;
+    link(&mut heap, 1, Field::Replace, Some(3))?;
+    link(&mut heap, 1, Field::Next, Some(5))?;
+    link(&mut heap, 4, Field::List, Some(1))?;
+    link(&mut heap, 4, Field::Next, Some(6))?;
     Ok(heap)
 }
 
 #[test]
-fn copies_are_numbered_in_the_order_of_the_walk(rt: HostRuntime) -> Result<(), test::Fail> {
-    let mut heap = box_and_kern(&rt, 1)?;
-    let copy = copy_list(rt.alloc(), &mut heap, Some(4))?;
-    assert_eq!(rt; copy, Some(7));
-    leads(&rt, &heap, 7, Field::List, Some(8));
-    leads(&rt, &heap, 7, Field::Next, Some(12));
-    leads(&rt, &heap, 8, Field::Pre, Some(9));
-    leads(&rt, &heap, 8, Field::Post, None);
-    leads(&rt, &heap, 8, Field::Replace, Some(10));
-    leads(&rt, &heap, 8, Field::Next, Some(11));
-    leads(&rt, &heap, 12, Field::Next, None);
-    leads(&rt, &heap, 4, Field::List, Some(1));
-    let tree = copy_tree(rt.alloc(), &mut heap, 4)?;
-    assert_eq!(rt; tree, 13);
-    leads(&rt, &heap, 13, Field::List, Some(14));
-    leads(&rt, &heap, 13, Field::Next, None);
-    assert_eq!(rt; heap.live(), 17);
-    assert_eq!(rt; free_tree(&mut heap, 13), Ok(()));
-    assert_eq!(rt; flush_list(&mut heap, Some(7)), Ok(()));
-    assert_eq!(rt; heap.live(), 6);
-    let glyph = copy_tree(rt.alloc(), &mut heap, 2)?;
-    assert_eq!(rt; glyph, 18);
-    assert_eq!(rt; copy_list(rt.alloc(), &mut heap, None), Ok(None));
-    Ok(())
-}
-
-#[test]
-fn what_an_unfinished_copy_made_is_freed(rt: HostRuntime) -> Result<(), test::Fail> {
-    let first = (1 << 48) - 8;
-    let mut heap = box_and_kern(&rt, first)?;
-    assert_eq!(rt;
-        copy_list(rt.alloc(), &mut heap, Some(first + 3)),
-        Err(Fail::Is(Trouble::NamesOut))
-    );
-    assert_eq!(rt; heap.live(), 6);
-    assert_eq!(rt; heap.make(Kind::Kern, 0), Err(Fail::Is(Trouble::NamesOut)));
+fn a_tree_is_freed_without_what_follows_it(rt: HostRuntime) -> Result<(), test::Fail> {
+    let mut heap = box_and_kern(&rt)?;
+    assert_eq!(rt; length(&mut heap, Some(4)), Ok(2));
+    assert_eq!(rt; free_tree(&mut heap, 4), Ok(()));
+    assert_eq!(rt; heap.live(), 1);
+    assert_eq!(rt; heap.kind_of(6), Ok((Kind::Kern, 0)));
+    let mut heap = box_and_kern(&rt)?;
+    assert_eq!(rt; flush_list(&mut heap, Some(4)), Ok(()));
+    assert_eq!(rt; heap.live(), 0);
     Ok(())
 }
