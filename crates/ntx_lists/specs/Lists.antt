@@ -1,4 +1,4 @@
--- What the calls do that go along one list, as steps of a heap (LuaTeX Reference Manual, chapter "Nodes"; "TeX: The Program", section 204).
+-- What the calls do that go along one list, as steps of a heap (LuaTeX Reference Manual, chapter "Nodes").
 --     list_beside, list_with      the names of a list, which a node is not in; in which a node is
 --     tail_answer, length_answer  the last node; how many there are
 --     insert_before_step, insert_after_step, remove_step      a list with one node more or less
@@ -31,7 +31,7 @@ name_before before (n ∷ ns) cur = if nat_eq cur n then before else name_before
 abbrev pub next_of : Heap → ℕ → Option ℕ
 next_of heap n = option_and_then (λ node. node.fields.next) (map.get heap.nodes n)
 
--- a node's fields with what follows it
+-- the heap in which another node, or none, follows the node found under a name
 abbrev pub follow_by : Heap → ℕ → Option ℕ → Option Node → Heap
 follow_by heap n to None = heap
 follow_by heap n to (Some node) = put_fields heap n node (record node.fields { next = to })

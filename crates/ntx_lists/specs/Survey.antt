@@ -40,7 +40,7 @@ Surveys heap head cur visited marked result =
 abbrev pub IsLiveLink : Heap → Option ℕ → Type 0
 IsLiveLink heap to = (m : ℕ) → to ≡ Some m → is_live heap m ≡ true
 
--- The node before cur in a list beside these names. It is live, and so is what follows cur.
+-- The node before cur in a list beside these names. Where there is one it is live, and so is what follows cur, if anything does.
 abbrev pub Finds : Heap → ℕ → ℕ → List ℕ → Result (Option ℕ) Trouble → Type 0
 Finds heap head cur others result =
     (result ≡ result_map (λ names. name_before None names cur) (list_with heap others head cur))

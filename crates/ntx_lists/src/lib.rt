@@ -1,8 +1,8 @@
 //! Surgery on TeX's node lists, and freeing them, over any heap of nodes (LuaTeX Reference Manual, chapter "Nodes"; "TeX: The
-//! Program", sections 199 to 204).
+//! Program", sections 199 to 202).
 //!
 //! Each call is one step of the heap: `specs/Lists.antt` states those along one list, and `specs/Trees.antt` freeing. A call
-//! that refuses changes nothing.
+//! that refuses leaves the heap as it was.
 //!
 //! It stands on `ntx_num` and `ntx_nodes`.
 #![tactic(auto)]
