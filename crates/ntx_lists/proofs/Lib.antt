@@ -1,0 +1,4 @@
+pub mod Along
+pub mod Places
+pub mod Trees
+pub mod Changes
