@@ -1,8 +1,12 @@
 //! The program `ntx DOC SCRIPT PATTERNS DVI`: opens the files that the command line names and typesets the document.
 //!
-//! What the files hold is the only thing that no contract says: everything else is [`ntx_run::run`]'s. The process ends with the
-//! run's status.
+//! Which files are opened, and what they hold, no contract says; the rest is [`ntx_run::run`]'s. The process ends with the number of
+//! the run's status.
 #![tactic(auto)]
+
+ghost use Rattle.std.specs.Prelude.{◌≡◌, ◌⊎◌, false, map, string_bytes, IfErr};
+ghost use Rattle.ntx_run.specs.Run.{are_paths};
+ghost use Rattle.ntx.specs.Number.{number_of};
 
 use ntx_io::{Feed, FileSink, FileSource, MemSource, NullSink, StdoutSink};
 use ntx_run::{Outcome, Status, are_paths, run};
@@ -14,7 +18,9 @@ use std::rt::{Env, Files};
 
 /// The words of the command line after the program's own name. Where the system gives none, or gives words that are no text, there are no
 /// words.
-fn words<R: Env + Alloc<A = Global>>(rt: &R) -> Result<Vec<String>, Status> {
+fn words<R: Env + Alloc<A = Global>>(rt: &R) -> Result<Vec<String>, Status>
+    ensures { IfErr result (λ status. status ≡ Status.Memory) }
+{
     let mut words = Vec::new(rt.alloc());
     match env::args(rt) {
         Ok(args) => {
@@ -31,7 +37,11 @@ fn words<R: Env + Alloc<A = Global>>(rt: &R) -> Result<Vec<String>, Status> {
 }
 
 /// Typesets the document that the words name. Where they name none no file is opened.
-fn typeset<R: Files + Print + Alloc<A = Global>>(rt: &R, words: &[String]) -> Outcome {
+fn typeset<R: Files + Print + Alloc<A = Global>>(rt: &R, words: &[String]) -> Outcome
+    ensures refused { are_paths (map string_bytes words.now) ≡ false →
+        (result.status ≡ Status.Words) ⊎ ((result.status ≡ Status.WriteFault) ⊎ (result.status ≡ Status.Memory)) }
+    ensures only { result.status ≡ Status.Words → are_paths (map string_bytes words.now) ≡ false }
+{
     let alloc = rt.alloc();
     let mut fonts: Vec<Box<dyn Feed>> = Vec::new(alloc);
     let mut lines = StdoutSink::new(rt);
@@ -64,10 +74,17 @@ fn nothing(alloc: Global) -> MemSource {
     MemSource::new(Vec::new(alloc), Vec::new(alloc))
 }
 
+/// The number of a status.
+fn number(status: Status) -> u8
+    ensures { result ≡ number_of status }
+{
+    status as u8
+}
+
 fn main(rt: HostRuntime) -> ExitCode {
     let status = match words(&rt) {
         Ok(words) => typeset(&rt, words.as_slice()).status,
         Err(status) => status,
     };
-    ExitCode::from(status as u8)
+    ExitCode::from(number(status))
 }
