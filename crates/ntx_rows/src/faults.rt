@@ -72,6 +72,10 @@ fn a_sink_that_fails_has_taken_the_first_bytes(rt: HostRuntime) -> Result<(), Fa
         (1, Status::WriteFault, 0),
         (2, Status::WriteFault, 79),
         (3, Status::Done, 120),
+        (4, Status::Done, 120),
+        (5, Status::Done, 120),
+        (6, Status::Done, 120),
+        (7, Status::Done, 120),
         (8, Status::Done, 120),
     ] {
         let given = run(
@@ -111,7 +115,24 @@ fn a_line_that_cannot_be_written_is_a_write_fault(rt: HostRuntime) -> Result<(),
         },
     )?;
     assert_eq!(rt; unread.outcome.status, Status::WriteFault);
-    let silent = run(alloc, no_lines)?;
-    assert_eq!(rt; silent.outcome.status, Status::Done);
+    Ok(())
+}
+
+#[test]
+fn lines_that_fail_leave_a_run_without_lines_alone(rt: HostRuntime) -> Result<(), Fail> {
+    let alloc = rt.alloc();
+    let whole = of_document(BOX).run(alloc)?;
+    for k in 1..9 {
+        let given = run(
+            alloc,
+            Fails {
+                lines: Some(k),
+                ..Fails::default()
+            },
+        )?;
+        assert_eq!(rt; given.outcome.status, Status::Done, "call {k}");
+        assert_eq!(rt; given.lines.len(), 0);
+        assert_eq!(rt; given.dvi.as_slice(), whole.dvi.as_slice());
+    }
     Ok(())
 }
