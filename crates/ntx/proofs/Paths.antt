@@ -4,14 +4,12 @@ use Rattle.std.specs.Prelude.{◌==◌, ◌&&◌}
 use Rattle.ntx_run.specs.Run.{are_paths, fits_form}
 use Rattle.ntx_run.specs.Outside.{FontInput}
 use Rattle.ntx_run.proofs.Reading.{words_fit}
+use Rattle.ntx_run.proofs.Writing.{true_is_no_false}
 
 module _ {F : Type 0} (words : List (List ℕ)) (feeds : List F) (font : F → FontInput) where
   paths_fit : (paths : Bool) → are_paths words ≡ paths → feeds ≡ [] → fits_form words (map (λ f. f.name) (map font feeds)) ≡ paths
   paths_fit true is none = words_fit words feeds font 0 true true (sym (ap (λ b. b && 0 == 0) is)) (sym (ap length none)) refl
   paths_fit false is none = words_fit words feeds font 0 false false (sym (ap (λ b. b && 0 == 0) is)) (sym (ap length none)) refl
-
-  true_is_no_false : true ≡ false → ⊥
-  true_is_no_false e = cc
 
   pub no_paths : are_paths words ≡ false → feeds ≡ [] → fits_form words (map (λ f. f.name) (map font feeds)) ≡ false
   no_paths is none = paths_fit false is none

@@ -18,6 +18,7 @@ use Rattle.ntx_run.specs.Outside.{Inputs, Outside, names_of, Tells, InputsKept, 
 use Rattle.ntx_run.specs.Parts.{ReadsDocument, ReadsEmpty, Reads, AtDocument, AtScript, AtPatterns, Typesets, LineWhole, LineCutOff, NoLine, Reports}
 use Rattle.ntx_run.proofs.Reading.{sources_of, names_told, document_accepted, in_order, document_refused, script_refused, patterns_refused, all_read, all_kept}
 use Rattle.ntx_run.proofs.Typesetting.{file_ends, file_whole, adds_nothing, adds_no_front, adds_whole_front}
+use Rattle.ntx_run.proofs.Writing.{true_is_no_false}
 
 -- ---- statuses
 
@@ -68,9 +69,6 @@ memory_no_read e = cc
 
 memory_no_write : status.Memory ≢ status.WriteFault
 memory_no_write e = cc
-
-true_is_no_false : true ≡ false → ⊥
-true_is_no_false e = cc
 
 -- ---- what the definition says
 
