@@ -1,5 +1,6 @@
--- A fraction of a number, rounded, as glue is set: the stretch or shrink of one glue is a rounded multiple of the ratio at which its box is set
--- ("TeX: The Program", sections 625 and 634, which keep the ratio as a floating point number and clamp as vet_glue does).
+-- A fraction of a number, rounded, as glue is set: the stretch or shrink of all glue up to a place is a rounded multiple of the ratio at which
+-- the box is set, and one glue has the difference ("TeX: The Program", sections 625 and 634, which keep the ratio as a floating point number
+-- and clamp as vet_glue does).
 use Rattle.std.specs.Prelude.{◌≡◌, ℕ, ◌+◌, ◌*◌, ◌/◌, min, ℤ, pos, negsuc, ◌*ℤ◌, neg_ℤ, unsigned_abs}
 
 -- n/d as a whole number, the nearer one, and the upper one at a half.
