@@ -17,7 +17,7 @@ use Rattle.std.proofs.lemmas.Str.Parse.{digit_from_value}
 use Rattle.ntx_num.specs.declared.size.Size.{Size}
 use Rattle.ntx_doc.specs.declared.command.Command.{Command}
 use Rattle.ntx_doc.specs.declared.command.Command.TheVariants.{HBox, Rule}
-use Rattle.ntx_doc.specs.declared.command.PackTo.TheVariants.{Additional}
+use Rattle.ntx_item.specs.declared.pack_to.PackTo.TheVariants.{Additional}
 use Rattle.ntx_doc.specs.declared.fault.DocFault.{DocFault}
 use Rattle.ntx_doc.specs.Text.{is_plain, is_blank, is_feed, is_field, is_numeral, natural_of, fields_of, number_of}
 use Rattle.ntx_doc.specs.Document.{Place, size_from, size_in, after_line, after_fields, at_line, commands_after, first_place, document_of}

@@ -9,7 +9,7 @@ use Rattle.ntx_num.specs.Answer.{result_and_then}
 use Rattle.ntx_num.specs.declared.size.Size.{Size}
 use Rattle.ntx_doc.specs.declared.command.Command.{Command}
 use Rattle.ntx_doc.specs.declared.command.Command.TheVariants.{HBox, Rule}
-use Rattle.ntx_doc.specs.declared.command.PackTo.TheVariants.{Additional}
+use Rattle.ntx_item.specs.declared.pack_to.PackTo.TheVariants.{Additional}
 use Rattle.ntx_doc.specs.declared.fault.DocWhy.{DocWhy}
 use Rattle.ntx_doc.specs.declared.fault.DocWhy.TheVariants as why
 use Rattle.ntx_doc.specs.declared.fault.DocFault.{DocFault}

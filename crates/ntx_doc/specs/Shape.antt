@@ -4,7 +4,7 @@ use Rattle.std.specs.List.{AllByRecursion}
 use Rattle.ntx_num.specs.declared.size.Size.{Size}
 use Rattle.ntx_doc.specs.declared.command.Command.{Command}
 use Rattle.ntx_doc.specs.declared.command.Command.TheVariants.{HBox, Rule}
-use Rattle.ntx_doc.specs.declared.command.PackTo.TheVariants.{Additional}
+use Rattle.ntx_item.specs.declared.pack_to.PackTo.TheVariants.{Additional}
 use Rattle.ntx_doc.specs.Document.{max_rules, max_size}
 
 -- a width, a height or a depth of a rule

@@ -1,16 +1,8 @@
 //! What a document asks for.
 
+use ntx_item::PackTo;
 use ntx_num::Size;
 use sqlite_items::Items;
-
-/// The size that a box is packed to ("TeX: The Program", section 645).
-#[derive(Clone, Copy, Debug, PartialEq, Eq)]
-pub enum PackTo {
-    /// This size, in scaled points.
-    Exactly(i64),
-    /// The natural size and this much more, in scaled points.
-    Additional(i64),
-}
 
 /// One command of a document.
 #[derive(Drop)]

@@ -5,9 +5,10 @@ ghost use Rattle.ntx_num.specs.Answer.{Answers, result_map};
 ghost use Rattle.ntx_doc.specs.Text.{fields_of};
 ghost use Rattle.ntx_doc.specs.Document as document;
 
-use crate::command::{Command, PackTo};
+use crate::command::Command;
 use crate::fault::DocWhy;
 use crate::text::{are_plain, next_field, number};
+use ntx_item::PackTo;
 use ntx_num::{Fail, Size, in_range};
 use sqlite_items::Items;
 use std::alloc::Global;

@@ -1,4 +1,5 @@
 use super::*;
+use ntx_item::PackTo;
 use ntx_num::{Fail, Size};
 use std::process::Abort;
 use std::test::Fail as TestFail;
