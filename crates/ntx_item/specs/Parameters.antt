@@ -5,8 +5,9 @@
 --     range_of p                              the least and the greatest value, in scaled points where it is a dimension
 --     IsInRange p v, IsGlueInRange spec       the value, the glue is one that the parameter, each glue parameter may be set to
 --     is_in_range p v, is_glue_in_range spec  the same as tests
-use Rattle.std.specs.Prelude.{ℕ, ◌-◌, ◌^◌, ◌≤◌, nat_le, ℤ, pos, neg_ℤ, ◌≤ℤ◌, int_le, Bool, ◌&&◌, List, [], ◌∷◌, Option, bytes_eq, codes}
+use Rattle.std.specs.Prelude.{ℕ, ◌^◌, ◌≤◌, nat_le, ℤ, pos, neg_ℤ, ◌≤ℤ◌, int_le, Bool, ◌&&◌, List, [], ◌∷◌, Option, bytes_eq, codes}
 use Rattle.std.specs.List.{find}
+use Rattle.ntx_num.specs.Dimension.{max_dimension}
 use Rattle.ntx_item.specs.declared.param.Param.{Param}
 use Rattle.ntx_item.specs.declared.param.Param.TheVariants.{Pretolerance, Tolerance, Linepenalty, Hyphenpenalty, Exhyphenpenalty, Adjdemerits, Doublehyphendemerits, Finalhyphendemerits, Interlinepenalty, Clubpenalty, Widowpenalty, Brokenpenalty, Lefthyphenmin, Righthyphenmin, Hyphenchar, Hsize, Emergencystretch, Parindent, Lineskiplimit}
 use Rattle.ntx_item.specs.declared.glue_param.GlueParam.{GlueParam}
@@ -80,7 +81,7 @@ within most = record { low = neg_ℤ (pos most); high = pos most }
 
 -- TeX's dimensions, in scaled points
 abbrev pub dimensions : Range
-dimensions = within (2 ^ 30 - 1)
+dimensions = within max_dimension
 
 abbrev pub range_of : Param → Range
 range_of Lefthyphenmin = record { low = pos 1; high = pos 63 }

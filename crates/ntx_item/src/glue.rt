@@ -3,10 +3,7 @@
 ghost use Rattle.std.specs.Prelude.{◌≡◌, ◌↔◌, IsTrue};
 ghost use Rattle.ntx_item.specs.Parameters.{IsIn, is_in, dimensions, IsGlueInRange, is_glue_in_range};
 
-use ntx_num::in_range;
-
-/// TeX's largest dimension in scaled points.
-pub const MAX_DIMENSION: i64 = 1_073_741_823;
+use ntx_num::{MAX_DIMENSION, in_range};
 
 /// The greatest order of infinity.
 const MAX_ORDER: u8 = 3;

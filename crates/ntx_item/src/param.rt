@@ -4,8 +4,7 @@ ghost use Rattle.std.specs.Prelude.{◌≡◌, ◌↔◌, IsTrue, Some};
 ghost use Rattle.ntx_item.specs.Parameters.{name_of, param_named, range_of, IsInRange, is_in_range};
 ghost use Rattle.ntx_item.specs.declared.param.Param.{Param};
 
-use crate::glue::MAX_DIMENSION;
-use ntx_num::in_range;
+use ntx_num::{MAX_DIMENSION, in_range};
 
 /// A parameter that is a number. Its name in texts is the variant's in lower case.
 #[derive(Clone, Copy, Debug, PartialEq, Eq)]

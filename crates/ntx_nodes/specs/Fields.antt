@@ -7,6 +7,7 @@
 --     unlinked contents        the same numbers, and no links
 use Rattle.std.specs.Prelude.{ℕ, ◌-◌, ◌^◌, ℤ, pos, negsuc, neg_ℤ, nat_abs, int_le, nat_le, ◌&&◌, if◌then◌else◌, Option, None, Some, Result, Ok, Err}
 use Rattle.ntx_num.specs.Answer.{result_map}
+use Rattle.ntx_num.specs.Dimension.{max_dimension}
 use Rattle.ntx_nodes.specs.declared.kind.Kind.{Kind}
 use Rattle.ntx_nodes.specs.declared.kind.Kind.TheVariants as kind
 use Rattle.ntx_nodes.specs.declared.field.Field.{Field}
@@ -23,10 +24,6 @@ use Rattle.ntx_nodes.specs.declared.fields.Contents.TheVariants as contents
 use Rattle.ntx_nodes.specs.declared.fields.Fields.{Fields}
 use Rattle.ntx_nodes.specs.declared.trouble.Trouble.{Trouble}
 use Rattle.ntx_nodes.specs.declared.trouble.Trouble.TheVariants.{NoField, BadValue}
-
--- TeX's largest dimension in scaled points
-abbrev pub max_dimension : ℕ
-max_dimension = 2 ^ 30 - 1
 
 -- a number from -most to most
 abbrev pub number_within : ℕ → FieldValue → Result ℤ Trouble

@@ -5,7 +5,8 @@ use Rattle.std.specs.Prelude.{◌≡◌, ℕ, ◌-◌, ◌<◌, ◌≤◌, ◌^�
 use Rattle.std.specs.Ordering.{nat_cmp, int_cmp}
 use Rattle.std.specs.FinMap as map
 use Rattle.std.specs.FinSet as set
-use Rattle.ntx_nodes.specs.Fields.{max_dimension, kind_of, last_subtype, field_of}
+use Rattle.ntx_num.specs.Dimension.{max_dimension}
+use Rattle.ntx_nodes.specs.Fields.{kind_of, last_subtype, field_of}
 use Rattle.ntx_nodes.specs.declared.kind.Kind.{Kind}
 use Rattle.ntx_nodes.specs.declared.field.Field.{Field}
 use Rattle.ntx_nodes.specs.declared.field.Field.TheVariants.{Subtype, Width, Height, Depth, Shift, GlueSign, GlueOrder, GlueNum, GlueDen, Stretch, StretchOrder, Shrink, ShrinkOrder, Kern, Penalty, Char, Font}

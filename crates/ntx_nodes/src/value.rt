@@ -4,10 +4,7 @@ ghost use Rattle.std.specs.Prelude.{◌≡◌, ◌≤ℤ◌, pos, nat_abs};
 ghost use Rattle.ntx_nodes.specs.Fields.{number_within, number_to, link, dimension, order};
 
 use crate::{FieldValue, Trouble};
-use ntx_num::in_range;
-
-/// TeX's largest dimension in scaled points ("TeX: The Program", section 421).
-const MAX_DIMENSION: i64 = (1 << 30) - 1;
+use ntx_num::{MAX_DIMENSION, in_range};
 
 /// The number in a value, if it is within `most` in absolute value.
 pub(crate) fn number_within(most: i64, v: FieldValue) -> Result<i64, Trouble>

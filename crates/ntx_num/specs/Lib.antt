@@ -1,4 +1,5 @@
 pub mod Answer
 pub mod Badness
 pub mod Demerits
+pub mod Dimension
 pub mod Ratio

@@ -6,6 +6,7 @@
 #![tactic(auto)]
 
 mod answer;
+mod dimension;
 mod range;
 mod ratio;
 mod shortfall;
@@ -13,6 +14,7 @@ mod size;
 mod squares;
 
 pub use answer::{Fail, NoMemory};
+pub use dimension::MAX_DIMENSION;
 pub use range::in_range;
 pub use ratio::{round_ratio, round_ratio_is_odd};
 pub use shortfall::{badness, badness_grows};

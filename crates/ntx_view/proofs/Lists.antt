@@ -7,7 +7,7 @@ use Rattle.std.specs.FinMap as map'
 use Rattle.std.proofs.lemmas.List.{take_more, map-append, length-take-le}
 use Rattle.std.proofs.lemmas.List.Elements.{filter_map-append, All-nil, All-push, All-weaker}
 use Rattle.std.proofs.lemmas.List.Sums.{sum_by-le, sum_by_push, sum_by_more}
-use Rattle.ntx_nodes.specs.Fields.{max_dimension}
+use Rattle.ntx_num.specs.Dimension.{max_dimension}
 use Rattle.ntx_nodes.specs.Heap.{Heap, max_nodes}
 use Rattle.ntx_nodes.specs.declared.node.Node.{Node}
 use Rattle.ntx_item.specs.declared.item.Item.{Item}

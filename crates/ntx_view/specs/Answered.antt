@@ -1,7 +1,7 @@
 -- What a field's answer holds, and how large it is.
 use Rattle.std.specs.Prelude.{ℕ, ℤ, pos, Bool, Option, None, Result, Ok}
 use Rattle.ntx_num.specs.declared.size.Size.{Size}
-use Rattle.ntx_nodes.specs.Fields.{max_dimension}
+use Rattle.ntx_num.specs.Dimension.{max_dimension}
 use Rattle.ntx_nodes.specs.Heap.{Heap}
 use Rattle.ntx_item.specs.declared.item.Item.{Item}
 use Rattle.ntx_item.specs.declared.item.Item.TheVariants.{Disc}

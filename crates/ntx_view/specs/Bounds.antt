@@ -5,7 +5,7 @@
 --     AreModest               items that are together no larger than the nodes of these names can make them
 use Rattle.std.specs.Prelude.{ℕ, ◌+◌, ◌*◌, ◌≤◌, List, length, Option, None, Some, All, sum_by}
 use Rattle.std.specs.FinMap as fin
-use Rattle.ntx_nodes.specs.Fields.{max_dimension}
+use Rattle.ntx_num.specs.Dimension.{max_dimension}
 use Rattle.ntx_nodes.specs.Heap.{Heap}
 use Rattle.ntx_nodes.specs.Walk.{flat_walk}
 use Rattle.ntx_nodes.specs.declared.fields.Contents.{Contents}

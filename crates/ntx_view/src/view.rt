@@ -4,7 +4,7 @@ ghost use Rattle.std.specs.Prelude.{◌≡◌, ◌≤◌, ◌*◌, ◌+◌, ◌+
 ghost use Rattle.std.specs.Option.{option_map, option_to_list};
 ghost use Rattle.std.specs.FinMap as fin;
 ghost use Rattle.ntx_num.specs.Answer.{Gives, Answers, result_map};
-ghost use Rattle.ntx_nodes.specs.Fields.{max_dimension};
+ghost use Rattle.ntx_num.specs.Dimension.{max_dimension};
 ghost use Rattle.ntx_nodes.specs.Heap.{max_nodes};
 ghost use Rattle.ntx_nodes.specs.Walk.{flat_walk};
 ghost use Rattle.ntx_item.specs.Items.{AreItemsInRange};

@@ -1,7 +1,7 @@
 -- proofs/view/part_size/Answers.antt
 use Rattle.std.proofs.Common.{◌≤◌, ◌*◌, subst, sym, arith}
 use Rattle.std.specs.List.{sum_by}
-use Rattle.ntx_nodes.specs.Fields.{max_dimension}
+use Rattle.ntx_num.specs.Dimension.{max_dimension}
 use Rattle.ntx_item.specs.Items.{AreItemsInRange, absolute_width}
 use Rattle.ntx_view.specs.Bounds.{list_length}
 use Rattle.ntx_view.proofs.Lists.{modest_in_range, modest_width}
