@@ -1,0 +1,182 @@
+//! Copying lists.
+
+use crate::links::{Inner, inner_lists, visit_tree};
+use crate::survey::following;
+use ntx_nodes::{Field, FieldValue, Kind, ListKind, Nodes, Trouble, Way, visit_list};
+use ntx_num::Fail;
+use std::alloc::Global;
+
+/// Lists lie no deeper inside one another.
+const MAX_DEPTH: u64 = 100;
+
+/// Copies all that the list at a head reaches, one node after another in the order of the walk, with no links yet, where a
+/// walk has come to its end before. It stops at the first copy that cannot be made.
+fn make_list<N: Nodes>(nodes: &mut N, head: Option<u64>, depth: u64) -> Result<(), Fail<Trouble>> {
+    let mut at = head;
+    while let Some(n) = at {
+        if depth > MAX_DEPTH {
+            return Err(Fail::Is(Trouble::Nest));
+        }
+        let lists = inner_lists(nodes, n);
+        at = following(nodes, n);
+        nodes.lawful();
+        nodes.copy_one(n)?;
+        make_list(nodes, lists.first, depth + 1)?;
+        make_list(nodes, lists.second, depth + 1)?;
+        make_list(nodes, lists.third, depth + 1)?;
+    }
+    Ok(())
+}
+
+/// Frees the nodes from a name on, one name after another, as far as they are live.
+fn free_run<N: Nodes>(nodes: &mut N, first: u64) {
+    let mut n = first;
+    nodes.lawful();
+    while let Ok(()) = nodes.free_one(n) {
+        nodes.lawful();
+        n += 1;
+    }
+}
+
+/// Sets the links of a node.
+fn set_links<N: Nodes>(
+    nodes: &mut N,
+    n: u64,
+    lists: Inner,
+    next: Option<u64>,
+) -> Result<(), Trouble> {
+    match nodes.kind_of(n)? {
+        (Kind::Hlist | Kind::Vlist, _) => {
+            nodes.set(n, Field::List, FieldValue::Link(lists.first))?;
+        }
+        (Kind::Disc, _) => {
+            nodes.set(n, Field::Pre, FieldValue::Link(lists.first))?;
+            nodes.set(n, Field::Post, FieldValue::Link(lists.second))?;
+            nodes.set(n, Field::Replace, FieldValue::Link(lists.third))?;
+        }
+        _ => {}
+    }
+    nodes.set(n, Field::Next, FieldValue::Link(next))
+}
+
+/// The link to a copy, where there is something that was copied.
+fn link_to(to: Option<u64>, copy: u64) -> Option<u64> {
+    match to {
+        Some(_) => Some(copy),
+        None => None,
+    }
+}
+
+/// Links the copies of all that the list at a head reaches, whose names follow one another from `first` on, as the nodes
+/// themselves are linked. Gives the name after the last.
+fn link_list<N: Nodes>(nodes: &mut N, head: Option<u64>, depth: u64, first: u64) -> u64 {
+    let mut at = head;
+    let mut copy = first;
+    while let Some(n) = at {
+        nodes.lawful();
+        if depth > MAX_DEPTH || nodes.kind_of(copy).is_err() {
+            return copy;
+        }
+        let lists = inner_lists(nodes, n);
+        at = following(nodes, n);
+        let second = link_list(nodes, lists.first, depth + 1, copy + 1);
+        let third = link_list(nodes, lists.second, depth + 1, second);
+        let after = link_list(nodes, lists.third, depth + 1, third);
+        let copies = Inner {
+            first: link_to(lists.first, copy + 1),
+            second: link_to(lists.second, second),
+            third: link_to(lists.third, third),
+        };
+        match set_links(nodes, copy, copies, link_to(at, after)) {
+            Ok(()) => {}
+            Err(_) => return copy,
+        }
+        copy = after;
+    }
+    copy
+}
+
+/// Copies what lies in a node and what follows it, with no links yet, after the node itself.
+fn make_rest<N: Nodes>(
+    nodes: &mut N,
+    lists: Inner,
+    next: Option<u64>,
+) -> Result<(), Fail<Trouble>> {
+    make_list(nodes, lists.first, 1)?;
+    make_list(nodes, lists.second, 1)?;
+    make_list(nodes, lists.third, 1)?;
+    make_list(nodes, next, 0)
+}
+
+/// Links the copies that `make_rest` made after `first`, and that one.
+fn link_rest<N: Nodes>(
+    nodes: &mut N,
+    lists: Inner,
+    next: Option<u64>,
+    first: u64,
+) -> Result<(), Trouble> {
+    let second = link_list(nodes, lists.first, 1, first + 1);
+    let third = link_list(nodes, lists.second, 1, second);
+    let after = link_list(nodes, lists.third, 1, third);
+    let copies = Inner {
+        first: link_to(lists.first, first + 1),
+        second: link_to(lists.second, second),
+        third: link_to(lists.third, third),
+    };
+    set_links(nodes, first, copies, link_to(next, after))?;
+    link_list(nodes, next, 0, after);
+    Ok(())
+}
+
+/// Copies a node with its inner lists and the list `next`, where a walk has come to its end before, and gives the name of
+/// the node's copy. Where a copy cannot be made, those before it are freed again.
+fn copy_node<N: Nodes>(nodes: &mut N, n: u64, next: Option<u64>) -> Result<u64, Fail<Trouble>> {
+    let lists = inner_lists(nodes, n);
+    nodes.lawful();
+    let first = nodes.copy_one(n)?;
+    match make_rest(nodes, lists, next) {
+        Ok(()) => {
+            link_rest(nodes, lists, next, first).map_err(Fail::Is)?;
+            Ok(first)
+        }
+        Err(why) => {
+            free_run(nodes, first);
+            Err(why)
+        }
+    }
+}
+
+/// Copies all that the list at a head reaches, with the lists inside it, and gives the copy of the head. The copies take one
+/// name after another, in the order of the walk. A link that the walk followed leads from copy to copy, and a copy has no
+/// other link. Takes memory for the copies alone.
+///
+/// At each node it refuses with Stale where it is dead, Loop where the walk reached it before, and Nest at depth 101, in
+/// this order, and makes nothing then; and else with NodesFull and NamesOut at the first copy that cannot be made. What was
+/// made until then is freed again, also where memory runs out, and its names are not given a second time.
+pub fn copy_list<N: Nodes>(
+    _alloc: Global,
+    nodes: &mut N,
+    head: Option<u64>,
+) -> Result<Option<u64>, Fail<Trouble>> {
+    match visit_list(nodes, Way::Plain, head, ListKind::H) {
+        Ok(()) => {}
+        Err(why) => return Err(Fail::Is(why)),
+    }
+    match head {
+        Some(n) => {
+            let next = following(nodes, n);
+            Ok(Some(copy_node(nodes, n, next)?))
+        }
+        None => Ok(None),
+    }
+}
+
+/// Copies a node with its inner lists, without what follows it, and gives its copy, which nothing follows. Refuses as
+/// `copy_list`.
+pub fn copy_tree<N: Nodes>(_alloc: Global, nodes: &mut N, n: u64) -> Result<u64, Fail<Trouble>> {
+    match visit_tree(nodes, n) {
+        Ok(()) => {}
+        Err(why) => return Err(Fail::Is(why)),
+    }
+    copy_node(nodes, n, None)
+}
