@@ -1,5 +1,10 @@
 //! Copying lists.
 
+ghost use Rattle.std.specs.Prelude.{◌≡◌, ◌+◌, ◌≤◌, ◌<◌, ◌^◌};
+ghost use Rattle.ntx_nodes.specs.Walk.{max_depth, plain_walk, tree_walk};
+ghost use Rattle.ntx_lists.specs.Copies.{copy_list_step, copy_tree_step, Copies};
+ghost use Rattle.ntx_lists.specs.Copying.{Makes, MakesRest, FreesRun, SetsLink, SetsParts, SetsLists, SetsLinks, link_to, Links, LinksRest};
+
 use crate::links::{Inner, inner_lists, visit_tree};
 use crate::survey::following;
 use ntx_nodes::{Field, FieldValue, Kind, ListKind, Nodes, Trouble, Way, visit_list};
@@ -11,7 +16,11 @@ const MAX_DEPTH: u64 = 100;
 
 /// Copies all that the list at a head reaches, one node after another in the order of the walk, with no links yet, where a
 /// walk has come to its end before. It stops at the first copy that cannot be made.
-fn make_list<N: Nodes>(nodes: &mut N, head: Option<u64>, depth: u64) -> Result<(), Fail<Trouble>> {
+fn make_list<N: Nodes>(nodes: &mut N, head: Option<u64>, depth: u64) -> Result<(), Fail<Trouble>>
+    requires { depth ≤ max_depth + 1 }
+    ensures makes { Makes (N.heap nodes.old) (N.heap nodes.new) head depth result }
+    ensures grows { (N.heap nodes.old).next ≤ (N.heap nodes.new).next }
+{
     let mut at = head;
     while let Some(n) = at {
         if depth > MAX_DEPTH {
@@ -29,7 +38,9 @@ fn make_list<N: Nodes>(nodes: &mut N, head: Option<u64>, depth: u64) -> Result<(
 }
 
 /// Frees the nodes from a name on, one name after another, as far as they are live.
-fn free_run<N: Nodes>(nodes: &mut N, first: u64) {
+fn free_run<N: Nodes>(nodes: &mut N, first: u64)
+    ensures { FreesRun (N.heap nodes.old) (N.heap nodes.new) first }
+{
     let mut n = first;
     nodes.lawful();
     while let Ok(()) = nodes.free_one(n) {
@@ -38,29 +49,49 @@ fn free_run<N: Nodes>(nodes: &mut N, first: u64) {
     }
 }
 
-/// Sets the links of a node.
-fn set_links<N: Nodes>(
-    nodes: &mut N,
-    n: u64,
-    lists: Inner,
-    next: Option<u64>,
-) -> Result<(), Trouble> {
-    match nodes.kind_of(n)? {
-        (Kind::Hlist | Kind::Vlist, _) => {
-            nodes.set(n, Field::List, FieldValue::Link(lists.first))?;
-        }
-        (Kind::Disc, _) => {
-            nodes.set(n, Field::Pre, FieldValue::Link(lists.first))?;
-            nodes.set(n, Field::Post, FieldValue::Link(lists.second))?;
-            nodes.set(n, Field::Replace, FieldValue::Link(lists.third))?;
-        }
+/// Sets a link of a node, where it has one, to a live node or to nothing.
+fn set_link<N: Nodes>(nodes: &mut N, n: u64, f: Field, to: Option<u64>)
+    ensures sets { SetsLink (N.heap nodes.old) (N.heap nodes.new) n f to }
+    ensures names { (N.heap nodes.new).next ≡ (N.heap nodes.old).next }
+{
+    let _done = nodes.set(n, f, FieldValue::Link(to));
+}
+
+/// Sets the lists of a discretionary.
+fn set_parts<N: Nodes>(nodes: &mut N, n: u64, lists: Inner)
+    ensures sets { SetsParts (N.heap nodes.old) (N.heap nodes.new) n lists }
+    ensures names { (N.heap nodes.new).next ≡ (N.heap nodes.old).next }
+{
+    set_link(nodes, n, Field::Pre, lists.first);
+    set_link(nodes, n, Field::Post, lists.second);
+    set_link(nodes, n, Field::Replace, lists.third);
+}
+
+/// Sets the inner lists of a node, as many as it has.
+fn set_lists<N: Nodes>(nodes: &mut N, n: u64, lists: Inner)
+    ensures sets { SetsLists (N.heap nodes.old) (N.heap nodes.new) n lists }
+    ensures names { (N.heap nodes.new).next ≡ (N.heap nodes.old).next }
+{
+    match nodes.kind_of(n) {
+        Ok((Kind::Hlist | Kind::Vlist, _)) => set_link(nodes, n, Field::List, lists.first),
+        Ok((Kind::Disc, _)) => set_parts(nodes, n, lists),
         _ => {}
     }
-    nodes.set(n, Field::Next, FieldValue::Link(next))
+}
+
+/// Sets the inner lists of a node, and what follows it.
+fn set_links<N: Nodes>(nodes: &mut N, n: u64, lists: Inner, next: Option<u64>)
+    ensures sets { SetsLinks (N.heap nodes.old) (N.heap nodes.new) n lists next }
+    ensures names { (N.heap nodes.new).next ≡ (N.heap nodes.old).next }
+{
+    set_lists(nodes, n, lists);
+    set_link(nodes, n, Field::Next, next);
 }
 
 /// The link to a copy, where there is something that was copied.
-fn link_to(to: Option<u64>, copy: u64) -> Option<u64> {
+fn link_to(to: Option<u64>, copy: u64) -> Option<u64>
+    ensures { result ≡ link_to to copy }
+{
     match to {
         Some(_) => Some(copy),
         None => None,
@@ -69,7 +100,12 @@ fn link_to(to: Option<u64>, copy: u64) -> Option<u64> {
 
 /// Links the copies of all that the list at a head reaches, whose names follow one another from `first` on, as the nodes
 /// themselves are linked. Gives the name after the last.
-fn link_list<N: Nodes>(nodes: &mut N, head: Option<u64>, depth: u64, first: u64) -> u64 {
+fn link_list<N: Nodes>(nodes: &mut N, head: Option<u64>, depth: u64, first: u64) -> u64
+    requires { depth ≤ max_depth + 1 }
+    ensures links { Links (N.heap nodes.old) (N.heap nodes.new) head depth first result }
+    ensures further { first ≤ result }
+    ensures names { (N.heap nodes.new).next ≡ (N.heap nodes.old).next }
+{
     let mut at = head;
     let mut copy = first;
     while let Some(n) = at {
@@ -87,10 +123,7 @@ fn link_list<N: Nodes>(nodes: &mut N, head: Option<u64>, depth: u64, first: u64)
             second: link_to(lists.second, second),
             third: link_to(lists.third, third),
         };
-        match set_links(nodes, copy, copies, link_to(at, after)) {
-            Ok(()) => {}
-            Err(_) => return copy,
-        }
+        set_links(nodes, copy, copies, link_to(at, after));
         copy = after;
     }
     copy
@@ -101,7 +134,9 @@ fn make_rest<N: Nodes>(
     nodes: &mut N,
     lists: Inner,
     next: Option<u64>,
-) -> Result<(), Fail<Trouble>> {
+) -> Result<(), Fail<Trouble>>
+    ensures { MakesRest (N.heap nodes.old) (N.heap nodes.new) lists next result }
+{
     make_list(nodes, lists.first, 1)?;
     make_list(nodes, lists.second, 1)?;
     make_list(nodes, lists.third, 1)?;
@@ -109,12 +144,10 @@ fn make_rest<N: Nodes>(
 }
 
 /// Links the copies that `make_rest` made after `first`, and that one.
-fn link_rest<N: Nodes>(
-    nodes: &mut N,
-    lists: Inner,
-    next: Option<u64>,
-    first: u64,
-) -> Result<(), Trouble> {
+fn link_rest<N: Nodes>(nodes: &mut N, lists: Inner, next: Option<u64>, first: u64)
+    requires { first < 2 ^ 48 }
+    ensures links { LinksRest (N.heap nodes.old) (N.heap nodes.new) lists next first }
+{
     let second = link_list(nodes, lists.first, 1, first + 1);
     let third = link_list(nodes, lists.second, 1, second);
     let after = link_list(nodes, lists.third, 1, third);
@@ -123,9 +156,8 @@ fn link_rest<N: Nodes>(
         second: link_to(lists.second, second),
         third: link_to(lists.third, third),
     };
-    set_links(nodes, first, copies, link_to(next, after))?;
+    set_links(nodes, first, copies, link_to(next, after));
     link_list(nodes, next, 0, after);
-    Ok(())
 }
 
 /// Copies a node with its inner lists and the list `next`, where a walk has come to its end before, and gives the name of
@@ -136,7 +168,7 @@ fn copy_node<N: Nodes>(nodes: &mut N, n: u64, next: Option<u64>) -> Result<u64, 
     let first = nodes.copy_one(n)?;
     match make_rest(nodes, lists, next) {
         Ok(()) => {
-            link_rest(nodes, lists, next, first).map_err(Fail::Is)?;
+            link_rest(nodes, lists, next, first);
             Ok(first)
         }
         Err(why) => {
@@ -157,7 +189,9 @@ pub fn copy_list<N: Nodes>(
     _alloc: Global,
     nodes: &mut N,
     head: Option<u64>,
-) -> Result<Option<u64>, Fail<Trouble>> {
+) -> Result<Option<u64>, Fail<Trouble>>
+    ensures copies { Copies result (N.heap nodes.old) (N.heap nodes.new) (plain_walk (N.heap nodes.old) head) (copy_list_step head (N.heap nodes.old)) }
+{
     match visit_list(nodes, Way::Plain, head, ListKind::H) {
         Ok(()) => {}
         Err(why) => return Err(Fail::Is(why)),
@@ -173,7 +207,9 @@ pub fn copy_list<N: Nodes>(
 
 /// Copies a node with its inner lists, without what follows it, and gives its copy, which nothing follows. Refuses as
 /// `copy_list`.
-pub fn copy_tree<N: Nodes>(_alloc: Global, nodes: &mut N, n: u64) -> Result<u64, Fail<Trouble>> {
+pub fn copy_tree<N: Nodes>(_alloc: Global, nodes: &mut N, n: u64) -> Result<u64, Fail<Trouble>>
+    ensures copies { Copies result (N.heap nodes.old) (N.heap nodes.new) (tree_walk (N.heap nodes.old) n) (copy_tree_step n (N.heap nodes.old)) }
+{
     match visit_tree(nodes, n) {
         Ok(()) => {}
         Err(why) => return Err(Fail::Is(why)),
