@@ -120,9 +120,9 @@ nodes_len old copy first (n ∷ ns) nodes new live =
     let here : is_some (map.get old n) ≡ true = live n (ap (λ b. b || is_reached ns n) (nat_eq_same n)) in
     let one : map.len (with_found first (copy n) nodes (map.get old n)) ≡ map.len nodes + 1 = found_len first (copy n) nodes (map.get old n) (new first (omega arith)) here in
     let rest : map.len (nodes_with old copy (first + 1) ns (with_found first (copy n) nodes (map.get old n))) ≡ map.len (with_found first (copy n) nodes (map.get old n)) + length ns =
-        nodes_len old copy (first + 1) ns (with_found first (copy n) nodes (map.get old n))
-        (λ q h. found_above first (copy n) nodes (map.get old n) q (omega arith) ∙ new q (omega arith))
-        (λ m e. live m (or_right (nat_eq m n) (is_reached ns m) e)) in
+    nodes_len old copy (first + 1) ns (with_found first (copy n) nodes (map.get old n))
+    (λ q h. found_above first (copy n) nodes (map.get old n) q (omega arith) ∙ new q (omega arith))
+    (λ m e. live m (or_right (nat_eq m n) (is_reached ns m) e)) in
     omega arith
 
 pub copies_len : (heap : Heap) (copy : Copier) (names : List ℕ) → IsLawful heap → AllLive heap names → map.len (with_copies heap copy names).nodes ≡ map.len heap.nodes + length names

@@ -4,3 +4,7 @@ pub mod Trees
 pub mod Changes
 pub mod CopyMaps
 pub mod Making
+pub mod FreedRuns
+pub mod Relinks
+pub mod CopyNames
+pub mod Linking

@@ -4,16 +4,18 @@
 --     HasFreed         what freeing one node after another leaves
 --     SetsLink, SetsParts, SetsLists, SetsLinks      what setting the links of a node does
 --     Linkable, Linked, Links, LinksRest      what linking the copies of a list needs, and what it leaves
-use Rattle.std.specs.Prelude.{◌≡◌, ◌≤◌, ◌<◌, ℕ, ◌+◌, List, [], ◌∷◌, ◌++◌, length, Option, None, Some, Result, Ok, Err, true, false}
+use Rattle.std.specs.Prelude.{◌≡◌, ◌≤◌, ◌<◌, ℕ, ◌+◌, List, [], ◌∷◌, ◌++◌, length, Option, None, Some, Result, Ok, Err, Bool, true, false}
 use Rattle.std.specs.Option.{option_map}
 use Rattle.std.specs.FinMap as map
 use Rattle.ntx_num.specs.declared.answer.Fail.{Fail}
 use Rattle.ntx_num.specs.declared.answer.Fail.TheVariants.{NoMemory, Is}
 use Rattle.ntx_nodes.specs.Heap.{Heap, IsLawful, is_live}
-use Rattle.ntx_nodes.specs.Fields.{with_field}
+use Rattle.ntx_nodes.specs.Fields.{kind_of, with_field}
 use Rattle.ntx_nodes.specs.Steps.{put, put_fields, copy_of, next_name}
 use Rattle.ntx_nodes.specs.Walk.{is_reached}
 use Rattle.ntx_nodes.specs.Walker.{whole_walk}
+use Rattle.ntx_nodes.specs.declared.kind.Kind.{Kind}
+use Rattle.ntx_nodes.specs.declared.kind.Kind.TheVariants as kind
 use Rattle.ntx_nodes.specs.declared.kind.ListKind.TheVariants.{H}
 use Rattle.ntx_nodes.specs.declared.kind.Way.TheVariants.{Plain}
 use Rattle.ntx_nodes.specs.declared.contents.DiscFields.{DiscFields}
@@ -92,6 +94,20 @@ AreLiveLists heap lists = IsLiveLink heap lists.first × IsLiveLink heap lists.s
 -- The lists of a discretionary
 abbrev pub SetsParts : Heap → Heap → ℕ → Inner → Type 0
 SetsParts old new n lists = (node : Node) (d : DiscFields) → map.get old.nodes n ≡ Some node → node.fields.contents ≡ contents.Disc d → AreLiveLists old lists → new ≡ put old n (relinked node lists node.fields.next)
+
+-- whether a node of this kind holds one list, or three
+abbrev pub is_box : Kind → Bool
+is_box kind.Hlist = true
+is_box kind.Vlist = true
+is_box _ = false
+
+abbrev pub is_disc : Kind → Bool
+is_disc kind.Disc = true
+is_disc _ = false
+
+-- or of a live node of this kind,
+abbrev pub SetsListsOf : Heap → Heap → ℕ → Kind → Inner → Type 0
+SetsListsOf old new n k lists = (node : Node) → map.get old.nodes n ≡ Some node → kind_of node.fields.contents ≡ k → AreLiveLists old lists → new ≡ put old n (relinked node lists node.fields.next)
 
 -- or of any live node are set,
 abbrev pub SetsLists : Heap → Heap → ℕ → Inner → Type 0

@@ -3,7 +3,7 @@
 ghost use Rattle.std.specs.Prelude.{◌≡◌, ◌+◌, ◌≤◌, ◌<◌, ◌^◌};
 ghost use Rattle.ntx_nodes.specs.Walk.{max_depth, plain_walk, tree_walk};
 ghost use Rattle.ntx_lists.specs.Copies.{copy_list_step, copy_tree_step, Copies};
-ghost use Rattle.ntx_lists.specs.Copying.{Makes, MakesRest, FreesRun, SetsLink, SetsParts, SetsLists, SetsLinks, link_to, Links, LinksRest};
+ghost use Rattle.ntx_lists.specs.Copying.{Makes, MakesRest, FreesRun, SetsLink, SetsParts, SetsListsOf, SetsLists, is_box, is_disc, SetsLinks, link_to, Links, LinksRest};
 
 use crate::links::{Inner, inner_lists, visit_tree};
 use crate::survey::following;
@@ -67,15 +67,39 @@ fn set_parts<N: Nodes>(nodes: &mut N, n: u64, lists: Inner)
     set_link(nodes, n, Field::Replace, lists.third);
 }
 
+/// Whether a node of this kind holds one list.
+fn is_box(kind: Kind) -> bool
+    ensures { result ≡ is_box kind }
+{
+    matches!(kind, Kind::Hlist | Kind::Vlist)
+}
+
+/// Whether a node of this kind holds three lists.
+fn is_disc(kind: Kind) -> bool
+    ensures { result ≡ is_disc kind }
+{
+    matches!(kind, Kind::Disc)
+}
+
+/// Sets the inner lists of a node of this kind, as many as it has.
+fn set_lists_of<N: Nodes>(nodes: &mut N, n: u64, kind: Kind, lists: Inner)
+    ensures sets { SetsListsOf (N.heap nodes.old) (N.heap nodes.new) n kind lists }
+    ensures names { (N.heap nodes.new).next ≡ (N.heap nodes.old).next }
+{
+    if is_box(kind) {
+        set_link(nodes, n, Field::List, lists.first);
+    } else if is_disc(kind) {
+        set_parts(nodes, n, lists);
+    }
+}
+
 /// Sets the inner lists of a node, as many as it has.
 fn set_lists<N: Nodes>(nodes: &mut N, n: u64, lists: Inner)
     ensures sets { SetsLists (N.heap nodes.old) (N.heap nodes.new) n lists }
     ensures names { (N.heap nodes.new).next ≡ (N.heap nodes.old).next }
 {
-    match nodes.kind_of(n) {
-        Ok((Kind::Hlist | Kind::Vlist, _)) => set_link(nodes, n, Field::List, lists.first),
-        Ok((Kind::Disc, _)) => set_parts(nodes, n, lists),
-        _ => {}
+    if let Ok((kind, _)) = nodes.kind_of(n) {
+        set_lists_of(nodes, n, kind, lists);
     }
 }
 
@@ -130,11 +154,7 @@ fn link_list<N: Nodes>(nodes: &mut N, head: Option<u64>, depth: u64, first: u64)
 }
 
 /// Copies what lies in a node and what follows it, with no links yet, after the node itself.
-fn make_rest<N: Nodes>(
-    nodes: &mut N,
-    lists: Inner,
-    next: Option<u64>,
-) -> Result<(), Fail<Trouble>>
+fn make_rest<N: Nodes>(nodes: &mut N, lists: Inner, next: Option<u64>) -> Result<(), Fail<Trouble>>
     ensures { MakesRest (N.heap nodes.old) (N.heap nodes.new) lists next result }
 {
     make_list(nodes, lists.first, 1)?;
