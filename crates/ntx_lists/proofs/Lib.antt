@@ -8,3 +8,4 @@ pub mod FreedRuns
 pub mod Relinks
 pub mod CopyNames
 pub mod Linking
+pub mod CopyEnds

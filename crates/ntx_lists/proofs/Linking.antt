@@ -2,20 +2,23 @@
 use Rattle.std.proofs.Common.{◌≡◌, ℕ, ◌+◌, ◌≤◌, ◌<◌, length, List, [], ◌∷◌, ◌++◌, true, false, Some, None, Ok, refl, sym, ◌∙◌, ap, subst, append_assoc, append-nil, inl, inr, arith}
 use Rattle.std.specs.Prelude.{Option, Result, is_some}
 use Rattle.std.specs.Option.{option_and_then}
+use Rattle.std.specs.Result.{is_err}
 use Rattle.std.specs.Ordering.{nat_cmp}
 use Rattle.std.specs.Cmp.{nat_cmp_total}
 use Rattle.std.specs.FinMap as map
 use Rattle.std.proofs.lemmas.Bool.{cases_lt}
 use Rattle.ntx_nodes.specs.Heap.{Heap, IsLawful, is_live}
-use Rattle.ntx_nodes.specs.Steps.{put, copy_of}
-use Rattle.ntx_nodes.specs.Fields.{unlinked}
+use Rattle.ntx_nodes.specs.Steps.{of_found, put, copy_of, kind_answer}
+use Rattle.ntx_nodes.specs.Fields.{kind_of, unlinked}
 use Rattle.ntx_nodes.specs.Walk.{is_reached, max_depth}
 use Rattle.ntx_nodes.specs.Walker.{whole_walk}
 use Rattle.ntx_nodes.specs.declared.fields.Contents.{Contents}
 use Rattle.ntx_nodes.specs.declared.fields.Contents.TheVariants as contents
+use Rattle.ntx_nodes.specs.declared.kind.Kind.{Kind}
 use Rattle.ntx_nodes.specs.declared.kind.ListKind.TheVariants.{H}
 use Rattle.ntx_nodes.specs.declared.kind.Way.TheVariants.{Plain}
 use Rattle.ntx_nodes.specs.declared.node.Node.{Node}
+use Rattle.ntx_nodes.specs.declared.trouble.Trouble.{Trouble}
 use Rattle.ntx_nodes.proofs.Turns.{passes, Extends, extends_on}
 use Rattle.ntx_nodes.proofs.WalkSteps.{whole_None}
 use Rattle.ntx_lists.specs.Lists.{next_of}
@@ -322,6 +325,14 @@ links_deep old h new head at n depth first c last links comes deep whole copy al
     let x = found whole copy all before f.0 names old h first n depth c k (subst (λ o. whole_walk whole Plain f.0 o depth H ≡ Ok names) comes f.1) f.2 f.3 f.4 in
     let shallow : depth ≤ max_depth = x.shallow in
     absurd (omega arith)
+
+-- a node that is not found
+pub not_found : (heap : Heap) (n : ℕ) (r : Result (Kind × ℕ) Trouble) → true ≡ is_err r → r ≡ kind_answer n heap → map.get heap.nodes n ≡ None
+not_found heap n r e is =
+    elim (map.get heap.nodes n) as (λ o. true ≡ is_err (of_found {A = Kind × ℕ} n (λ (node : Node). Ok (kind_of node.fields.contents, node.fields.subtype)) o) → o ≡ None) [
+      | None ↦ λ _. refl
+      | Some node ↦ λ x. cc
+    ] (e ∙ ap is_err is)
 
 pub links_missing : (old h new : Heap) (head at : Option ℕ) (n depth first c last : ℕ) → LinksOn old h head at depth first c → at ≡ Some n → map.get h.nodes c ≡ None → Links old new head depth first last
 links_missing old h new head at n depth first c last links comes missing whole copy all before names k e =

@@ -99,7 +99,7 @@ here whole h mid at n depth names lawful is comes e =
       shallow = p.shallow;
     }
 
-one_made : (whole h h1 : Heap) (mid : List ℕ) (n c : ℕ) (node : Node) → h ≡ bare whole mid → map.get whole.nodes n ≡ Some node → map.get h.nodes n ≡ Some node → copy_one_step n h ≡ Ok (c, h1) → h1 ≡ bare whole (mid ++ n ∷ [])
+pub one_made : (whole h h1 : Heap) (mid : List ℕ) (n c : ℕ) (node : Node) → h ≡ bare whole mid → map.get whole.nodes n ≡ Some node → map.get h.nodes n ≡ Some node → copy_one_step n h ≡ Ok (c, h1) → h1 ≡ bare whole (mid ++ n ∷ [])
 one_made whole h h1 mid n c node is live there e =
     sym (copied_is h h1 n c node there e).1
     ∙ ap (λ (x : Heap). record { next = x.next + 1; nodes = map.insert x.nodes x.next (copy_of node); current = x.current }) is
@@ -149,7 +149,7 @@ made_later whole new a b NoMemory x s = stops_later whole new a b x s
 stops_here : (whole h h1 : Heap) (mid : List ℕ) (n : ℕ) (names : List ℕ) → h ≡ bare whole mid → Extends (mid ++ n ∷ []) names → h1 ≡ h → Stops whole h1 names
 stops_here whole h h1 mid n names is x same = record { made = mid; n = n; rest = x.more; is = x.is ∙ append_assoc mid (n ∷ []) x.more; left = same ∙ is }
 
-copy_refused : (whole h h1 : Heap) (mid : List ℕ) (n : ℕ) (names : List ℕ) (node : Node) (e : Fail Trouble) → h ≡ bare whole mid → Extends (mid ++ n ∷ []) names → map.get h.nodes n ≡ Some node → Steps {A = ℕ} (Err e) h h1 (copy_one_step n h) → Made whole names h1 (Err e)
+pub copy_refused : (whole h h1 : Heap) (mid : List ℕ) (n : ℕ) (names : List ℕ) (node : Node) (e : Fail Trouble) → h ≡ bare whole mid → Extends (mid ++ n ∷ []) names → map.get h.nodes n ≡ Some node → Steps {A = ℕ} (Err e) h h1 (copy_one_step n h) → Made whole names h1 (Err e)
 copy_refused whole h h1 mid n names node (Is why) is x there s = (stops_here whole h h1 mid n names is x s.1, ap next_name s.1 ∙ refused_is h n node why there s.0)
 copy_refused whole h h1 mid n names node NoMemory is x there s = stops_here whole h h1 mid n names is x s
 

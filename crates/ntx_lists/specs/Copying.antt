@@ -4,6 +4,7 @@
 --     HasFreed         what freeing one node after another leaves
 --     SetsLink, SetsParts, SetsLists, SetsLinks      what setting the links of a node does
 --     Linkable, Linked, Links, LinksRest      what linking the copies of a list needs, and what it leaves
+--     LeavesCopies, CopiesNode      all of it
 use Rattle.std.specs.Prelude.{◌≡◌, ◌≤◌, ◌<◌, ℕ, ◌+◌, List, [], ◌∷◌, ◌++◌, length, Option, None, Some, Result, Ok, Err, Bool, true, false}
 use Rattle.std.specs.Option.{option_map}
 use Rattle.std.specs.FinMap as map
@@ -26,7 +27,7 @@ use Rattle.ntx_nodes.specs.declared.fields.Fields.{Fields}
 use Rattle.ntx_nodes.specs.declared.node.Node.{Node}
 use Rattle.ntx_nodes.specs.declared.trouble.Trouble.{Trouble}
 use Rattle.ntx_lists.specs.Survey.{IsLiveLink}
-use Rattle.ntx_lists.specs.Copies.{relinked, copy_before, list_copy, with_copies}
+use Rattle.ntx_lists.specs.Copies.{relinked, copy_before, list_copy, with_copies, moved_on, room, why_no_more}
 use Rattle.ntx_lists.specs.Trees.{inner_of}
 use Rattle.ntx_lists.specs.declared.links.Inner.{Inner}
 
@@ -151,3 +152,18 @@ LinksRest old new lists next first =
     → copy n node ≡ copy_before whole.next all next node → ((m : ℕ) (other : Node) → is_reached (n ∷ []) m ≡ false → copy m other ≡ list_copy whole.next all m other)
     → whole_walk whole Plain (n ∷ []) lists.first 1 H ≡ Ok one → whole_walk whole Plain one lists.second 1 H ≡ Ok two → whole_walk whole Plain two lists.third 1 H ≡ Ok three → whole_walk whole Plain three next 0 H ≡ Ok all
     → new ≡ with_copies whole copy all
+
+-- ---- both
+-- All copies of these names, or what is left where they are gone again.
+abbrev pub LeavesCopies : Heap → Heap → (ℕ → Node → Node) → List ℕ → Result ℕ (Fail Trouble) → Type 0
+LeavesCopies old new copy names (Ok first) = (first ≡ old.next) × (length names ≤ room old) × (new ≡ with_copies old copy names)
+LeavesCopies old new copy names (Err (Is why)) = (room old < length names) × (why ≡ why_no_more old) × (new ≡ moved_on old (room old))
+LeavesCopies old new copy names (Err NoMemory) = (made : ℕ) × (made < length names) × (new ≡ moved_on old made)
+
+-- A node is copied with its inner lists and what is to follow it.
+abbrev pub CopiesNode : Heap → Heap → ℕ → Option ℕ → Result ℕ (Fail Trouble) → Type 0
+CopiesNode old new n next result =
+    (copy : ℕ → Node → Node) (node : Node) (one two three names : List ℕ) → map.get old.nodes n ≡ Some node
+    → copy n node ≡ copy_before old.next names next node → ((m : ℕ) (other : Node) → is_reached (n ∷ []) m ≡ false → copy m other ≡ list_copy old.next names m other)
+    → whole_walk old Plain (n ∷ []) (inner_of node.fields.contents).first 1 H ≡ Ok one → whole_walk old Plain one (inner_of node.fields.contents).second 1 H ≡ Ok two → whole_walk old Plain two (inner_of node.fields.contents).third 1 H ≡ Ok three
+    → whole_walk old Plain three next 0 H ≡ Ok names → LeavesCopies old new copy names result

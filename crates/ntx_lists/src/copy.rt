@@ -3,7 +3,7 @@
 ghost use Rattle.std.specs.Prelude.{◌≡◌, ◌+◌, ◌≤◌, ◌<◌, ◌^◌};
 ghost use Rattle.ntx_nodes.specs.Walk.{max_depth, plain_walk, tree_walk};
 ghost use Rattle.ntx_lists.specs.Copies.{copy_list_step, copy_tree_step, Copies};
-ghost use Rattle.ntx_lists.specs.Copying.{Makes, MakesRest, FreesRun, SetsLink, SetsParts, SetsListsOf, SetsLists, is_box, is_disc, SetsLinks, link_to, Links, LinksRest};
+ghost use Rattle.ntx_lists.specs.Copying.{Makes, MakesRest, FreesRun, SetsLink, SetsParts, SetsListsOf, SetsLists, is_box, is_disc, SetsLinks, link_to, Links, LinksRest, CopiesNode};
 
 use crate::links::{Inner, inner_lists, visit_tree};
 use crate::survey::following;
@@ -182,11 +182,15 @@ fn link_rest<N: Nodes>(nodes: &mut N, lists: Inner, next: Option<u64>, first: u6
 
 /// Copies a node with its inner lists and the list `next`, where a walk has come to its end before, and gives the name of
 /// the node's copy. Where a copy cannot be made, those before it are freed again.
-fn copy_node<N: Nodes>(nodes: &mut N, n: u64, next: Option<u64>) -> Result<u64, Fail<Trouble>> {
+fn copy_node<N: Nodes>(nodes: &mut N, n: u64, next: Option<u64>) -> Result<u64, Fail<Trouble>>
+    ensures { CopiesNode (N.heap nodes.old) (N.heap nodes.new) n next result }
+{
     let lists = inner_lists(nodes, n);
     nodes.lawful();
     let first = nodes.copy_one(n)?;
-    match make_rest(nodes, lists, next) {
+    let made = make_rest(nodes, lists, next);
+    nodes.lawful();
+    match made {
         Ok(()) => {
             link_rest(nodes, lists, next, first);
             Ok(first)
