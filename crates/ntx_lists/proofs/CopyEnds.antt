@@ -176,24 +176,13 @@ begins heap n one two three names lists next w1 w2 w3 w4 =
     extends_on (n ∷ []) one names (extends_whole heap (n ∷ []) lists.first 1 one w1)
     (extends_on one two names (extends_whole heap one lists.second 1 two w2) (extends_on two three names (extends_whole heap two lists.third 1 three w3) (extends_whole heap three next 0 names w4)))
 
-pub node_refused : (old h1 : Heap) (n : ℕ) (next : Option ℕ) (lists : Inner) (e : Fail Trouble) → IsLawful old → lists ≡ inner_at old n → Steps {A = ℕ} (Err e) old h1 (copy_one_step n old) → h1 ≡ old → CopiesNode old h1 n next (Err e)
-node_refused old h1 n next lists e lawful lists_are step same copy node one two three names live is_copy copies_as w1 w2 w3 w4 =
+kept : (old h1 : Heap) (n : ℕ) (e : Fail Trouble) → Steps {A = ℕ} (Err e) old h1 (copy_one_step n old) → h1 ≡ old
+kept old h1 n (Is why) s = s.1
+kept old h1 n NoMemory s = s
+
+pub node_refused : (old h1 : Heap) (n : ℕ) (next : Option ℕ) (lists : Inner) (e : Fail Trouble) → IsLawful old → lists ≡ inner_at old n → Steps {A = ℕ} (Err e) old h1 (copy_one_step n old) → CopiesNode old h1 n next (Err e)
+node_refused old h1 n next lists e lawful lists_are step copy node one two three names live is_copy copies_as w1 w2 w3 w4 =
+    let same = kept old h1 n e step in
     let all : AllLive old names = all_live old n node one two three names (inner_of node.fields.contents) next live w1 w2 w3 w4 in
     unfinished old h1 h1 copy names e lawful all (subst IsLawful (sym same) lawful) (λ made part is. none_made old h1 made same is)
     (copy_refused old old h1 [] n names node e (sym (no_copies old (λ _ node. copy_of node))) (begins old n one two three names (inner_of node.fields.contents) next w1 w2 w3 w4) live step)
-
--- ---- the ends of the calls
-left_ok : {A : Type 0} (heap new : Heap) (copy : List ℕ → Copier) (names : List ℕ) (a b : A) → length names ≤ room heap → a ≡ b → new ≡ with_copies heap (copy names) names → copies_left heap copy a (Ok names) ≡ (Ok b, new)
-left_ok {A} heap new copy names a b few same is =
-    ap (λ t. cond {A = Left A} t (Ok a, with_copies heap (copy names) names) (Err (why_no_more heap), moved_on heap (room heap))) (le_test (length names) (room heap) few) ∙ (λ i. (Ok (same i), sym is i))
-
-left_err : {A : Type 0} (heap new : Heap) (copy : List ℕ → Copier) (names : List ℕ) (a : A) (why : Trouble) → room heap < length names → why ≡ why_no_more heap → new ≡ moved_on heap (room heap) → copies_left heap copy a (Ok names) ≡ (Err why, new)
-left_err {A} heap new copy names a why many why_is is =
-    ap (λ t. cond {A = Left A} t (Ok a, with_copies heap (copy names) names) (Err (why_no_more heap), moved_on heap (room heap))) (lt_test (length names) (room heap) many) ∙ (λ i. (Err (sym why_is i), sym is i))
-
-pub left_failed : {A : Type 0} (heap new : Heap) (copy : List ℕ → Copier) (names : List ℕ) (a : A) (e : Fail Trouble) (walk : Result (List ℕ) Trouble) → walk ≡ Ok names → LeavesCopies heap new (copy names) names (Err e) → Copies {A = A} (Err e) heap new walk (copies_left heap copy a walk)
-left_failed heap new copy names a (Is why) walk is l = ap (copies_left heap copy a) is ∙ left_err heap new copy names a why l.0 l.1 l.2
-left_failed heap new copy names a NoMemory walk is l = subst (Unfinished heap new) (sym is) l
-
-pub left_done : {A : Type 0} (heap new : Heap) (copy : List ℕ → Copier) (names : List ℕ) (a b : A) (walk : Result (List ℕ) Trouble) → walk ≡ Ok names → a ≡ b → length names ≤ room heap → new ≡ with_copies heap (copy names) names → Copies (Ok b) heap new walk (copies_left heap copy a walk)
-left_done heap new copy names a b walk is same few new_is = ap (copies_left heap copy a) is ∙ left_ok heap new copy names a b few same new_is

@@ -9,3 +9,4 @@ pub mod Relinks
 pub mod CopyNames
 pub mod Linking
 pub mod CopyEnds
+pub mod CopyCalls
