@@ -55,6 +55,9 @@ left_stopped : {A : Type 0} (heap h1 : Heap) (copy : List ℕ → Copier) (a : A
 left_stopped heap h1 copy a walk why e same = ap (copies_left heap copy a) (walk_stopped walk why e) ∙ (λ i. (Err why, sym same i))
 
 -- ---- a list
+pub begins_there : (heap : Heap) (head : Option ℕ) (n : ℕ) (u : Unit {0}) → head ≡ Some n → Ok u ≡ result_map {B = Unit {0}} (λ _. tt) (plain_walk heap head) → Ok u ≡ result_map {B = Unit {0}} (λ _. tt) (plain_walk heap (Some n))
+begins_there heap head n u here e = e ∙ ap (λ o. result_map {B = Unit {0}} (λ _. tt) (plain_walk heap o)) here
+
 -- what copying the head, with all that the list reaches, leaves
 record Leaves (heap new : Heap) (walk : Result (List ℕ) Trouble) (copy : List ℕ → Copier) (r : Result ℕ (Fail Trouble)) : Type 0 where
   names : List ℕ
