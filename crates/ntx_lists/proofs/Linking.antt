@@ -220,9 +220,9 @@ link_turn whole copy all mid n d dn c second third after node lists copies next 
     let x0 = extends_on r0 t.one names x1 x234 in
     let stood : all ≡ mid ++ n ∷ (x0.more ++ w.rest) = here_in all mid n names w.rest x0 w.is in
     let was : map.get h3.nodes c ≡ Some (copy_of node) =
-        i.linked.below c (omega arith) ∙ k.unlinked c (omega arith) ∙ ap (λ y. map.get (bare whole y).nodes c) stood ∙ copy_at whole (λ _ node. copy_of node) mid n (x0.more ++ w.rest) node c place k.node_live in
+    i.linked.below c (omega arith) ∙ k.unlinked c (omega arith) ∙ ap (λ y. map.get (bare whole y).nodes c) stood ∙ copy_at whole (λ _ node. copy_of node) mid n (x0.more ++ w.rest) node c place k.node_live in
     let left : h4 ≡ put h3 c (relinked (copy_of node) (links_at lists (c + 1) second third) (link_to next after)) =
-        subst (λ x. SetsLinks h3 h4 c (links_at lists (c + 1) second third) x) to_is (subst (λ x. SetsLinks h3 h4 c x to) copies_are sets) (copy_of node) was (live1, live2, live3) live4 in
+    subst (λ x. SetsLinks h3 h4 c (links_at lists (c + 1) second third) x) to_is (subst (λ x. SetsLinks h3 h4 c x to) copies_are sets) (copy_of node) was (live1, live2, live3) live4 in
     let links : links_at lists (c + 1) second third ≡ copied_lists whole.next all lists = λ j. record {
       first = sym (link_at whole whole.next (c + 1) r0 lists.first (d + 1) t.one (x234.more ++ w.rest) all t.first is1 at0) j;
       second = sym (link_at whole whole.next second t.one lists.second (d + 1) t.two (x34.more ++ w.rest) all t.second is2 second_at) j;
@@ -230,10 +230,10 @@ link_turn whole copy all mid n d dn c second third after node lists copies next 
     } in
     let follows : link_to next after ≡ copied_link whole.next all next = sym (link_at whole whole.next after inside next dn names w.rest all w.after w.is after_at) in
     let made : relinked (copy_of node) (links_at lists (c + 1) second third) (link_to next after) ≡ copy n node =
-        linked_node node (links_at lists (c + 1) second third) (link_to next after)
-        ∙ (λ j. relinked node (links j) (follows j))
-        ∙ ap (λ l. relinked node (copied_lists whole.next all l) (copied_link whole.next all next)) k.lists_are
-        ∙ sym k.is_copy in
+    linked_node node (links_at lists (c + 1) second third) (link_to next after)
+    ∙ (λ j. relinked node (links j) (follows j))
+    ∙ ap (λ l. relinked node (copied_lists whole.next all l) (copied_link whole.next all next)) k.lists_are
+    ∙ sym k.is_copy in
     let there : map.get final.nodes c ≡ Some (copy n node) = ap (λ y. map.get (with_copies whole copy y).nodes c) stood ∙ copy_at whole copy mid n (x0.more ++ w.rest) node c place k.node_live in
     (after_at, one_linked final h0 h3 h4 c after (copy n node) i.linked (left ∙ ap (put h3 c) made) there)
 
