@@ -1,5 +1,7 @@
 //! Worked examples of lists that are changed, freed and copied.
 
+ghost use Rattle.std.specs.Prelude.{◌<◌, ◌^◌};
+
 use crate::{
     copy_list, copy_tree, flush_list, free_tree, insert_after, insert_before, length, remove,
     slide, tail,
@@ -242,8 +244,10 @@ fn a_copy_has_numbers_and_attributes(rt: HostRuntime) -> Result<(), test::Fail> 
     Ok(())
 }
 
-/// A list of kerns, one after another, in a heap whose first name is given. Gives the head.
-fn kerns(rt: &HostRuntime, first: u64, count: u64) -> Result<PlainHeap, Fail<Trouble>> {
+/// A list of kerns, one after another, in a heap whose first name is given.
+fn kerns(rt: &HostRuntime, first: u64, count: u64) -> Result<PlainHeap, Fail<Trouble>>
+    requires { first < 2 ^ 48 }
+{
     let mut heap = PlainHeap::new(rt.alloc(), first)?;
     let mut before = heap.make(Kind::Kern, 0)?;
     for _ in 1..count {
