@@ -1,32 +1,28 @@
 -- What copying leaves when it has come to its end.
-use Rattle.std.proofs.Common.{◌≡◌, ℕ, ◌+◌, ◌-◌, ◌≤◌, ◌<◌, length, List, [], ◌∷◌, ◌++◌, Bool, true, false, cond, Some, None, Ok, Err, refl, sym, ◌∙◌, ap, subst, inl, inr, arith}
-use Rattle.std.specs.Prelude.{Option, Result, min, nat_le, nat_eq, is_some, ◌||◌, ◌⊎◌}
-use Rattle.std.specs.Option.{option_and_then}
+use Rattle.std.proofs.Common.{◌≡◌, ℕ, ◌+◌, ◌-◌, ◌≤◌, ◌<◌, length, List, [], ◌∷◌, ◌++◌, Bool, true, false, cond, Some, Ok, Err, refl, sym, ◌∙◌, ap, subst, inl, inr, arith}
+use Rattle.std.specs.Prelude.{Option, Result, nat_le, nat_eq, is_some, ◌||◌, ◌⊎◌}
 use Rattle.std.specs.FinMap as map
 use Rattle.std.proofs.Math.Nat.{le-min, min-eq_left, min-eq_right}
 use Rattle.std.proofs.lemmas.Bool.{eqb-true, leb-true, leb-false}
 use Rattle.std.proofs.lemmas.Bool.Decides.{nat_tests}
-use Rattle.ntx_num.specs.Answer.{result_map, Steps}
+use Rattle.ntx_num.specs.Answer.{Steps}
 use Rattle.ntx_num.specs.declared.answer.Fail.{Fail}
 use Rattle.ntx_num.specs.declared.answer.Fail.TheVariants.{NoMemory, Is}
 use Rattle.ntx_nodes.specs.Heap.{Heap, IsLawful, is_live, name_limit, max_nodes}
-use Rattle.ntx_nodes.specs.Steps.{of_found, copy_of, next_name, making, copy_one_step}
-use Rattle.ntx_nodes.specs.Walk.{is_reached, plain_walk, tree_walk}
+use Rattle.ntx_nodes.specs.Steps.{copy_of, next_name, copy_one_step}
+use Rattle.ntx_nodes.specs.Walk.{is_reached}
 use Rattle.ntx_nodes.specs.Walker.{whole_walk}
 use Rattle.ntx_nodes.specs.declared.kind.ListKind.TheVariants.{H}
 use Rattle.ntx_nodes.specs.declared.kind.Way.TheVariants.{Plain}
 use Rattle.ntx_nodes.specs.declared.node.Node.{Node}
 use Rattle.ntx_nodes.specs.declared.trouble.Trouble.{Trouble}
 use Rattle.ntx_nodes.specs.declared.trouble.Trouble.TheVariants.{NodesFull, NamesOut}
-use Rattle.ntx_nodes.proofs.Oks.{mapped_Ok, at_Ok}
-use Rattle.ntx_nodes.proofs.Walks.{nat_eq_same, is_reached-append}
+use Rattle.ntx_nodes.proofs.Walks.{is_reached-append}
 use Rattle.ntx_nodes.proofs.Turns.{Extends, extends_on}
-use Rattle.ntx_lists.specs.Lists.{next_of}
 use Rattle.ntx_lists.specs.Trees.{inner_of, inner_of_found, inner_at}
-use Rattle.ntx_lists.specs.Copies.{copy_before, list_copy, tree_copy, with_copies, moved_on, room, why_no_more, Left, copies_left, copy_list_step, copy_tree_step, Unfinished, Copies}
-use Rattle.ntx_lists.specs.Copying.{bare, AllLive, Stops, Made, MakesRest, FreesRun, LinksRest, LeavesCopies, CopiesNode}
+use Rattle.ntx_lists.specs.Copies.{moved_on, room, why_no_more}
+use Rattle.ntx_lists.specs.Copying.{bare, AllLive, Made, MakesRest, FreesRun, LinksRest, LeavesCopies, CopiesNode}
 use Rattle.ntx_lists.specs.declared.links.Inner.{Inner}
-use Rattle.ntx_lists.proofs.Trees.{Three, split, walked, three_ended, tree_is, tree_live}
 use Rattle.ntx_lists.proofs.CopyMaps.{Copier, copies_len, no_copies}
 use Rattle.ntx_lists.proofs.CopyNames.{live_on}
 use Rattle.ntx_lists.proofs.Making.{extends_whole, copied_is, one_made, copy_refused}

@@ -1,17 +1,16 @@
 -- The nodes of a heap with copies, name by name, and how many they are.
-use Rattle.std.proofs.Common.{◌≡◌, ℕ, zero, suc, ◌+◌, ◌-◌, ◌≤◌, ◌<◌, length, List, [], ◌∷◌, ◌++◌, Bool, true, false, cond, Some, None, refl, sym, ◌∙◌, ap, subst, inl, inr, arith}
+use Rattle.std.proofs.Common.{◌≡◌, ℕ, zero, suc, ◌+◌, ◌-◌, ◌≤◌, ◌<◌, length, List, [], ◌∷◌, ◌++◌, Bool, true, false, cond, Some, None, refl, sym, ◌∙◌, ap, subst, arith}
 use Rattle.std.specs.Prelude.{Option, is_some, nat_eq, ◌||◌}
 use Rattle.std.specs.Ordering.{nat_cmp}
 use Rattle.std.specs.Cmp.{nat_cmp_total, unsigned_tied}
 use Rattle.std.specs.FinMap as map
 use Rattle.std.proofs.lemmas.Bool.Decides.{nat_tests}
 use Rattle.ntx_nodes.specs.Heap.{Heap, IsLawful, is_live}
-use Rattle.ntx_nodes.specs.Steps.{copy_of}
 use Rattle.ntx_nodes.specs.Walk.{is_reached}
 use Rattle.ntx_nodes.specs.declared.node.Node.{Node}
 use Rattle.ntx_nodes.proofs.Walks.{nat_eq_same, is_reached-append}
 use Rattle.ntx_lists.specs.Copies.{with_found, nodes_with, with_copies}
-use Rattle.ntx_lists.specs.Copying.{bare, AllLive}
+use Rattle.ntx_lists.specs.Copying.{AllLive}
 
 abbrev pub Map : Type 0
 Map = map.FinMap nat_cmp Node

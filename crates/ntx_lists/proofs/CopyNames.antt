@@ -1,15 +1,15 @@
 -- Where names stand among those that are copied.
 use Rattle.std.proofs.Common.{◌≡◌, ℕ, suc, ◌+◌, ◌≤◌, ◌<◌, length, List, [], ◌∷◌, ◌++◌, Bool, true, false, cond, Some, None, Ok, refl, sym, ◌∙◌, ap, subst, append_assoc, arith}
-use Rattle.std.specs.Prelude.{Option, Result, nat_eq, ◌||◌}
+use Rattle.std.specs.Prelude.{Option, nat_eq, ◌||◌}
 use Rattle.std.proofs.lemmas.Bool.{eqb-true}
 use Rattle.ntx_nodes.specs.Heap.{Heap, is_live}
 use Rattle.ntx_nodes.specs.Walk.{is_reached}
 use Rattle.ntx_nodes.specs.Walker.{whole_walk}
-use Rattle.ntx_nodes.specs.WalkLaws.{AreFresh, Sound}
+use Rattle.ntx_nodes.specs.WalkLaws.{AreFresh}
 use Rattle.ntx_nodes.specs.declared.kind.ListKind.TheVariants.{H}
 use Rattle.ntx_nodes.specs.declared.kind.Way.TheVariants.{Plain}
 use Rattle.ntx_nodes.proofs.Walks.{nat_eq_same, is_reached-append}
-use Rattle.ntx_nodes.proofs.Turns.{passes, Extends, extends_on}
+use Rattle.ntx_nodes.proofs.Turns.{passes, Extends}
 use Rattle.ntx_nodes.proofs.SoundWalks.{sound_walk}
 use Rattle.ntx_lists.specs.Copies.{copy_name, copied_link}
 use Rattle.ntx_lists.specs.Copying.{AllLive, link_to}

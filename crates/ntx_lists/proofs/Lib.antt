@@ -10,3 +10,5 @@ pub mod CopyNames
 pub mod Linking
 pub mod CopyEnds
 pub mod CopyCalls
+pub mod CopyWalks
+pub mod CopyLists

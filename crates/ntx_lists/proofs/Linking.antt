@@ -3,7 +3,6 @@ use Rattle.std.proofs.Common.{◌≡◌, ℕ, ◌+◌, ◌≤◌, ◌<◌, lengt
 use Rattle.std.specs.Prelude.{Option, Result, is_some}
 use Rattle.std.specs.Option.{option_and_then}
 use Rattle.std.specs.Result.{is_err}
-use Rattle.std.specs.Ordering.{nat_cmp}
 use Rattle.std.specs.Cmp.{nat_cmp_total}
 use Rattle.std.specs.FinMap as map
 use Rattle.std.proofs.lemmas.Bool.{cases_lt}
@@ -25,11 +24,11 @@ use Rattle.ntx_lists.specs.Lists.{next_of}
 use Rattle.ntx_lists.specs.Survey.{IsLiveLink}
 use Rattle.ntx_lists.specs.Trees.{inner_of, inner_of_found, inner_at}
 use Rattle.ntx_lists.specs.Copies.{with_lists, relinked, copied_lists, copied_link, copy_before, list_copy, with_copies}
-use Rattle.ntx_lists.specs.Copying.{bare, AllLive, SetsLinks, AreLiveLists, link_to, Linkable, Linked, Links, LinksRest}
+use Rattle.ntx_lists.specs.Copying.{bare, AllLive, SetsLinks, link_to, Linkable, Linked, Links, LinksRest}
 use Rattle.ntx_lists.specs.declared.links.Inner.{Inner}
 use Rattle.ntx_lists.proofs.Trees.{Three, Split, split}
-use Rattle.ntx_lists.proofs.CopyMaps.{Map, Copier, get_same, get_below, get_above, given, copies_below, copies_above, copy_at, copies_stand, length_more}
-use Rattle.ntx_lists.proofs.CopyNames.{link_at, place_of, place_below, longer, not_reached}
+use Rattle.ntx_lists.proofs.CopyMaps.{Copier, get_same, get_below, get_above, given, copies_below, copies_above, copy_at, copies_stand, length_more}
+use Rattle.ntx_lists.proofs.CopyNames.{link_at, place_of, longer, not_reached}
 use Rattle.ntx_lists.proofs.Making.{extends_whole, extends_three}
 
 same_Ok : {A E : Type 0} (a b : A) → ◌≡◌ {A = Result A E} (Ok a) (Ok b) → a ≡ b

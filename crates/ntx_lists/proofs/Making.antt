@@ -1,20 +1,20 @@
 -- Making copies with no links, in the order of a walk.
-use Rattle.std.proofs.Common.{◌≡◌, ℕ, ◌+◌, ◌≤◌, ◌<◌, length, List, [], ◌∷◌, ◌++◌, Some, None, Ok, Err, refl, sym, ◌∙◌, ap, subst, append_assoc, arith}
+use Rattle.std.proofs.Common.{◌≡◌, ℕ, ◌+◌, ◌≤◌, ◌<◌, List, [], ◌∷◌, ◌++◌, Some, None, Ok, Err, sym, ◌∙◌, ap, subst, append_assoc, arith}
 use Rattle.std.specs.Prelude.{Option, Result}
 use Rattle.std.specs.Option.{option_and_then}
 use Rattle.std.specs.FinMap as map
 use Rattle.ntx_num.specs.Answer.{result_map, Steps}
 use Rattle.ntx_num.specs.declared.answer.Fail.{Fail}
 use Rattle.ntx_num.specs.declared.answer.Fail.TheVariants.{NoMemory, Is}
-use Rattle.ntx_nodes.specs.Heap.{Heap, IsLawful, name_limit, max_nodes}
+use Rattle.ntx_nodes.specs.Heap.{Heap, IsLawful}
 use Rattle.ntx_nodes.specs.Steps.{of_found, copy_of, next_name, making, copy_one_step}
-use Rattle.ntx_nodes.specs.Walk.{max_depth, node_reached}
+use Rattle.ntx_nodes.specs.Walk.{max_depth}
 use Rattle.ntx_nodes.specs.Walker.{whole_walk}
 use Rattle.ntx_nodes.specs.declared.kind.ListKind.TheVariants.{H}
 use Rattle.ntx_nodes.specs.declared.kind.Way.TheVariants.{Plain}
 use Rattle.ntx_nodes.specs.declared.node.Node.{Node}
 use Rattle.ntx_nodes.specs.declared.trouble.Trouble.{Trouble}
-use Rattle.ntx_nodes.proofs.Oks.{mapped_Ok, at_Ok}
+use Rattle.ntx_nodes.proofs.Oks.{mapped_Ok}
 use Rattle.ntx_nodes.proofs.Turns.{passes, Extends, extends_on, walk_extends}
 use Rattle.ntx_nodes.proofs.WalkSteps.{whole_None}
 use Rattle.ntx_nodes.specs.Walk.{turns_of}

@@ -1,14 +1,13 @@
 -- Links that are set.
 use Rattle.std.proofs.Common.{◌≡◌, ℕ, Bool, true, false, cond, Some, None, Ok, Err, refl, sym, ◌∙◌, ap}
 use Rattle.std.specs.Prelude.{Option, Result, is_some, nat_eq}
-use Rattle.std.specs.Ordering.{nat_cmp}
 use Rattle.std.specs.Cmp.{nat_cmp_total}
 use Rattle.std.specs.FinMap as map
 use Rattle.std.proofs.lemmas.Bool.{eqb-true}
 use Rattle.ntx_num.specs.Answer.{result_map, result_and_then, StepsAtOnce}
 use Rattle.ntx_nodes.specs.Fields.{kind_of, with_field}
-use Rattle.ntx_nodes.specs.Heap.{Heap, is_live}
-use Rattle.ntx_nodes.specs.Steps.{of_found, at, put, put_fields, linkable, changed, set_step, kind_answer}
+use Rattle.ntx_nodes.specs.Heap.{Heap}
+use Rattle.ntx_nodes.specs.Steps.{of_found, put, put_fields, linkable, changed, set_step, kind_answer}
 use Rattle.ntx_nodes.specs.declared.contents.DiscFields.{DiscFields}
 use Rattle.ntx_nodes.specs.declared.field.Field.{Field}
 use Rattle.ntx_nodes.specs.declared.field.Field.TheVariants as field

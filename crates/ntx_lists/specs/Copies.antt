@@ -6,7 +6,7 @@
 --     with_copies                  a heap with such copies
 --     room, why_no_more            how many copies can be made, and why not more
 --     copy_list_step, copy_tree_step, Copies      what the calls do, and what they leave
-use Rattle.std.specs.Prelude.{◌≡◌, ◌≤◌, ◌<◌, ℕ, ◌+◌, ◌-◌, min, nat_le, List, [], ◌∷◌, length, nat_eq, if◌then◌else◌, Option, None, Some, Result, Ok, Err}
+use Rattle.std.specs.Prelude.{◌≡◌, ◌<◌, ℕ, ◌+◌, ◌-◌, min, nat_le, List, [], ◌∷◌, length, nat_eq, if◌then◌else◌, Option, None, Some, Result, Ok, Err}
 use Rattle.std.specs.Option.{option_and_then, option_map}
 use Rattle.std.specs.Ordering.{nat_cmp}
 use Rattle.std.specs.FinMap as map

@@ -1,4 +1,5 @@
 pub mod Copies
+pub mod CopyLaws
 pub mod Copying
 pub mod Lists
 pub mod Survey

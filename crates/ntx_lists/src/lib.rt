@@ -8,6 +8,7 @@
 #![tactic(auto)]
 
 mod copy;
+mod copy_laws;
 mod free;
 mod insert;
 mod links;
@@ -16,5 +17,6 @@ mod survey;
 mod tests;
 
 pub use copy::{copy_list, copy_tree};
+pub use copy_laws::{copies_are_lists, copies_are_trees, copies_stop_rightly};
 pub use free::{flush_list, free_tree};
 pub use insert::{insert_after, insert_before, length, remove, slide, tail};
