@@ -5,14 +5,12 @@ ghost use Rattle.ntx_nodes.specs.Walk.{max_depth, plain_walk, tree_walk};
 ghost use Rattle.ntx_lists.specs.Copies.{copy_list_step, copy_tree_step, Copies};
 ghost use Rattle.ntx_lists.specs.Copying.{Makes, MakesRest, FreesRun, SetsLink, SetsParts, SetsListsOf, SetsLists, is_box, is_disc, SetsLinks, link_to, Links, LinksRest, CopiesNode};
 
+use crate::free::MAX_DEPTH;
 use crate::links::{Inner, inner_lists, visit_tree};
 use crate::survey::following;
 use ntx_nodes::{Field, FieldValue, Kind, ListKind, Nodes, Trouble, Way, visit_list};
 use ntx_num::Fail;
 use std::alloc::Global;
-
-/// Lists lie no deeper inside one another.
-const MAX_DEPTH: u64 = 100;
 
 /// Copies all that the list at a head reaches, one node after another in the order of the walk, with no links yet, where a
 /// walk has come to its end before. It stops at the first copy that cannot be made.
@@ -204,7 +202,7 @@ fn copy_node<N: Nodes>(nodes: &mut N, n: u64, next: Option<u64>) -> Result<u64, 
 
 /// Copies all that the list at a head reaches, with the lists inside it, and gives the copy of the head. The copies take one
 /// name after another, in the order of the walk. A link that the walk followed leads from copy to copy, and a copy has no
-/// other link. Takes memory for the copies alone.
+/// other link. The heap itself takes the memory for the copies, and the allocator is not used.
 ///
 /// At each node it refuses with Stale where it is dead, Loop where the walk reached it before, and Nest at depth 101, in
 /// this order, and makes nothing then; and else with NodesFull and NamesOut at the first copy that cannot be made. What was
