@@ -2,3 +2,13 @@ pub mod Along
 pub mod Places
 pub mod Trees
 pub mod Changes
+pub mod CopyMaps
+pub mod Making
+pub mod FreedRuns
+pub mod Relinks
+pub mod CopyNames
+pub mod Linking
+pub mod CopyEnds
+pub mod CopyCalls
+pub mod CopyWalks
+pub mod CopyLists

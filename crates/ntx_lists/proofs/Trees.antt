@@ -258,7 +258,7 @@ tree_third heap h k l n v w x y lists u t r at same walks same2 walks2 same3 wal
     ∙ sym (ap (result_map {B = Unit {0}} (λ _. tt)) (at.is ∙ ap (λ x. result_and_then x (λ a. result_and_then (f a lists.second H) (λ b. f b lists.third H))) e.1 ∙ ap (λ x. result_and_then x (λ b. f b lists.third H)) e2.1))
 
 -- ---- freeing after a walk has ended
-walked : (r : Result (List ℕ) Trouble) (u : Unit {0}) → Ok u ≡ result_map {B = Unit {0}} (λ _. tt) r → (names : List ℕ) × (r ≡ Ok names)
+pub walked : (r : Result (List ℕ) Trouble) (u : Unit {0}) → Ok u ≡ result_map {B = Unit {0}} (λ _. tt) r → (names : List ℕ) × (r ≡ Ok names)
 walked r u e = let m = mapped_Ok {B = Unit {0}} (λ _. tt) r u (sym e) in (m.value, m.is)
 
 stopped : (heap : Heap) (r : Result (List ℕ) Trouble) (why : Trouble) → Err why ≡ result_map {B = Unit {0}} (λ _. tt) r → result_map {B = Unit {0} × Heap} (λ names. (tt, without heap names)) r ≡ Err why
@@ -276,7 +276,7 @@ flush_done heap h1 h2 head u e same frees =
 pub free_tree_refused : (heap h1 : Heap) (n : ℕ) (why : Trouble) → Err why ≡ result_map {B = Unit {0}} (λ _. tt) (tree_walk heap n) → h1 ≡ heap → StepsAtOnce {A = Unit {0}} (Err why) heap h1 (free_tree_step n heap)
 free_tree_refused heap h1 n why e same = (stopped heap (tree_walk heap n) why e, same)
 
-tree_live : (heap : Heap) (n : ℕ) (names : List ℕ) → tree_walk heap n ≡ Ok names → (node : Node) × (map.get heap.nodes n ≡ Some node)
+pub tree_live : (heap : Heap) (n : ℕ) (names : List ℕ) → tree_walk heap n ≡ Ok names → (node : Node) × (map.get heap.nodes n ≡ Some node)
 tree_live heap n names e =
     let f : Lister = deeper heap 0 in
     let m = mapped_Ok (λ (entry : Node × List ℕ). entry.1) (result_and_then (node_reached heap Plain [] n 0 H) (λ (node : Node). result_map {B = Node × List ℕ} (λ names. (node, names)) (in_turn f (n ∷ []) (entered Plain node.fields.contents)))) names e in

@@ -1,3 +1,6 @@
+pub mod Copies
+pub mod CopyLaws
+pub mod Copying
 pub mod Lists
 pub mod Survey
 pub mod Trees

@@ -11,7 +11,7 @@ use crate::survey::following;
 use ntx_nodes::{ListKind, Nodes, Trouble, Way, visit_list};
 
 /// Lists lie no deeper inside one another.
-const MAX_DEPTH: u64 = 100;
+pub(crate) const MAX_DEPTH: u64 = 100;
 
 /// Frees all that the list at a head reaches, where a walk has come to its end before.
 fn free_list<N: Nodes>(nodes: &mut N, head: Option<u64>, depth: u64)

@@ -1,7 +1,12 @@
-//! Worked examples of lists that are changed and freed.
+//! Worked examples of lists that are changed, freed and copied.
 
-use crate::{flush_list, free_tree, insert_after, insert_before, length, remove, slide, tail};
-use ntx_nodes::{Field, FieldValue, Kind, Nodes, PlainHeap, Trouble};
+ghost use Rattle.std.specs.Prelude.{◌<◌, ◌^◌};
+
+use crate::{
+    copy_list, copy_tree, flush_list, free_tree, insert_after, insert_before, length, remove,
+    slide, tail,
+};
+use ntx_nodes::{Field, FieldValue, Kind, ListKind, Nodes, PlainHeap, Ratio, Trouble, check};
 use ntx_num::Fail;
 use std::process::Abort;
 use std::test;
@@ -140,5 +145,179 @@ fn a_tree_is_freed_without_what_follows_it(rt: HostRuntime) -> Result<(), test::
     let mut heap = box_and_kern(&rt)?;
     assert_eq!(rt; flush_list(&mut heap, Some(4)), Ok(()));
     assert_eq!(rt; heap.live(), 0);
+    Ok(())
+}
+
+#[test]
+fn copies_are_numbered_in_the_order_of_the_walk(rt: HostRuntime) -> Result<(), test::Fail> {
+    let mut heap = box_and_kern(&rt)?;
+    let copy = copy_list(rt.alloc(), &mut heap, Some(4))?;
+    assert_eq!(rt; copy, Some(7));
+    leads(&rt, &heap, 7, Field::List, Some(8));
+    leads(&rt, &heap, 7, Field::Next, Some(12));
+    leads(&rt, &heap, 8, Field::Pre, Some(9));
+    leads(&rt, &heap, 8, Field::Post, None);
+    leads(&rt, &heap, 8, Field::Replace, Some(10));
+    leads(&rt, &heap, 8, Field::Next, Some(11));
+    leads(&rt, &heap, 12, Field::Next, None);
+    leads(&rt, &heap, 4, Field::List, Some(1));
+    leads(&rt, &heap, 4, Field::Next, Some(6));
+    assert_eq!(rt; heap.live(), 12);
+    assert_eq!(rt; flush_list(&mut heap, Some(7)), Ok(()));
+    assert_eq!(rt; heap.live(), 6);
+    assert_eq!(rt; copy_list(rt.alloc(), &mut heap, None), Ok(None));
+    Ok(())
+}
+
+#[test]
+fn a_tree_is_copied_without_what_follows_it(rt: HostRuntime) -> Result<(), test::Fail> {
+    let mut heap = box_and_kern(&rt)?;
+    link(&mut heap, 1, Field::Post, Some(6))?;
+    link(&mut heap, 4, Field::Next, Some(2))?;
+    assert_eq!(rt;
+        copy_list(rt.alloc(), &mut heap, Some(4)),
+        Err(Fail::Is(Trouble::Loop(2)))
+    );
+    let tree = copy_tree(rt.alloc(), &mut heap, 4)?;
+    assert_eq!(rt; tree, 7);
+    leads(&rt, &heap, 7, Field::List, Some(8));
+    leads(&rt, &heap, 7, Field::Next, None);
+    leads(&rt, &heap, 8, Field::Pre, Some(9));
+    leads(&rt, &heap, 8, Field::Post, Some(10));
+    leads(&rt, &heap, 8, Field::Replace, Some(11));
+    leads(&rt, &heap, 8, Field::Next, Some(12));
+    assert_eq!(rt; heap.kind_of(10), Ok((Kind::Kern, 0)));
+    assert_eq!(rt; free_tree(&mut heap, 7), Ok(()));
+    assert_eq!(rt; heap.live(), 6);
+    link(&mut heap, 5, Field::Next, Some(4))?;
+    assert_eq!(rt;
+        copy_tree(rt.alloc(), &mut heap, 4),
+        Err(Fail::Is(Trouble::Loop(4)))
+    );
+    Ok(())
+}
+
+#[test]
+fn a_node_that_leads_to_itself_is_a_loop(rt: HostRuntime) -> Result<(), test::Fail> {
+    let mut heap = PlainHeap::new(rt.alloc(), 1)?;
+    let x = heap.make(Kind::Hlist, 0)?;
+    link(&mut heap, x, Field::List, Some(x))?;
+    assert!(rt;
+        matches!(check(rt.alloc(), &mut heap, Some(x), ListKind::H), Err(Fail::Is(Trouble::Loop(n))) if n == x)
+    );
+    assert_eq!(rt; flush_list(&mut heap, Some(x)), Err(Trouble::Loop(x)));
+    assert_eq!(rt;
+        copy_list(rt.alloc(), &mut heap, Some(x)),
+        Err(Fail::Is(Trouble::Loop(x)))
+    );
+    leads(&rt, &heap, x, Field::List, Some(x));
+    assert_eq!(rt; heap.live(), 1);
+    let g = heap.make(Kind::Glyph, 0)?;
+    link(&mut heap, g, Field::Next, Some(g))?;
+    assert_eq!(rt;
+        copy_list(rt.alloc(), &mut heap, Some(g)),
+        Err(Fail::Is(Trouble::Loop(g)))
+    );
+    let copy = copy_tree(rt.alloc(), &mut heap, g)?;
+    assert_eq!(rt; copy, 3);
+    leads(&rt, &heap, 3, Field::Next, None);
+    leads(&rt, &heap, g, Field::Next, Some(g));
+    Ok(())
+}
+
+#[test]
+fn a_copy_has_numbers_and_attributes(rt: HostRuntime) -> Result<(), test::Fail> {
+    let mut heap = PlainHeap::new(rt.alloc(), 1)?;
+    let vlist = heap.make(Kind::Vlist, 3)?;
+    heap.set(vlist, Field::Shift, FieldValue::Number(-7))
+        .map_err(Fail::Is)?;
+    heap.set_ratio(vlist, 2, 1, Ratio { num: 5, den: 9 })
+        .map_err(Fail::Is)?;
+    heap.set_attr(vlist, 4, 44)?;
+    let copy = copy_tree(rt.alloc(), &mut heap, vlist)?;
+    assert_eq!(rt; heap.kind_of(copy), Ok((Kind::Vlist, 3)));
+    assert_eq!(rt; heap.get(copy, Field::Shift), Ok(FieldValue::Number(-7)));
+    assert_eq!(rt; heap.get(copy, Field::GlueOrder), Ok(FieldValue::Number(1)));
+    assert_eq!(rt; heap.get(copy, Field::GlueDen), Ok(FieldValue::Number(9)));
+    heap.set_attr(vlist, 4, 45)?;
+    assert_eq!(rt; heap.attr(copy, 4), Ok(Some(44)));
+    Ok(())
+}
+
+/// A list of kerns, one after another, in a heap whose first name is given.
+fn kerns(rt: &HostRuntime, first: u64, count: u64) -> Result<PlainHeap, Fail<Trouble>>
+    requires { first < 2 ^ 48 }
+{
+    let mut heap = PlainHeap::new(rt.alloc(), first)?;
+    let mut before = heap.make(Kind::Kern, 0)?;
+    for _ in 1..count {
+        let kern = heap.make(Kind::Kern, 0)?;
+        link(&mut heap, before, Field::Next, Some(kern))?;
+        before = kern;
+    }
+    Ok(heap)
+}
+
+#[test]
+fn an_unfinished_copy_is_freed_where_names_run_out(rt: HostRuntime) -> Result<(), test::Fail> {
+    let first = (1 << 48) - 5;
+    let mut heap = kerns(&rt, first, 3)?;
+    assert_eq!(rt;
+        copy_list(rt.alloc(), &mut heap, Some(first)),
+        Err(Fail::Is(Trouble::NamesOut))
+    );
+    assert_eq!(rt; heap.live(), 3);
+    assert_eq!(rt; length(&mut heap, Some(first)), Ok(3));
+    assert_eq!(rt; heap.kind_of(first + 3), Err(Trouble::Stale(first + 3)));
+    assert_eq!(rt; heap.make(Kind::Kern, 0), Err(Fail::Is(Trouble::NamesOut)));
+    Ok(())
+}
+
+#[test]
+fn an_unfinished_copy_is_freed_where_nodes_are_full(rt: HostRuntime) -> Result<(), test::Fail> {
+    let most = 1 << 18;
+    let mut heap = kerns(&rt, 1, most - 2)?;
+    link(&mut heap, 3, Field::Next, None)?;
+    assert_eq!(rt;
+        copy_list(rt.alloc(), &mut heap, Some(1)),
+        Err(Fail::Is(Trouble::NodesFull))
+    );
+    assert_eq!(rt; heap.live(), most - 2);
+    assert_eq!(rt; heap.kind_of(most - 1), Err(Trouble::Stale(most - 1)));
+    assert_eq!(rt; heap.make(Kind::Kern, 0), Ok(most + 1));
+    Ok(())
+}
+
+/// A heap of as many hlists, each of which holds the next.
+fn nested(rt: &HostRuntime, count: u64) -> Result<PlainHeap, Fail<Trouble>> {
+    let mut heap = PlainHeap::new(rt.alloc(), 1)?;
+    let mut outer = heap.make(Kind::Hlist, 0)?;
+    for _ in 1..count {
+        let inner = heap.make(Kind::Hlist, 0)?;
+        link(&mut heap, outer, Field::List, Some(inner))?;
+        outer = inner;
+    }
+    Ok(heap)
+}
+
+#[test]
+fn boxes_nest_to_depth_100(rt: HostRuntime) -> Result<(), test::Fail> {
+    let mut heap = nested(&rt, 101)?;
+    let copy = copy_list(rt.alloc(), &mut heap, Some(1))?;
+    assert_eq!(rt; copy, Some(102));
+    leads(&rt, &heap, 102, Field::List, Some(103));
+    leads(&rt, &heap, 201, Field::List, Some(202));
+    leads(&rt, &heap, 202, Field::List, None);
+    let mut heap = nested(&rt, 102)?;
+    assert_eq!(rt;
+        copy_list(rt.alloc(), &mut heap, Some(1)),
+        Err(Fail::Is(Trouble::Nest))
+    );
+    assert_eq!(rt;
+        copy_tree(rt.alloc(), &mut heap, 1),
+        Err(Fail::Is(Trouble::Nest))
+    );
+    assert_eq!(rt; heap.live(), 102);
+    assert_eq!(rt; heap.make(Kind::Kern, 0), Ok(103));
     Ok(())
 }
