@@ -1,6 +1,6 @@
 //! What packing decides of the items of a list.
 
-ghost use Rattle.std.specs.Prelude.{◌≡◌, ◌≤◌, false, IfOk, IfSome, OnNone, All, unsigned_abs};
+ghost use Rattle.std.specs.Prelude.{◌≡◌, ◌≤◌, false, IfOk, IfSome, IfNone, All, unsigned_abs};
 ghost use Rattle.ntx_item.specs.Items.{AreItemsInRange};
 ghost use Rattle.ntx_view.specs.Natural.{IsReaching};
 ghost use Rattle.ntx_pack.specs.Vertical.{IsMeasured, IsMeasuredSize};
@@ -61,7 +61,7 @@ fn natural_size(direction: Direction, items: &[Item]) -> Size
 /// The size that a list of this natural size is packed to; none where it does not fit a number of 64 bits.
 fn wished(to: PackTo, natural: i64) -> Option<i64>
     ensures found { IfSome result (λ x. x ≡ wished to natural) }
-    ensures none { OnNone result (is_dimension (wished to natural) ≡ false) }
+    ensures none { IfNone result (is_dimension (wished to natural) ≡ false) }
 {
     match to {
         PackTo::Exactly(size) => Some(size),
