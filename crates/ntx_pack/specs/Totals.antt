@@ -1,12 +1,12 @@
 -- How much the glue of a list stretches and shrinks, totalled in four orders ("TeX: The Program", sections 150, 650, 656 and 659).
 --     total change order items     the total stretch or shrink of one order
 --     highest change items         the highest order with a total other than 0
-use Rattle.std.specs.Prelude.{ℕ, ℤ, pos, ◌+ℤ◌, List, nat_eq, if◌then◌else◌}
+use Rattle.std.specs.Prelude.{ℕ, ◌≤◌, ℤ, pos, ◌+ℤ◌, unsigned_abs, List, nat_eq, if◌then◌else◌}
 use Rattle.std.specs.Ordering.{int_eq}
 use Rattle.ntx_item.specs.declared.glue.GlueSpec.{GlueSpec}
 use Rattle.ntx_item.specs.declared.item.Item.{Item}
 use Rattle.ntx_item.specs.declared.item.Item.TheVariants.{Glue}
-use Rattle.ntx_item.specs.Items.{signed_sum}
+use Rattle.ntx_item.specs.Items.{signed_sum, max_total}
 use Rattle.ntx_pack.specs.declared.change.Change.{Change}
 use Rattle.ntx_pack.specs.declared.change.Change.TheVariants.{Stretch, Shrink}
 use Rattle.ntx_pack.specs.declared.totals.Totals.{Totals}
@@ -50,3 +50,9 @@ totals_with change totals item = record {
   fill = totals.fill +ℤ amount_in change 2 item;
   filll = totals.filll +ℤ amount_in change 3 item;
 }
+
+pub record AreTotalsInRange (totals : Totals) : Type 0 where
+  pub normal : unsigned_abs totals.normal ≤ max_total
+  pub fil : unsigned_abs totals.fil ≤ max_total
+  pub fill : unsigned_abs totals.fill ≤ max_total
+  pub filll : unsigned_abs totals.filll ≤ max_total

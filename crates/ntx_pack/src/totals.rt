@@ -2,7 +2,7 @@
 
 ghost use Rattle.std.specs.Prelude.{◌≡◌, ◌≤◌, ◌+ℤ◌, unsigned_abs};
 ghost use Rattle.ntx_item.specs.Items.{AreItemsInRange, max_total};
-ghost use Rattle.ntx_pack.specs.Totals.{amount_of, order_of, amount_in, total, highest, totals_of, totals_with};
+ghost use Rattle.ntx_pack.specs.Totals.{amount_of, order_of, amount_in, total, highest, totals_of, totals_with, AreTotalsInRange};
 
 use crate::change::Change;
 use ntx_item::{GlueSpec, Item};
@@ -53,12 +53,12 @@ fn amount_in(change: Change, order: u8, item: &Item) -> i64
     }
 }
 
-/// The sum of two amounts that stay in range.
-fn sum(a: i64, b: i64) -> i64
-    requires { unsigned_abs (a +ℤ b) ≤ max_total }
-    ensures { result ≡ a +ℤ b }
+/// The total of one order with one item more.
+fn more(total: i64, change: Change, order: u8, item: &Item) -> i64
+    requires { unsigned_abs (total +ℤ amount_in change order item.now) ≤ max_total }
+    ensures { result ≡ total +ℤ amount_in change order item.now }
 {
-    a + b
+    total + amount_in(change, order, item)
 }
 
 impl Totals {
@@ -71,10 +71,10 @@ impl Totals {
         ensures { result ≡ totals_with change self item.now }
     {
         Totals {
-            normal: sum(self.normal, amount_in(change, 0, item)),
-            fil: sum(self.fil, amount_in(change, 1, item)),
-            fill: sum(self.fill, amount_in(change, 2, item)),
-            filll: sum(self.filll, amount_in(change, 3, item)),
+            normal: more(self.normal, change, 0, item),
+            fil: more(self.fil, change, 1, item),
+            fill: more(self.fill, change, 2, item),
+            filll: more(self.filll, change, 3, item),
         }
     }
 }
@@ -82,7 +82,8 @@ impl Totals {
 /// How far the glue of these items can change in one way, in each order.
 fn totals_of(change: Change, items: &[Item]) -> Totals
     requires { AreItemsInRange items.now }
-    ensures { result ≡ totals_of change items.now }
+    ensures value { result ≡ totals_of change items.now }
+    ensures in_range { AreTotalsInRange result }
 {
     let mut totals = Totals {
         normal: 0,
@@ -105,14 +106,25 @@ pub(crate) fn available_glue(change: Change, items: &[Item]) -> Available
     ensures total_in_range { unsigned_abs result.total ≤ max_total }
 {
     let totals = totals_of(change, items);
-    let (order, total) = if totals.filll != 0 {
-        (3, totals.filll)
+    if totals.filll != 0 {
+        Available {
+            order: 3,
+            total: totals.filll,
+        }
     } else if totals.fill != 0 {
-        (2, totals.fill)
+        Available {
+            order: 2,
+            total: totals.fill,
+        }
     } else if totals.fil != 0 {
-        (1, totals.fil)
+        Available {
+            order: 1,
+            total: totals.fil,
+        }
     } else {
-        (0, totals.normal)
-    };
-    Available { order, total }
+        Available {
+            order: 0,
+            total: totals.normal,
+        }
+    }
 }

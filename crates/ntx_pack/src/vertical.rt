@@ -8,6 +8,21 @@ ghost use Rattle.ntx_pack.specs.Vertical.{vlist_size, stacked, IsMeasured};
 use ntx_item::Item;
 use ntx_num::Size;
 
+/// The greater of two widths.
+fn greater(a: i64, b: i64) -> i64
+    ensures { result ≡ int_max a b }
+{
+    a.max(b)
+}
+
+/// The sum of two sizes that stay in range.
+fn sum(a: i64, b: i64) -> i64
+    requires { unsigned_abs (a +ℤ b) ≤ 2 ^ 53 }
+    ensures { result ≡ a +ℤ b }
+{
+    a + b
+}
+
 /// A list with one item more, of which this is the width, the size from top to bottom above its depth, and the depth.
 fn with_part(size: Size, width: i64, height: i64, depth: i64) -> Size
     requires stacked { unsigned_abs (size.h +ℤ size.d) ≤ 2 ^ 52 }
@@ -15,8 +30,8 @@ fn with_part(size: Size, width: i64, height: i64, depth: i64) -> Size
     ensures { result ≡ record { w = int_max size.w width; h = (size.h +ℤ size.d) +ℤ height; d = depth } }
 {
     Size {
-        w: size.w.max(width),
-        h: size.h + size.d + height,
+        w: greater(size.w, width),
+        h: sum(sum(size.h, size.d), height),
         d: depth,
     }
 }
@@ -28,7 +43,7 @@ fn with_item(size: Size, item: &Item) -> Size
     ensures { result ≡ stacked size item.now }
 {
     match item {
-        Item::Box { size: part, shift } => with_part(size, part.w + *shift, part.h, part.d),
+        Item::Box { size: part, shift } => with_part(size, sum(part.w, *shift), part.h, part.d),
         Item::Rule { size: part } => with_part(size, part.w, part.h, part.d),
         Item::Glue { spec } => with_part(size, size.w, spec.width, 0),
         Item::Kern { w, .. } => with_part(size, size.w, *w, 0),
