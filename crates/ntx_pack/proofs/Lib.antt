@@ -1,3 +1,5 @@
 pub mod TotalLemmas
 pub mod StackLemmas
 pub mod OutputLemmas
+pub mod CodeNumbers
+pub mod GlueLemmas

@@ -47,10 +47,10 @@ sum_of_from start (x ∷ xs) =
     let b : fold (λ sum size. sum +ℤ size) (pos 0 +ℤ x) xs ≡ (pos 0 +ℤ x) +ℤ sum_of xs = sum_of_from (pos 0 +ℤ x) xs in
     omega (arith, ints)
 
-sum_of-cons : (x : ℤ) (xs : List ℤ) → sum_of (x ∷ xs) ≡ x +ℤ sum_of xs
+pub sum_of-cons : (x : ℤ) (xs : List ℤ) → sum_of (x ∷ xs) ≡ x +ℤ sum_of xs
 sum_of-cons x xs = let b : fold (λ sum size. sum +ℤ size) (pos 0 +ℤ x) xs ≡ (pos 0 +ℤ x) +ℤ sum_of xs = sum_of_from (pos 0 +ℤ x) xs in omega (arith, ints)
 
-signed_sum-cons : (f : Item → ℤ) (x : Item) (xs : List Item) → signed_sum f (x ∷ xs) ≡ f x +ℤ signed_sum f xs
+pub signed_sum-cons : (f : Item → ℤ) (x : Item) (xs : List Item) → signed_sum f (x ∷ xs) ≡ f x +ℤ signed_sum f xs
 signed_sum-cons f x xs = let b : fold (λ sum item. sum +ℤ f item) (pos 0 +ℤ f x) xs ≡ (pos 0 +ℤ f x) +ℤ signed_sum f xs = sum_from f (pos 0 +ℤ f x) xs in omega (arith, ints)
 
 -- the roundings cancel, but for the last and the first

@@ -3,7 +3,7 @@
 ghost use Rattle.std.specs.Prelude.{◌≡◌, ◌≤◌, ◌<◌, ◌^◌, pos, unsigned_abs, Bool, true, false};
 ghost use Rattle.ntx_item.specs.Items.{AreItemsInRange, max_total};
 ghost use Rattle.ntx_pack.specs.Output.{IsRatio};
-ghost use Rattle.ntx_pack.specs.GlueSet.{glue_set, badness_for, shared, fully, unset, is_overfull, is_overfull_by, glue_set_by, badness_by};
+ghost use Rattle.ntx_pack.specs.GlueSet.{order_for, total_for, glue_set, badness_for, shared, fully, unset, is_overfull, is_overfull_by, glue_set_by, badness_by};
 
 use crate::change::Change;
 use crate::totals::{Available, available_glue};
@@ -110,6 +110,31 @@ fn badness_by(shortfall: i64, glue: Available) -> i64
     }
 }
 
+/// The glue of these items that can make up for a shortfall.
+fn glue_for(items: &[Item], shortfall: i64) -> Available
+    requires { AreItemsInRange items.now }
+    ensures order { result.order ≡ order_for items.now shortfall }
+    ensures total { result.total ≡ total_for items.now shortfall }
+    ensures order_in_range { result.order ≤ 3 }
+    ensures total_in_range { unsigned_abs result.total ≤ max_total }
+{
+    available_glue(Change::of(shortfall), items)
+}
+
+/// How bad it is that this glue makes up for the shortfall of these items.
+fn badness_of(items: &[Item], shortfall: i64, glue: Available) -> i64
+    requires shortfall { unsigned_abs shortfall ≤ 2 ^ 32 }
+    requires order { glue.order ≡ order_for items.now shortfall }
+    requires total { glue.total ≡ total_for items.now shortfall }
+    ensures { result ≡ pos (badness_for items.now shortfall) }
+{
+    if items.is_empty() {
+        0
+    } else {
+        badness_by(shortfall, glue)
+    }
+}
+
 /// How the glue of these items makes up for a shortfall in scaled points, which is the size that a box is to have less
 /// their natural size, and the box's badness: that of the shortfall and the glue for it, from 0 to 10000, where all glue is
 /// finite; 0 where there are no items, or where infinite glue makes up for it; and 1000000 where all glue is finite and
@@ -123,11 +148,9 @@ pub fn set_glue(items: &[Item], shortfall: i64) -> (GlueSet, i64)
     ensures sign { result.0.sign ≤ 2 }
     ensures order { result.0.order ≤ 3 }
 {
-    let glue = available_glue(Change::of(shortfall), items);
-    let badness = if items.is_empty() {
-        0
-    } else {
-        badness_by(shortfall, glue)
-    };
-    (set_by(shortfall, glue), badness)
+    let glue = glue_for(items, shortfall);
+    (
+        set_by(shortfall, glue),
+        badness_of(items, shortfall, glue),
+    )
 }

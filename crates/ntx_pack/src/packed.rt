@@ -1,10 +1,10 @@
 //! What packing decides of the items of a list.
 
-ghost use Rattle.std.specs.Prelude.{◌≡◌, ◌≤◌, false, IfOk, IfSome, IfNone, All, unsigned_abs};
+ghost use Rattle.std.specs.Prelude.{◌≡◌, ◌≤◌, ◌^◌, ◌-ℤ◌, false, IfOk, IfSome, IfNone, All, unsigned_abs};
 ghost use Rattle.ntx_item.specs.Items.{AreItemsInRange};
 ghost use Rattle.ntx_view.specs.Natural.{IsReaching};
 ghost use Rattle.ntx_pack.specs.Vertical.{IsMeasured, IsMeasuredSize};
-ghost use Rattle.ntx_pack.specs.Pack.{is_dimension, within, natural_size, along, with_along, wished, packed};
+ghost use Rattle.ntx_pack.specs.Pack.{is_dimension, within, natural_size, along, with_along, wished, packed_into, packed};
 ghost use Rattle.ntx_pack.specs.Made.{IsMakable};
 
 use crate::direction::Direction;
@@ -80,6 +80,32 @@ fn box_size(direction: Direction, to: PackTo, natural: Size) -> Result<Size, Tro
     }
 }
 
+/// How much larger a box is than its list.
+fn shortfall(direction: Direction, size: Size, natural: Size) -> i64
+    requires size { IsMeasuredSize size }
+    requires natural { IsMeasuredSize natural }
+    ensures value { result ≡ along direction size -ℤ along direction natural }
+    ensures bound { unsigned_abs result ≤ 2 ^ 32 }
+{
+    direction.along(size) - direction.along(natural)
+}
+
+/// Items packed into a box of this size, where their natural size is this.
+fn pack_into(direction: Direction, items: &[Item], natural: Size, size: Size) -> Packed
+    requires in_range { AreItemsInRange items.now }
+    requires natural { IsMeasuredSize natural }
+    requires size { IsMeasuredSize size }
+    ensures value { result ≡ packed_into direction items.now natural size }
+    ensures makable { IsMakable result }
+{
+    let (glue, badness) = set_glue(items, shortfall(direction, size, natural));
+    Packed {
+        size,
+        glue,
+        badness,
+    }
+}
+
 /// What items are packed into. Refuses with Dimension where their natural size, or that of the box, is beyond TeX's
 /// largest dimension in some part.
 pub(crate) fn pack_items(direction: Direction, to: PackTo, items: &[Item]) -> Result<Packed, Trouble>
@@ -91,11 +117,5 @@ pub(crate) fn pack_items(direction: Direction, to: PackTo, items: &[Item]) -> Re
 {
     let natural = within(natural_size(direction, items))?;
     let size = box_size(direction, to, natural)?;
-    let shortfall = direction.along(size) - direction.along(natural);
-    let (glue, badness) = set_glue(items, shortfall);
-    Ok(Packed {
-        size,
-        glue,
-        badness,
-    })
+    Ok(pack_into(direction, items, natural, size))
 }

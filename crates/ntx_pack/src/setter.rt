@@ -1,6 +1,6 @@
 //! What glue comes to in output ("TeX: The Program", sections 625 and 634).
 
-ghost use Rattle.std.specs.Prelude.{◌≡◌, ◌≤◌, ◌+ℤ◌, pos, unsigned_abs};
+ghost use Rattle.std.specs.Prelude.{◌≡◌, ◌≤◌, ◌+ℤ◌, ◌-ℤ◌, pos, unsigned_abs};
 ghost use Rattle.ntx_item.specs.Items.{max_total};
 ghost use Rattle.ntx_item.specs.declared.item.Item.TheVariants.{Glue};
 ghost use Rattle.ntx_pack.specs.Output.{IsRatio, move, set_size, widened};
@@ -33,6 +33,16 @@ fn move_of(glue: &GlueSet, spec: &GlueSpec) -> i64
     }
 }
 
+/// A width with the difference of two rounded multiples.
+fn with_difference(width: i64, after: i64, before: i64) -> i64
+    requires width { unsigned_abs width ≤ max_total }
+    requires after { unsigned_abs after ≤ 1000000000 }
+    requires before { unsigned_abs before ≤ 1000000000 }
+    ensures { result ≡ width +ℤ (after -ℤ before) }
+{
+    width + (after - before)
+}
+
 impl GlueSetter {
     /// Before the first item of a box whose glue is set so.
     pub fn new(glue: GlueSet) -> Self
@@ -63,6 +73,6 @@ impl GlueSetter {
     {
         let before = self.widened();
         self.total += move_of(&self.glue, spec);
-        spec.width + (self.widened() - before)
+        with_difference(spec.width, self.widened(), before)
     }
 }
