@@ -1,5 +1,5 @@
 -- What the code's numbers of 64 bits are.
-use Rattle.std.proofs.Common.{◌≡◌, ℕ, ◌≤◌, ◌==◌, ℤ, pos, ◌+ℤ◌, ◌-ℤ◌, List, [], ◌∷◌, length, false, to_z, of_z, w64, subst, sym, ◌∙◌, ap, arith}
+use Rattle.std.proofs.Common.{◌≡◌, ℕ, ◌≤◌, ◌+◌, ◌==◌, ℤ, pos, ◌+ℤ◌, ◌-ℤ◌, List, [], ◌∷◌, length, false, to_z, of_z, w64, subst, sym, ◌∙◌, ap, arith}
 use Rattle.std.specs.Int.RustNames.{unsigned_abs}
 use Rattle.std.proofs.lemmas.Int.{ints}
 use Rattle.ntx_item.specs.declared.item.Item.{Item}
@@ -20,3 +20,6 @@ with_difference_is w a b r hw ha hb e = omega (arith, ints)
 pub badness_is : (items : List Item) (x y : ℤ) (order : ℕ) (t r : ℤ) → (length items == 0) ≡ false → y ≡ x → order ≡ order_for items x → t ≡ total_for items x → r ≡ pos (badness_by y order t) → r ≡ pos (badness_for items x)
 badness_is [] x y order t r e ey eo et er = cc
 badness_is (i ∷ is) x y order t r e ey eo et er = er ∙ (λ j. pos (badness_by (ey j) (eo j) (et j)))
+
+pub with_difference_le : (w a b : ℤ) → unsigned_abs a ≤ 1000000000 → unsigned_abs b ≤ 1000000000 → unsigned_abs (w +ℤ (a -ℤ b)) ≤ unsigned_abs w + 2000000000
+with_difference_le w a b ha hb = omega (arith, ints)

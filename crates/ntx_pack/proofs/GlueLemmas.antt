@@ -1,29 +1,18 @@
--- Glue that is set: what it makes of the sizes in output, and that it is not set where nothing is short.
+-- Glue that is set: what it makes of the sizes in output.
 use Rattle.std.proofs.Common.{◌≡◌, ℕ, zero, suc, ◌+◌, ◌*◌, ◌/◌, ◌≤◌, ◌<◌, min, ℤ, pos, negsuc, neg_ℤ, ◌+ℤ◌, ◌-ℤ◌, ◌*ℤ◌, List, [], ◌∷◌, Bool, true, false, cond, Ok, Err, subst, refl, sym, ◌∙◌, ap, arith}
 use Rattle.std.specs.Prelude.{nat_eq, ◌≢◌, Result, ◌&&◌}
 use Rattle.std.specs.Int.RustNames.{unsigned_abs}
 use Rattle.std.proofs.lemmas.Int.{ints}
 use Rattle.std.proofs.lemmas.Nat.{div-mul-add}
-use Rattle.ntx_num.specs.Answer.{result_map, result_and_then}
-use Rattle.ntx_num.specs.Badness.{badness_of}
 use Rattle.ntx_num.specs.Ratio.{nearest, with_sign_of, rounded_fraction, rounded_part}
-use Rattle.ntx_num.specs.declared.size.Size.{Size}
-use Rattle.ntx_nodes.specs.declared.trouble.Trouble.{Trouble}
-use Rattle.ntx_nodes.proofs.Oks.{went_Ok, mapped_Ok, taken}
 use Rattle.ntx_item.specs.declared.item.Item.{Item}
-use Rattle.ntx_item.specs.declared.pack_to.PackTo.{PackTo}
-use Rattle.ntx_item.specs.declared.pack_to.PackTo.TheVariants.{Exactly, Additional}
 use Rattle.ntx_item.specs.Items.{signed_sum}
 use Rattle.ntx_pack.specs.declared.change.Change.{Change}
 use Rattle.ntx_pack.specs.declared.change.Change.TheVariants.{Stretch, Shrink}
-use Rattle.ntx_pack.specs.declared.direction.Direction.{Direction}
-use Rattle.ntx_pack.specs.declared.direction.Direction.TheVariants.{Horizontal, Vertical}
-use Rattle.ntx_pack.specs.declared.packed.Packed.{Packed}
 use Rattle.ntx_pack.specs.declared.glue_set.GlueSet.{GlueSet}
 use Rattle.ntx_pack.specs.Totals.{amount_in, total}
-use Rattle.ntx_pack.specs.GlueSet.{order_for, total_for, unset, shared, fully, is_overfull_by, is_overfull, glue_set, badness_for}
+use Rattle.ntx_pack.specs.GlueSet.{order_for, total_for, unset, shared, fully, is_overfull, glue_set}
 use Rattle.ntx_pack.specs.Output.{running, widened, set_sizes, sum_of}
-use Rattle.ntx_pack.specs.Pack.{is_dimension, within, natural_size, along, with_along, wished, packed_into, packed}
 use Rattle.ntx_pack.proofs.OutputLemmas.{set_sizes_sum, signed_sum-cons}
 
 -- ---- exact fractions
@@ -100,48 +89,22 @@ filled size glue items x f =
 filled_if : (size : Item → ℤ) (glue same : GlueSet) (items : List Item) (x : ℤ) → glue ≡ same → (same.sign ≢ 0 → Fills same items x) → glue.sign ≢ 0 → sum_of (set_sizes size glue (pos 0) items) ≡ signed_sum size items +ℤ x
 filled_if size glue same items x e f = subst (λ (g : GlueSet). g.sign ≢ 0 → sum_of (set_sizes size g (pos 0) items) ≡ signed_sum size items +ℤ x) (sym e) (λ sign. filled size same items x (f sign))
 
+never_set : (b : Bool) → (cond b unset unset).sign ≡ 0
+never_set true = refl
+never_set false = refl
+
 pub set_sizes_add_up_lem : (size : Item → ℤ) (items : List Item) (x : ℤ) → (glue_set items x).sign ≢ 0 → is_overfull items x ≡ false → unsigned_abs x ≤ 1000000000 → sum_of (set_sizes size (glue_set items x) (pos 0) items) ≡ signed_sum size items +ℤ x
 set_sizes_add_up_lem size items (pos zero) sign over small = absurd (sign refl)
-set_sizes_add_up_lem size items (pos (suc n)) sign over small =
+set_sizes_add_up_lem size [] (pos (suc n)) sign over small = absurd (sign (never_set _))
+set_sizes_add_up_lem size [] (negsuc n) sign over small = absurd (sign (never_set _))
+set_sizes_add_up_lem size (i ∷ is) (pos (suc n)) sign over small =
+    let items : List Item = i ∷ is in
     let t : ℤ = total_for items (pos (suc n)) in
     let glue : GlueSet = shared Stretch (order_for items (pos (suc n))) (suc n) t in
     filled_if size (glue_set items (pos (suc n))) glue items (pos (suc n)) (ap (λ b. cond b (fully t) glue) over) (stretches items (order_for items (pos (suc n))) n t small refl) sign
-set_sizes_add_up_lem size items (negsuc n) sign over small =
+set_sizes_add_up_lem size (i ∷ is) (negsuc n) sign over small =
+    let items : List Item = i ∷ is in
     let t : ℤ = total_for items (negsuc n) in
     let glue : GlueSet = shared Shrink (order_for items (negsuc n)) (suc n) t in
     filled_if size (glue_set items (negsuc n)) glue items (negsuc n) (ap (λ b. cond b (fully t) glue) over) (shrinks items (order_for items (negsuc n)) n t small refl) sign
 
--- ---- a box of natural size
-pub same_size : (size found : Size) → within size ≡ Ok found → size ≡ found
-same_size size found e =
-    let t = taken ((is_dimension size.w && is_dimension size.h) && is_dimension size.d) _ (Ok size) found e in
-    let ok : ◌≡◌ {A = Result Size Trouble} (Ok size) (Ok found) = t.1 in
-    cc
-
-along-with_along : (direction : Direction) (x : ℤ) (size : Size) → along direction (with_along direction x size) ≡ x
-along-with_along Horizontal x size = refl
-along-with_along Vertical x size = refl
-
-same_branch : (b : Bool) → ◌≡◌ {A = ℕ} (cond b 0 0) 0
-same_branch true = refl
-same_branch false = refl
-
-never_bad : (items : List Item) → badness_for items (pos 0) ≡ 0
-never_bad [] = refl
-never_bad (x ∷ xs) = same_branch (nat_eq (order_for (x ∷ xs) (pos 0)) 0)
-
-nothing_short : (a b : ℤ) → a ≡ b → a -ℤ b ≡ pos 0
-nothing_short a b e = omega (arith, ints)
-
--- where the size that is wished for is the natural one
-pub unset_if : (direction : Direction) (to : PackTo) (items : List Item) (box : Packed) → wished to (along direction (natural_size direction items)) ≡ along direction (natural_size direction items) → packed direction to items ≡ Ok box → (box.glue ≡ unset) × (box.badness ≡ pos 0)
-unset_if direction to items box wish e =
-    let first = went_Ok (λ natural. result_map (packed_into direction items natural) (within (with_along direction (wished to (along direction natural)) natural))) (within (natural_size direction items)) box e in
-    let natural : Size = first.value in
-    let n : natural_size direction items ≡ natural = same_size (natural_size direction items) natural first.is in
-    let second = mapped_Ok (packed_into direction items natural) (within (with_along direction (wished to (along direction natural)) natural)) box first.gives in
-    let s : with_along direction (wished to (along direction natural)) natural ≡ second.value = same_size _ second.value second.is in
-    let wish' : wished to (along direction natural) ≡ along direction natural = subst (λ (z : Size). wished to (along direction z) ≡ along direction z) n wish in
-    let a : along direction second.value ≡ along direction natural = ap (along direction) (sym s) ∙ along-with_along direction (wished to (along direction natural)) natural ∙ wish' in
-    let short : along direction second.value -ℤ along direction natural ≡ pos 0 = nothing_short (along direction second.value) (along direction natural) a in
-    (ap (λ (b : Packed). b.glue) (sym second.gives) ∙ ap (glue_set items) short, ap (λ (b : Packed). b.badness) (sym second.gives) ∙ ap (λ x. pos (badness_for items x)) short ∙ ap pos (never_bad items))

@@ -3,3 +3,4 @@ pub mod StackLemmas
 pub mod OutputLemmas
 pub mod CodeNumbers
 pub mod GlueLemmas
+pub mod PackedLemmas

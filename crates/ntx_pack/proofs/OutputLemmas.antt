@@ -1,17 +1,19 @@
 -- Sizes in output.
-use Rattle.std.proofs.Common.{◌≡◌, ℕ, ◌+◌, ◌*◌, ◌/◌, ◌≤◌, ◌<◌, ℤ, pos, negsuc, neg_ℤ, ◌+ℤ◌, ◌-ℤ◌, ◌*ℤ◌, List, [], ◌∷◌, Bool, true, false, cond, length, take, fold, subst, refl, sym, ◌∙◌, ap, arith, zero, suc}
+use Rattle.std.proofs.Common.{◌≡◌, ℕ, ◌+◌, ◌*◌, ◌/◌, ◌≤◌, ◌<◌, ℤ, pos, negsuc, neg_ℤ, ◌+ℤ◌, ◌-ℤ◌, ◌*ℤ◌, List, [], ◌∷◌, map, Bool, true, false, cond, length, take, fold, subst, refl, sym, ◌∙◌, ap, arith, zero, suc}
 use Rattle.std.specs.Prelude.{nat_eq, ◌≢◌}
 use Rattle.std.specs.List.{sum_by}
 use Rattle.std.specs.Int.RustNames.{unsigned_abs}
 use Rattle.std.proofs.lemmas.Int.{ints}
 use Rattle.ntx_num.specs.Ratio.{nearest, with_sign_of, rounded_fraction, rounded_part}
 use Rattle.ntx_item.specs.declared.item.Item.{Item}
+use Rattle.ntx_item.specs.declared.item.Item.TheVariants.{Box, Glyph, Rule, Glue, Kern, Penalty, Disc}
 use Rattle.ntx_item.specs.Items.{absolute_stretch, absolute_shrink, AreItemsInRange, signed_sum, max_total}
 use Rattle.ntx_pack.specs.declared.change.Change.{Change}
 use Rattle.ntx_pack.specs.declared.change.Change.TheVariants.{Stretch, Shrink}
 use Rattle.ntx_pack.specs.declared.glue_set.GlueSet.{GlueSet}
 use Rattle.ntx_pack.specs.Totals.{amount_in, total}
 use Rattle.ntx_pack.specs.Output.{move, running, widened, set_size, set_sizes, sum_of}
+use Rattle.ntx_pack.specs.Laws.{IsGlue}
 use Rattle.ntx_pack.proofs.TotalLemmas.{absolute_amount, amount_le, front_in_range}
 
 -- ---- running totals stay in range
@@ -76,3 +78,28 @@ set_sizes_sum size glue g (x ∷ xs) =
     ∙ telescope (size x) g1 (widened glue g) (widened glue g1) (widened glue (g1 +ℤ running glue xs)) (sum_of (set_sizes size glue g1 xs)) (signed_sum size xs) rest
     ∙ ap (λ s. s +ℤ (widened glue (g1 +ℤ running glue xs) -ℤ widened glue g)) (sym (signed_sum-cons size x xs))
     ∙ ap (λ r. signed_sum size (x ∷ xs) +ℤ (widened glue r -ℤ widened glue g)) run
+
+-- ---- sizes that stay
+no_move : (glue : GlueSet) (item : Item) → glue.sign ≡ 0 → move glue item ≡ pos 0
+no_move glue item e = ap (λ s. cond (nat_eq s 1) (amount_in Stretch glue.order item) (cond (nat_eq s 2) (neg_ℤ (amount_in Shrink glue.order item)) (pos 0))) e
+
+unmoved : (glue : GlueSet) (g size : ℤ) (item : Item) → move glue item ≡ pos 0 → set_size glue g size item ≡ size
+unmoved glue g size item e =
+    let stays : g +ℤ move glue item ≡ g = ap (λ m. g +ℤ m) e ∙ plus_zero g in
+    ap (λ h. size +ℤ (widened glue h -ℤ widened glue g)) stays ∙ ap (λ z. size +ℤ z) (minus_self (widened glue g)) ∙ plus_zero size
+
+pub unset_sizes : (size : Item → ℤ) (glue : GlueSet) (g : ℤ) (items : List Item) → glue.sign ≡ 0 → set_sizes size glue g items ≡ map size items
+unset_sizes size glue g [] e = refl
+unset_sizes size glue g (x ∷ xs) e = λ j. unmoved glue g (size x) x (no_move glue x e) j ∷ unset_sizes size glue (g +ℤ move glue x) xs e j
+
+same_either : (a b : Bool) → ◌≡◌ {A = ℤ} (cond a (pos 0) (cond b (pos 0) (pos 0))) (pos 0)
+same_either true b = refl
+same_either false true = refl
+same_either false false = refl
+
+others_unmoved : (glue : GlueSet) (item : Item) → ¬ IsGlue item → move glue item ≡ pos 0
+others_unmoved glue (Glue spec) h = absurd (h tt)
+others_unmoved glue _ h = same_either (nat_eq glue.sign 1) (nat_eq glue.sign 2)
+
+pub other_sizes : (glue : GlueSet) (g size : ℤ) (item : Item) → ¬ IsGlue item → set_size glue g size item ≡ size
+other_sizes glue g size item h = unmoved glue g size item (others_unmoved glue item h)

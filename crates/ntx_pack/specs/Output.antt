@@ -46,7 +46,7 @@ set_heights glue items = set_sizes extent glue (pos 0) items
 abbrev pub sum_of : List ℤ → ℤ
 sum_of sizes = fold (λ sum size. sum +ℤ size) (pos 0) sizes
 
--- a ratio of which parts can be taken
+-- a ratio in the range of rounding
 pub record IsRatio (glue : GlueSet) : Type 0 where
   pub num : unsigned_abs glue.num ≤ 2 ^ 32
   pub den : pos 0 <ℤ glue.den

@@ -2,7 +2,8 @@
 --     hpack_step fonts head to     an hlist made over the list at a head, and its badness
 --     vpack_step fonts head to     a vlist
 --     dimensions_answer            the natural size of a list as an hlist
--- A size that is beyond TeX's largest dimension is refused: the natural width or height, the one that the box is to have, and its other two.
+-- A list is refused with Dimension where its natural width, height or depth, or the size that its box is to have, is beyond TeX's largest dimension
+-- in absolute value.
 use Rattle.std.specs.Prelude.{ℕ, ℤ, pos, neg_ℤ, ◌+ℤ◌, ◌-ℤ◌, int_le, Bool, ◌&&◌, if◌then◌else◌, List, Option, None, Result, Ok, Err}
 use Rattle.std.specs.FinMap as map
 use Rattle.ntx_num.specs.Answer.{result_map, result_and_then}

@@ -1,8 +1,8 @@
 -- The natural size of a vertical list of items ("TeX: The Program", sections 668 to 671).
 --     vlist_size items         that size
---     IsMeasured item          no size of it is beyond TeX's largest dimension, which is so of the items of every heap
+--     IsMeasured item          a box, rule, glue or kern of which no width, height, depth or shift is beyond TeX's largest dimension; any other item
 -- Its height and depth together are the heights and depths of its boxes and rules and the sizes of its glue and kerns. Its depth is that of the
--- last box or rule, unless glue or a kern stands behind it. It is as wide as its items reach to the right of its left edge, and no less than 0.
+-- last box or rule, or 0 where there is none or where glue or a kern stands after it. It is as wide as its items reach to the right of its left edge, and no less than 0.
 -- Glyphs and discretionaries, which no vertical list holds, count as penalties do.
 use Rattle.std.specs.Prelude.{ℕ, ◌≤◌, ℤ, pos, ◌+ℤ◌, ◌-ℤ◌, unsigned_abs, List, fold}
 use Rattle.std.specs.Int.{int_max}

@@ -19,7 +19,7 @@ const OVERFULL: i64 = 1_000_000;
 pub struct GlueSet {
     /// 0 where the glue keeps its natural size, 1 where it stretches, 2 where it shrinks.
     pub sign: u8,
-    /// The order of the glue that does, from 0 to 3.
+    /// The order of the glue that changes, from 0 to 3; 0 where none does.
     pub order: u8,
     /// The numerator of the ratio.
     pub num: i64,
@@ -136,9 +136,9 @@ fn badness_of(items: &[Item], shortfall: i64, glue: Available) -> i64
 }
 
 /// How the glue of these items makes up for a shortfall in scaled points, which is the size that a box is to have less
-/// their natural size, and the box's badness: that of the shortfall and the glue for it, from 0 to 10000, where all glue is
-/// finite; 0 where there are no items, or where infinite glue makes up for it; and 1000000 where all glue is finite and
-/// even what it can shrink is too little.
+/// their natural size, and the box's badness: 0 where there are no items, or where the total of some infinite order is not
+/// 0; else that of the shortfall and the finite glue for it, from 0 to 10000, or 1000000 where that glue shrinks by less
+/// than is needed.
 pub fn set_glue(items: &[Item], shortfall: i64) -> (GlueSet, i64)
     requires in_range { AreItemsInRange items.now }
     requires shortfall { unsigned_abs shortfall ≤ 2 ^ 32 }

@@ -21,8 +21,9 @@ mod vertical;
 
 pub use glue_set::{GlueSet, set_glue};
 pub use laws::{
-    boxes_hold_their_lists, heaps_are_measured, natural_boxes_are_unset, set_sizes_add_up,
-    totals_stay_bounded, vertical_lists_stack,
+    boxes_are_filled, boxes_are_sized, boxes_hold_their_lists, heaps_are_measured,
+    natural_boxes_are_unset, other_sizes_stay, set_sizes_add_up, totals_stay_bounded,
+    vertical_lists_stack,
 };
 pub use pack::{dimensions, hpack, vpack};
 pub use setter::GlueSetter;

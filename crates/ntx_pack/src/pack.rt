@@ -42,7 +42,7 @@ fn pack<N: Nodes>(
 ///
 /// The box has subtype 0, no attributes and no shift, and the list itself is in it. It is as wide as `to` says, in scaled
 /// points, as high and deep as its list, and its glue is set as [`set_glue`](crate::set_glue) says. The badness is from 0 to
-/// 10000, or 1000000 where even all that the glue can shrink is too little.
+/// 10000, or 1000000 where even all that the glue can shrink is too little, and 0 of an empty list.
 ///
 /// # Refusals
 ///
@@ -82,7 +82,7 @@ pub fn vpack<N: Nodes>(
     pack(alloc, nodes, fonts, Direction::Vertical, head, to)
 }
 
-/// The natural size of the list at a head as an hlist, in scaled points.
+/// The natural size of the list at a head as an hlist, in scaled points. The heap stays as it was.
 ///
 /// # Refusals
 ///

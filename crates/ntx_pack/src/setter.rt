@@ -1,6 +1,6 @@
 //! What glue comes to in output ("TeX: The Program", sections 625 and 634).
 
-ghost use Rattle.std.specs.Prelude.{◌≡◌, ◌≤◌, ◌+ℤ◌, ◌-ℤ◌, pos, unsigned_abs};
+ghost use Rattle.std.specs.Prelude.{◌≡◌, ◌≤◌, ◌+◌, ◌+ℤ◌, ◌-ℤ◌, pos, unsigned_abs};
 ghost use Rattle.ntx_item.specs.Items.{max_total};
 ghost use Rattle.ntx_item.specs.declared.item.Item.TheVariants.{Glue};
 ghost use Rattle.ntx_pack.specs.Output.{IsRatio, move, set_size, widened};
@@ -38,7 +38,8 @@ fn with_difference(width: i64, after: i64, before: i64) -> i64
     requires width { unsigned_abs width ≤ max_total }
     requires after { unsigned_abs after ≤ 1000000000 }
     requires before { unsigned_abs before ≤ 1000000000 }
-    ensures { result ≡ width +ℤ (after -ℤ before) }
+    ensures value { result ≡ width +ℤ (after -ℤ before) }
+    ensures bounded { unsigned_abs result ≤ unsigned_abs width + 2000000000 }
 {
     width + (after - before)
 }
@@ -53,7 +54,7 @@ impl GlueSetter {
         GlueSetter { glue, total: 0 }
     }
 
-    /// The rounded multiple of the ratio up to here.
+    /// The running total times the ratio, rounded.
     fn widened(&self) -> i64
         ensures value { result ≡ widened self.now.glue self.now.total }
         ensures capped { unsigned_abs result ≤ 1000000000 }
@@ -69,6 +70,7 @@ impl GlueSetter {
         requires total { unsigned_abs (self.old.total +ℤ move self.old.glue (Glue spec.now)) ≤ max_total }
         ensures size { result ≡ set_size self.old.glue self.old.total spec.now.width (Glue spec.now) }
         ensures total { self.new.total ≡ self.old.total +ℤ move self.old.glue (Glue spec.now) }
+        ensures bounded { unsigned_abs result ≤ unsigned_abs spec.now.width + 2000000000 }
         ensures glue { self.new.glue ≡ self.old.glue }
     {
         let before = self.widened();

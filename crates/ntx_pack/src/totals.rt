@@ -7,7 +7,7 @@ ghost use Rattle.ntx_pack.specs.Totals.{amount_of, order_of, amount_in, total, h
 use crate::change::Change;
 use ntx_item::{GlueSpec, Item};
 
-/// What is in one of the four orders of infinity together, for each of them.
+/// The totals of a list's stretch or shrink, one for each order.
 #[derive(Clone, Copy, Debug, PartialEq, Eq)]
 pub(crate) struct Totals {
     /// Of order 0, in scaled points.

@@ -65,8 +65,8 @@ fn size_of_all(items: &[Item]) -> Size
 }
 
 /// The natural size of a vertical list of these items. Its height and depth together are the heights and depths of its
-/// boxes and rules and the sizes of its glue and kerns; its depth is that of the last box or rule, unless glue or a kern
-/// stands behind it; its width is the greatest of 0, the widths of rules, and the widths of boxes, each with its shift.
+/// boxes and rules and the sizes of its glue and kerns; its depth is that of the last box or rule, or 0 where there is none or
+/// where glue or a kern stands after it; its width is the greatest of 0, the widths of rules, and the widths of boxes, each with its shift.
 /// All in scaled points.
 pub fn vlist_size(items: &[Item]) -> Size
     requires few { length items.now ≤ max_items }

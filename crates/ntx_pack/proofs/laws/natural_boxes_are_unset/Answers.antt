@@ -3,7 +3,7 @@ use Rattle.std.proofs.Common.{◌≡◌, pos, ◌+ℤ◌, refl, arith}
 use Rattle.std.proofs.lemmas.Int.{ints}
 use Rattle.ntx_item.specs.declared.pack_to.PackTo.TheVariants.{Exactly, Additional}
 use Rattle.ntx_pack.specs.Pack.{natural_size, along}
-use Rattle.ntx_pack.proofs.GlueLemmas.{unset_if}
+use Rattle.ntx_pack.proofs.PackedLemmas.{unset_if}
 use Rattle.ntx_pack.proofs.laws.natural_boxes_are_unset.Goals as goal
 
 pub returns : goal.returns
