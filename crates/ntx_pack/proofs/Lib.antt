@@ -4,3 +4,4 @@ pub mod OutputLemmas
 pub mod CodeNumbers
 pub mod GlueLemmas
 pub mod PackedLemmas
+pub mod HeapItems
