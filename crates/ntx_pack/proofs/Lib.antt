@@ -5,3 +5,4 @@ pub mod CodeNumbers
 pub mod GlueLemmas
 pub mod PackedLemmas
 pub mod HeapItems
+pub mod BoxLemmas
