@@ -6,3 +6,5 @@ pub mod GlueLemmas
 pub mod PackedLemmas
 pub mod HeapItems
 pub mod BoxLemmas
+pub mod WalkLemmas
+pub mod BoxLists
