@@ -262,7 +262,7 @@ ratio_of glue r f = record { num = to_z w64 (of_z w64 glue.num); den = to_z w64 
 -- the fields that are written are those of the box
 pub fields_are : (head : Option ℕ) (box : Packed) → IsMeasuredSize box.size → (r : IsRatio box.glue) (f : FitsSigned w64 box.glue.den)
     → record { width = to_z w64 (of_z w64 box.size.w); height = to_z w64 (of_z w64 box.size.h); depth = to_z w64 (of_z w64 box.size.d); shift = pos 0; list = head; glue_sign = box.glue.sign; glue_order = box.glue.order; glue_num = to_z w64 (of_z w64 box.glue.num); glue_den = to_z w64 (of_z w64 box.glue.den) }
-      ≡ box_fields head box
+    ≡ box_fields head box
 fields_are head box m r f =
     let w : to_z w64 (of_z w64 box.size.w) ≡ box.size.w = plain_size box.size.w m.width in
     let h : to_z w64 (of_z w64 box.size.h) ≡ box.size.h = plain_size box.size.h m.height in

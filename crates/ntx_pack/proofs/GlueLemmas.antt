@@ -107,4 +107,3 @@ set_sizes_add_up_lem size (i ∷ is) (negsuc n) sign over small =
     let t : ℤ = total_for items (negsuc n) in
     let glue : GlueSet = shared Shrink (order_for items (negsuc n)) (suc n) t in
     filled_if size (glue_set items (negsuc n)) glue items (negsuc n) (ap (λ b. cond b (fully t) glue) over) (shrinks items (order_for items (negsuc n)) n t small refl) sign
-

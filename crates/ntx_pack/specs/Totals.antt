@@ -32,9 +32,9 @@ total change order items = signed_sum (amount_in change order) items
 abbrev pub highest : Change → List Item → ℕ
 highest change items =
     if int_eq (total change 3 items) (pos 0) then
-      (if int_eq (total change 2 items) (pos 0) then
-        (if int_eq (total change 1 items) (pos 0) then 0 else 1)
-      else 2)
+    (if int_eq (total change 2 items) (pos 0) then
+    (if int_eq (total change 1 items) (pos 0) then 0 else 1)
+    else 2)
     else 3
 
 -- ---- all four at once

@@ -149,8 +149,5 @@ pub fn set_glue(items: &[Item], shortfall: i64) -> (GlueSet, i64)
     ensures order { result.0.order ≤ 3 }
 {
     let glue = glue_for(items, shortfall);
-    (
-        set_by(shortfall, glue),
-        badness_of(items, shortfall, glue),
-    )
+    (set_by(shortfall, glue), badness_of(items, shortfall, glue))
 }

@@ -29,3 +29,5 @@ pub use pack::{dimensions, hpack, vpack};
 pub use setter::GlueSetter;
 pub use vertical::vlist_size;
 
+#[cfg(test)]
+mod tests;

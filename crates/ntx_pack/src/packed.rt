@@ -108,7 +108,11 @@ fn pack_into(direction: Direction, items: &[Item], natural: Size, size: Size) ->
 
 /// What items are packed into. Refuses with Dimension where their natural size, or that of the box, is beyond TeX's
 /// largest dimension in some part.
-pub(crate) fn pack_items(direction: Direction, to: PackTo, items: &[Item]) -> Result<Packed, Trouble>
+pub(crate) fn pack_items(
+    direction: Direction,
+    to: PackTo,
+    items: &[Item],
+) -> Result<Packed, Trouble>
     requires in_range { AreItemsInRange items.now }
     requires reaching { All IsReaching items.now }
     requires measured { All IsMeasured items.now }

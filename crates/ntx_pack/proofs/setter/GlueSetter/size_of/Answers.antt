@@ -10,7 +10,7 @@ size_is : (c : goal.After-with_difference) → to_z w64 (of_z w64 c.with_differe
 size_is c =
     let t : ℤ = c.args.self.now.total in
     let after : c.widened.result ≡ widened c.args.self.now.glue (t +ℤ move c.args.self.now.glue (Glue c.args.spec.now)) =
-        c.widened.ensures.value ∙ ap (widened c.args.self.now.glue) (moved_on t c.move_of.result _ c.args.self.now.bounded c.move_of.ensures c.requires.total) in
+    c.widened.ensures.value ∙ ap (widened c.args.self.now.glue) (moved_on t c.move_of.result _ c.args.self.now.bounded c.move_of.ensures c.requires.total) in
     with_difference_is c.args.spec.now.width c.widened.result c.widened-before.result c.with_difference.result c.requires.width c.widened.ensures.capped c.widened-before.ensures.capped c.with_difference.ensures.value
     ∙ (λ j. c.args.spec.now.width +ℤ (after j -ℤ c.widened-before.ensures.value j))
 
