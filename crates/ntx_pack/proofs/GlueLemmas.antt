@@ -1,8 +1,9 @@
 -- Glue that is set: what it makes of the sizes in output.
 use Rattle.std.proofs.Common.{◌≡◌, ℕ, zero, suc, ◌+◌, ◌*◌, ◌/◌, ◌≤◌, ◌<◌, min, ℤ, pos, negsuc, neg_ℤ, ◌+ℤ◌, ◌-ℤ◌, ◌*ℤ◌, List, [], ◌∷◌, Bool, true, false, cond, Ok, Err, subst, refl, sym, ◌∙◌, ap, arith}
-use Rattle.std.specs.Prelude.{nat_eq, ◌≢◌, Result, ◌&&◌}
+use Rattle.std.specs.Prelude.{nat_eq, ◌≢◌, ◌&&◌, int_lt}
 use Rattle.std.specs.Int.RustNames.{unsigned_abs}
 use Rattle.std.proofs.lemmas.Int.{ints}
+use Rattle.std.proofs.lemmas.Bool.{eqb-true}
 use Rattle.std.proofs.lemmas.Nat.{div-mul-add}
 use Rattle.ntx_num.specs.Ratio.{nearest, with_sign_of, rounded_fraction, rounded_part}
 use Rattle.ntx_item.specs.declared.item.Item.{Item}
@@ -107,3 +108,52 @@ set_sizes_add_up_lem size (i ∷ is) (negsuc n) sign over small =
     let t : ℤ = total_for items (negsuc n) in
     let glue : GlueSet = shared Shrink (order_for items (negsuc n)) (suc n) t in
     filled_if size (glue_set items (negsuc n)) glue items (negsuc n) (ap (λ b. cond b (fully t) glue) over) (shrinks items (order_for items (negsuc n)) n t small refl) sign
+
+-- ---- an overfull box
+zero_times : (a : ℤ) → pos 0 *ℤ a ≡ pos 0
+zero_times (pos a) = let e : 0 * a ≡ 0 = omega arith in rw e refl
+zero_times (negsuc a) = let e : 0 * suc a ≡ 0 = omega arith in rw e refl
+
+once : (a : ℤ) → unsigned_abs a ≤ 1000000000 → rounded_part (pos 1) 1 a ≡ a
+once (pos a) small = exact_pos (pos 1 *ℤ pos a) a 0 small (let e : 1 * a ≡ a * 1 = omega arith in ap pos e)
+once (negsuc a) small = exact_neg (pos 1 *ℤ negsuc a) a 0 small (let e : 1 * suc a ≡ suc a * 1 = omega arith in ap (λ m. neg_ℤ (pos m)) e)
+
+minus_small : (t : ℤ) → unsigned_abs t ≤ 1000000000 → unsigned_abs (neg_ℤ t) ≤ 1000000000
+minus_small t h = omega (arith, ints)
+
+unset_part : (a : ℤ) → widened unset a ≡ pos 0
+unset_part a = exact_pos (pos 0 *ℤ a) 0 0 (omega arith) (zero_times a ∙ ap pos (let e : 0 ≡ 0 * 1 = omega arith in e))
+
+all_shrinks : (items : List Item) (t r : ℤ) → running (record { sign = 2; order = 0; num = pos 1; den = pos 1 }) items ≡ r → r ≡ neg_ℤ t → unsigned_abs t ≤ 1000000000 → Fills (record { sign = 2; order = 0; num = pos 1; den = pos 1 }) items (neg_ℤ t)
+all_shrinks items t r e is small = record {
+  all = ap (rounded_part (pos 1) 1) (e ∙ is) ∙ once (neg_ℤ t) (minus_small t small);
+  none = once (pos 0) (omega arith);
+}
+
+shrinks_fully : (items : List Item) (t : ℤ) → total Shrink 0 items ≡ t → unsigned_abs t ≤ 1000000000 → Fills (fully t) items (neg_ℤ t)
+shrinks_fully items (pos zero) e small = record { all = unset_part (running unset items); none = unset_part (pos 0) }
+shrinks_fully items (pos (suc t)) e small = all_shrinks items (pos (suc t)) _ (sum_neg (amount_in Shrink 0) items) (ap neg_ℤ e) small
+shrinks_fully items (negsuc t) e small = all_shrinks items (negsuc t) _ (sum_neg (amount_in Shrink 0) items) (ap neg_ℤ e) small
+
+both_true : (a b : Bool) → (a && b) ≡ true → (a ≡ true) × (b ≡ true)
+both_true true b e = (refl, e)
+both_true false b e = cc
+
+never_short : (x : ℕ) → int_lt (pos x) (pos 0) ≡ true → ⊥
+never_short x e = grind (arith, ints)
+
+fully_filled : (size : Item → ℤ) (items : List Item) (x : ℤ) (order : ℕ) → order ≡ 0 → unsigned_abs (total Shrink order items) ≤ 1000000000
+    → sum_of (set_sizes size (fully (total Shrink order items)) (pos 0) items) ≡ signed_sum size items +ℤ neg_ℤ (total Shrink order items)
+fully_filled size items x order none small =
+    let t : ℤ = total Shrink order items in
+    filled size (fully t) items (neg_ℤ t) (shrinks_fully items t (ap (λ o. total Shrink o items) (sym none)) small)
+
+pub overfull_lem : (size : Item → ℤ) (items : List Item) (x : ℤ) → is_overfull items x ≡ true → unsigned_abs (total_for items x) ≤ 1000000000 → sum_of (set_sizes size (glue_set items x) (pos 0) items) ≡ signed_sum size items +ℤ neg_ℤ (total_for items x)
+overfull_lem size [] x over small = cc
+overfull_lem size (i ∷ is) (pos x) over small = absurd (never_short x (both_true (int_lt (pos x) (pos 0)) _ (both_true _ _ over).0).0)
+overfull_lem size (i ∷ is) (negsuc n) over small =
+    let items : List Item = i ∷ is in
+    let t : ℤ = total_for items (negsuc n) in
+    let order : ℕ = order_for items (negsuc n) in
+    let none : order ≡ 0 = eqb-true order 0 (both_true (int_lt (negsuc n) (pos 0)) (nat_eq order 0) (both_true _ _ over).0).1 in
+    ap (λ b. sum_of (set_sizes size (cond b (fully t) (shared Shrink order (suc n) t)) (pos 0) items)) over ∙ fully_filled size items (negsuc n) order none small

@@ -34,6 +34,20 @@ move_le glue false false item = omega arith
 pub running_in_range : (glue : GlueSet) (items : List Item) (k : ℕ) → AreItemsInRange items → unsigned_abs (running glue (take k items)) ≤ max_total
 running_in_range glue items k r = front_in_range (move glue) (bound_of (nat_eq glue.sign 1)) (move_le glue (nat_eq glue.sign 1) (nat_eq glue.sign 2)) items k r
 
+sum_small : (a b : ℤ) → unsigned_abs a < 1000 → unsigned_abs b < 1000 → unsigned_abs (a +ℤ b) ≤ max_total
+sum_small a b p q = omega (arith, ints)
+
+-- a small total stays in range with one glue more
+amount_small : (change : Change) (item : Item) (n : ℕ) → absolute_stretch item < n → absolute_shrink item < n → absolute_amount change item < n
+amount_small Stretch item n a b = a
+amount_small Shrink item n a b = b
+
+pub small_total : (glue : GlueSet) (total : ℤ) (item : Item) → unsigned_abs total < 1000 → absolute_stretch item < 1000 → absolute_shrink item < 1000 → unsigned_abs (total +ℤ move glue item) ≤ max_total
+small_total glue total item t a b =
+    let m : unsigned_abs (move glue item) ≤ absolute_amount (bound_of (nat_eq glue.sign 1)) item = move_le glue (nat_eq glue.sign 1) (nat_eq glue.sign 2) item in
+    let s : absolute_amount (bound_of (nat_eq glue.sign 1)) item < 1000 = amount_small (bound_of (nat_eq glue.sign 1)) item 1000 a b in
+    sum_small total (move glue item) t (omega arith)
+
 -- ---- sums of sizes
 sum_from : (f : Item → ℤ) (start : ℤ) (items : List Item) → fold (λ sum item. sum +ℤ f item) start items ≡ start +ℤ signed_sum f items
 sum_from f start [] = omega (arith, ints)

@@ -4,11 +4,12 @@
 --     NaturalBoxesAreUnset     a box of the natural size of its list leaves its glue alone
 --     SetSizesAddUp            in output items are together larger by the shortfall, where glue makes up for it, of at most 10^9
 --     BoxesAreFilled           so the items of a box fill it
+--     OverfullBoxesShrinkFully in an overfull box they are smaller by all that its glue can shrink
 --     OtherSizesStay           in output only glue changes its size, and none where it is not set
 --     TotalsStayBounded        the running totals of output stay in range
 --     HeapsAreMeasured         the boxes, rules, glue and kerns of every heap have sizes within TeX's largest dimension
 --     BoxesHoldTheirLists      a packed box is as its list is packed, and holds that list
-use Rattle.std.specs.Prelude.{◌≡◌, ◌≢◌, ◌≤◌, ℕ, ℤ, pos, ◌+ℤ◌, ◌-ℤ◌, unsigned_abs, Bool, false, List, [], ◌∷◌, ◌++◌, map, take, Option, Some, Result, Ok, All}
+use Rattle.std.specs.Prelude.{◌≡◌, ◌≢◌, ◌≤◌, ℕ, ℤ, pos, neg_ℤ, ◌+ℤ◌, ◌-ℤ◌, unsigned_abs, Bool, true, false, List, [], ◌∷◌, ◌++◌, map, take, Option, Some, Result, Ok, All}
 use Rattle.std.specs.FinMap as fin
 use Rattle.ntx_nodes.specs.Heap.{Heap, IsLawful}
 use Rattle.ntx_nodes.specs.declared.kind.ListKind.{ListKind}
@@ -25,7 +26,7 @@ use Rattle.ntx_pack.specs.declared.direction.Direction.TheVariants.{Horizontal, 
 use Rattle.ntx_pack.specs.declared.packed.Packed.{Packed}
 use Rattle.ntx_pack.specs.declared.glue_set.GlueSet.{GlueSet}
 use Rattle.ntx_pack.specs.Vertical.{vlist_size, stacked, IsMeasured}
-use Rattle.ntx_pack.specs.GlueSet.{glue_set, is_overfull, unset}
+use Rattle.ntx_pack.specs.GlueSet.{total_for, glue_set, is_overfull, unset}
 use Rattle.ntx_pack.specs.Output.{running, set_size, set_sizes, set_widths, set_heights, sum_of}
 use Rattle.ntx_pack.specs.Pack.{natural_size, along, with_along, wished, packed, box_node, list_kind, pack_step}
 
@@ -63,6 +64,11 @@ pub record BoxesAreFilled : Type 0 where
       → unsigned_abs (box.size.w -ℤ (hlist_size items).w) ≤ 1000000000 → sum_of (set_widths box.glue items) ≡ box.size.w
   pub heights : (to : PackTo) (items : List Item) (box : Packed) → packed Vertical to items ≡ Ok box → box.glue.sign ≢ 0 → box.badness ≢ pos 1000000
       → unsigned_abs (box.size.h -ℤ (vlist_size items).h) ≤ 1000000000 → sum_of (set_heights box.glue items) ≡ box.size.h +ℤ box.size.d
+
+-- Of an overfull box, the glue of which cannot shrink enough.
+abbrev pub OverfullBoxesShrinkFully : Type 0
+OverfullBoxesShrinkFully = (size : Item → ℤ) (items : List Item) (x : ℤ) → is_overfull items x ≡ true → unsigned_abs (total_for items x) ≤ 1000000000 →
+    sum_of (set_sizes size (glue_set items x) (pos 0) items) ≡ signed_sum size items +ℤ neg_ℤ (total_for items x)
 
 abbrev pub IsGlue : Item → Type 0
 IsGlue (Glue spec) = Unit {0}

@@ -1,6 +1,6 @@
 //! Laws of packing, each told by a function that does nothing.
 
-ghost use Rattle.ntx_pack.specs.Laws.{VerticalListsStack, BoxesAreSized, NaturalBoxesAreUnset, SetSizesAddUp, BoxesAreFilled, OtherSizesStay, TotalsStayBounded, HeapsAreMeasured, BoxesHoldTheirLists};
+ghost use Rattle.ntx_pack.specs.Laws.{VerticalListsStack, BoxesAreSized, NaturalBoxesAreUnset, SetSizesAddUp, BoxesAreFilled, OverfullBoxesShrinkFully, OtherSizesStay, TotalsStayBounded, HeapsAreMeasured, BoxesHoldTheirLists};
 
 /// The law that a vertical list grows as TeX builds it: a box or a rule adds the depth so far and its height to the height
 /// and has its own depth then, and glue and kerns add the depth so far and their size and leave no depth.
@@ -23,6 +23,12 @@ pub fn set_sizes_add_up()
 /// some glue makes up for the shortfall, the box is not overfull, and the shortfall is at most 10^9.
 pub fn boxes_are_filled()
     ensures { BoxesAreFilled }
+{}
+
+/// The law that in output the items of an overfull box are together smaller by all that its glue can shrink, which is at
+/// most 10^9.
+pub fn overfull_boxes_shrink_fully()
+    ensures { OverfullBoxesShrinkFully }
 {}
 
 /// The law that in output only glue changes its size, and none where the glue of the box is not set.

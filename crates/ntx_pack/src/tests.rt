@@ -454,33 +454,39 @@ fn names_run_out(rt: HostRuntime) -> Result<(), test::Fail> {
     Ok(())
 }
 
+/// The size in output of the next glue, whose numbers are small.
+fn next_size(rt: &impl Abort, setter: &mut GlueSetter, spec: GlueSpec) -> i64 {
+    assert!(rt; spec.width.unsigned_abs() < 1000);
+    assert!(rt; spec.stretch.unsigned_abs() < 1000);
+    assert!(rt; spec.shrink.unsigned_abs() < 1000);
+    assert!(rt; setter.total.unsigned_abs() < 1000);
+    setter.size_of(&spec)
+}
+
 #[test]
 fn glue_is_rounded_up_to_a_place(rt: HostRuntime) {
-    let thirds = GlueSet {
+    let mut setter = GlueSetter::new(GlueSet {
         sign: 1,
         order: 0,
         num: 70,
         den: 3,
-    };
-    let spec = stretch(0, 1, 0);
-    let mut setter = GlueSetter::new(thirds);
-    assert!(rt; setter.size_of(&spec) == 23);
-    assert!(rt; setter.size_of(&spec) == 24);
-    assert!(rt; setter.size_of(&stretch(5, 1, 1)) == 5);
-    assert!(rt; setter.size_of(&spec) == 23);
+    });
+    assert!(rt; next_size(&rt, &mut setter, stretch(0, 1, 0)) == 23);
+    assert!(rt; next_size(&rt, &mut setter, stretch(0, 1, 0)) == 24);
+    assert!(rt; next_size(&rt, &mut setter, stretch(5, 1, 1)) == 5);
+    assert!(rt; next_size(&rt, &mut setter, stretch(0, 1, 0)) == 23);
 }
 
 #[test]
 fn glue_of_an_overfull_box(rt: HostRuntime) {
-    let all = GlueSet {
+    let mut setter = GlueSetter::new(GlueSet {
         sign: 2,
         order: 0,
         num: 1,
         den: 1,
-    };
-    let mut setter = GlueSetter::new(all);
-    assert!(rt; setter.size_of(&shrink(100, 10, 0)) == 90);
-    assert!(rt; setter.size_of(&stretch(7, 10, 0)) == 7);
+    });
+    assert!(rt; next_size(&rt, &mut setter, shrink(100, 10, 0)) == 90);
+    assert!(rt; next_size(&rt, &mut setter, stretch(7, 10, 0)) == 7);
 }
 
 #[test]
@@ -490,6 +496,7 @@ fn items_are_measured_alone(rt: HostRuntime) -> Result<(), test::Fail> {
     natural_boxes_are_unset();
     set_sizes_add_up();
     boxes_are_filled();
+    overfull_boxes_shrink_fully();
     other_sizes_stay();
     totals_stay_bounded();
     boxes_hold_their_lists();
