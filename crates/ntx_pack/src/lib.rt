@@ -22,8 +22,8 @@ mod vertical;
 pub use glue_set::{GlueSet, set_glue};
 pub use laws::{
     boxes_are_filled, boxes_are_sized, boxes_hold_their_lists, heaps_are_measured,
-    natural_boxes_are_unset, other_sizes_stay, overfull_boxes_shrink_fully, set_sizes_add_up, totals_stay_bounded,
-    vertical_lists_stack,
+    natural_boxes_are_unset, other_sizes_stay, overfull_boxes_shrink_fully, set_sizes_add_up,
+    totals_stay_bounded, vertical_lists_stack,
 };
 pub use pack::{dimensions, hpack, vpack};
 pub use setter::GlueSetter;
