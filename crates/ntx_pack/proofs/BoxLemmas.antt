@@ -1,6 +1,6 @@
 -- A made box, and its fields one after another.
 use Rattle.std.proofs.Common.{◌≡◌, ℕ, ◌+◌, ◌^◌, ◌≤◌, to_z, of_z, w64, ℤ, pos, Bool, true, false, cond, Ok, Err, Some, None, refl, sym, ◌∙◌, ap, subst, arith}
-use Rattle.std.specs.Prelude.{Option, Result, IsOk, is_some, neg_ℤ, ◌≤ℤ◌, ◌<ℤ◌, int_le, ◌&&◌, nat_eq}
+use Rattle.std.specs.Prelude.{Option, Result, IsOk, is_some, neg_ℤ, ◌≤ℤ◌, ◌<ℤ◌}
 use Rattle.std.specs.Int.RustNames.{unsigned_abs, FitsSigned}
 use Rattle.std.specs.FinMap as fin
 use Rattle.std.specs.Ordering.{nat_cmp, eq_by_cmp}
@@ -8,17 +8,15 @@ use Rattle.std.specs.Cmp.{nat_cmp_total, unsigned_tied}
 use Rattle.std.proofs.lemmas.Int.{ints, to_z-of_z}
 use Rattle.ntx_num.specs.Answer.{result_map, result_and_then}
 use Rattle.ntx_num.specs.Dimension.{max_dimension}
-use Rattle.ntx_nodes.specs.Fields.{dimension, fresh, fresh_box}
-use Rattle.ntx_nodes.specs.Heap.{Heap, is_live}
-use Rattle.ntx_nodes.specs.Steps.{of_found, at, put, next_name, making, new_node, make_step, linkable, put_fields, changed, set_step, with_glue_set, contents_with_ratio, with_ratio, set_ratio_step}
+use Rattle.ntx_nodes.specs.Fields.{dimension, fresh_box}
+use Rattle.ntx_nodes.specs.Heap.{Heap}
+use Rattle.ntx_nodes.specs.Steps.{of_found, put, next_name, making, new_node, make_step, linkable, put_fields, changed, set_step, with_glue_set, with_ratio, set_ratio_step}
 use Rattle.ntx_nodes.specs.declared.kind.Kind.{Kind}
 use Rattle.ntx_nodes.specs.declared.field.Field.{Field}
 use Rattle.ntx_nodes.specs.declared.field.Field.TheVariants as field
 use Rattle.ntx_nodes.specs.declared.field.FieldValue.{FieldValue}
 use Rattle.ntx_nodes.specs.declared.field.FieldValue.TheVariants.{Number, Link}
 use Rattle.ntx_nodes.specs.declared.contents.BoxFields.{BoxFields}
-use Rattle.ntx_nodes.specs.declared.fields.Contents.{Contents}
-use Rattle.ntx_nodes.specs.declared.fields.Contents.TheVariants as contents
 use Rattle.ntx_nodes.specs.declared.fields.Fields.{Fields}
 use Rattle.ntx_nodes.specs.declared.node.Node.{Node}
 use Rattle.ntx_nodes.specs.declared.ratio.Ratio.{Ratio}

@@ -1,13 +1,11 @@
 -- The list of a made box.
-use Rattle.std.proofs.Common.{◌≡◌, ℕ, ◌+◌, ◌<◌, ℤ, List, [], ◌∷◌, map, Bool, true, false, cond, Some, None, Ok, Err, refl, sym, ◌∙◌, ap, subst, arith}
+use Rattle.std.proofs.Common.{◌≡◌, ℕ, ◌+◌, ◌<◌, ℤ, List, [], ◌∷◌, map, false, cond, Some, None, Ok, Err, refl, sym, ◌∙◌, ap, subst, arith}
 use Rattle.std.specs.Prelude.{Option, Result, is_some, is_none, nat_eq, nat_le}
-use Rattle.std.specs.List.{find, filter_map, cons_option}
+use Rattle.std.specs.List.{cons_option}
 use Rattle.std.specs.FinMap as fin
-use Rattle.std.specs.Ordering.{nat_cmp, eq_by_cmp}
 use Rattle.std.specs.Cmp.{nat_cmp_total, unsigned_tied}
 use Rattle.std.proofs.lemmas.Bool.Decides.{nat_tests}
 use Rattle.ntx_num.specs.Answer.{result_map, result_and_then}
-use Rattle.ntx_num.specs.declared.size.Size.{Size}
 use Rattle.ntx_nodes.specs.Heap.{Heap, IsLawful, max_nodes, name_limit}
 use Rattle.ntx_nodes.specs.Steps.{put, next_name, making}
 use Rattle.ntx_nodes.specs.Walk.{inner_lists, checked_walk, flat_walk, turns_of}

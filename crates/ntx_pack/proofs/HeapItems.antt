@@ -1,5 +1,5 @@
 -- The items of lawful heaps.
-use Rattle.std.proofs.Common.{◌≡◌, ℕ, ◌≤◌, ℤ, pos, List, [], ◌∷◌, map, Ok, Err, Some, None, refl, sym, subst, arith}
+use Rattle.std.proofs.Common.{◌≡◌, ℕ, ◌≤◌, ℤ, List, [], ◌∷◌, map, Ok, Some, None, refl, subst, arith}
 use Rattle.std.specs.Prelude.{Option, Result}
 use Rattle.std.specs.List.{All, cons_option}
 use Rattle.std.specs.Int.RustNames.{unsigned_abs}
@@ -9,24 +9,21 @@ use Rattle.std.proofs.lemmas.List.Elements.{All-nil, All-cons}
 use Rattle.ntx_num.specs.Dimension.{max_dimension}
 use Rattle.ntx_num.specs.declared.size.Size.{Size}
 use Rattle.ntx_nodes.specs.Fields.{kind_of, field_of}
-use Rattle.ntx_nodes.specs.Heap.{Heap, IsLawful, IsLawfulNode, IsDimension, IsInRange}
+use Rattle.ntx_nodes.specs.Heap.{Heap, IsLawful, IsDimension, IsInRange}
 use Rattle.ntx_nodes.specs.Walk.{flat_walk, checked_walk}
 use Rattle.ntx_nodes.specs.declared.kind.ListKind.{ListKind}
 use Rattle.ntx_nodes.specs.declared.field.Field.{Field}
 use Rattle.ntx_nodes.specs.declared.field.Field.TheVariants as field
 use Rattle.ntx_nodes.specs.declared.field.FieldValue.TheVariants.{Number}
-use Rattle.ntx_nodes.specs.declared.contents.BoxFields.{BoxFields}
-use Rattle.ntx_nodes.specs.declared.contents.RuleFields.{RuleFields}
 use Rattle.ntx_nodes.specs.declared.fields.Contents.{Contents}
 use Rattle.ntx_nodes.specs.declared.fields.Contents.TheVariants as contents
-use Rattle.ntx_nodes.specs.declared.fields.Fields.{Fields}
 use Rattle.ntx_nodes.specs.declared.node.Node.{Node}
 use Rattle.ntx_nodes.specs.declared.trouble.Trouble.{Trouble}
 use Rattle.ntx_nodes.proofs.Oks.{went_Ok}
 use Rattle.ntx_tfm.specs.Font.{FontTables}
 use Rattle.ntx_item.specs.declared.item.Item.{Item}
 use Rattle.ntx_view.specs.View.{item_with, item_of, part_size, nodes_named, names_in, list_items, unless_lacking, first_lacking, items_answer}
-use Rattle.ntx_pack.specs.Vertical.{IsMeasuredSize, IsMeasured}
+use Rattle.ntx_pack.specs.Vertical.{IsMeasured}
 
 -- ---- one node
 abs_le : (x : ℤ) → IsDimension x → unsigned_abs x ≤ max_dimension

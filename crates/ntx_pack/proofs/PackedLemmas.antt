@@ -1,9 +1,9 @@
 -- What packing decides of items.
-use Rattle.std.proofs.Common.{◌≡◌, ℕ, zero, suc, ◌≤◌, ℤ, pos, negsuc, ◌+ℤ◌, ◌-ℤ◌, List, [], ◌∷◌, Bool, true, false, cond, Ok, Err, subst, refl, sym, ◌∙◌, ap, arith}
+use Rattle.std.proofs.Common.{◌≡◌, ℕ, ◌≤◌, ℤ, pos, ◌+ℤ◌, ◌-ℤ◌, List, [], ◌∷◌, Bool, true, false, cond, Ok, subst, refl, sym, ◌∙◌, ap, arith}
 use Rattle.std.specs.Prelude.{nat_eq, ◌≢◌, Result, ◌&&◌}
 use Rattle.std.specs.Int.RustNames.{unsigned_abs}
 use Rattle.std.proofs.lemmas.Int.{ints}
-use Rattle.ntx_num.specs.Answer.{result_map, result_and_then}
+use Rattle.ntx_num.specs.Answer.{result_map}
 use Rattle.ntx_num.specs.declared.size.Size.{Size}
 use Rattle.ntx_nodes.specs.declared.trouble.Trouble.{Trouble}
 use Rattle.ntx_nodes.proofs.Oks.{went_Ok, mapped_Ok, taken}
@@ -16,7 +16,7 @@ use Rattle.ntx_pack.specs.declared.direction.Direction.TheVariants.{Horizontal, 
 use Rattle.ntx_pack.specs.declared.packed.Packed.{Packed}
 use Rattle.ntx_pack.specs.declared.glue_set.GlueSet.{GlueSet}
 use Rattle.ntx_pack.specs.Vertical.{extent, vlist_depth, vlist_size}
-use Rattle.ntx_pack.specs.GlueSet.{order_for, total_for, unset, is_overfull_by, is_overfull, glue_set, badness_by, badness_for}
+use Rattle.ntx_pack.specs.GlueSet.{order_for, total_for, is_overfull_by, is_overfull, glue_set, badness_for}
 use Rattle.ntx_pack.specs.Output.{set_sizes, set_widths, set_heights, sum_of}
 use Rattle.ntx_pack.specs.Pack.{is_dimension, within, natural_size, along, with_along, wished, packed_into, packed}
 use Rattle.ntx_pack.specs.Laws.{IsNatural}

@@ -1,17 +1,16 @@
 -- Totals of lists of items, and how large they are.
-use Rattle.std.proofs.Common.{◌≡◌, ℕ, ◌+◌, ◌≤◌, ◌<◌, ℤ, pos, ◌+ℤ◌, List, [], ◌∷◌, Bool, true, false, cond, length, take, fold, get_or, subst, refl, arith}
+use Rattle.std.proofs.Common.{◌≡◌, ℕ, ◌+◌, ◌≤◌, ◌<◌, ℤ, pos, ◌+ℤ◌, List, Bool, true, false, cond, length, take, get_or, subst, arith}
 use Rattle.std.specs.Prelude.{nat_eq}
 use Rattle.std.specs.List.{sum_by}
 use Rattle.std.specs.Int.RustNames.{unsigned_abs}
-use Rattle.std.proofs.lemmas.Int.{ints}
 use Rattle.std.proofs.lemmas.List.Sums.{fold_more, sum_by-take-le}
 use Rattle.ntx_item.proofs.ItemsLemmas.{sums_are_bounded}
 use Rattle.ntx_item.specs.declared.item.Item.{Item}
-use Rattle.ntx_item.specs.declared.item.Item.TheVariants.{Box, Glyph, Rule, Glue, Kern, Penalty, Disc}
+use Rattle.ntx_item.specs.declared.item.Item.TheVariants.{Glue}
 use Rattle.ntx_item.specs.Items.{absolute_stretch, absolute_shrink, AreItemsInRange, signed_sum, max_total}
 use Rattle.ntx_pack.specs.declared.change.Change.{Change}
 use Rattle.ntx_pack.specs.declared.change.Change.TheVariants.{Stretch, Shrink}
-use Rattle.ntx_pack.specs.Totals.{amount_of, order_of, amount_in, total, totals_of, totals_with, AreTotalsInRange}
+use Rattle.ntx_pack.specs.Totals.{amount_in, total, totals_of, totals_with, AreTotalsInRange}
 
 -- how far an item can change, without its sign
 abbrev pub absolute_amount : Change → Item → ℕ

@@ -1,16 +1,14 @@
 -- Walks through a heap with one node more, to which nothing leads.
-use Rattle.std.proofs.Common.{◌≡◌, ℕ, zero, suc, ◌+◌, ◌≤◌, ◌<◌, List, [], ◌∷◌, ◌++◌, map, Bool, true, false, cond, Some, None, Ok, Err, refl, sym, ◌∙◌, ap, subst, arith}
-use Rattle.std.specs.Prelude.{Option, Result, is_some, not, nat_eq, nat_lt, ◌||◌}
-use Rattle.std.specs.List.{find, filter_map, cons_option}
+use Rattle.std.proofs.Common.{◌≡◌, ℕ, zero, suc, ◌+◌, ◌<◌, List, [], ◌∷◌, ◌++◌, true, false, cond, Some, None, Ok, Err, refl, sym, ◌∙◌, ap, subst}
+use Rattle.std.specs.Prelude.{Option, Result, not, nat_eq, nat_lt, ◌||◌}
 use Rattle.std.specs.FinMap as fin
-use Rattle.ntx_num.specs.Answer.{result_map, result_and_then}
+use Rattle.ntx_num.specs.Answer.{result_map}
 use Rattle.ntx_nodes.specs.Fields.{kind_of, field_of}
 use Rattle.ntx_nodes.specs.Heap.{Heap, IsLawful, is_live}
-use Rattle.ntx_nodes.specs.Steps.{of_found, at}
-use Rattle.ntx_nodes.specs.Walk.{inner_lists, is_reached, max_depth, admits, entered, node_reached, in_turn, enter, walk, turns_of, walk_from, checked_walk, flat_walk}
+use Rattle.ntx_nodes.specs.Steps.{of_found}
+use Rattle.ntx_nodes.specs.Walk.{inner_lists, is_reached, max_depth, admits, entered, node_reached, in_turn, enter, walk, turns_of, walk_from}
 use Rattle.ntx_nodes.specs.WalkLaws.{AreFresh}
 use Rattle.ntx_nodes.specs.declared.kind.ListKind.{ListKind}
-use Rattle.ntx_nodes.specs.declared.kind.ListKind.TheVariants.{H, V, Part}
 use Rattle.ntx_nodes.specs.declared.kind.Way.{Way}
 use Rattle.ntx_nodes.specs.declared.kind.Way.TheVariants.{Checked, Plain, Flat}
 use Rattle.ntx_nodes.specs.declared.field.Field.{Field}

@@ -3,7 +3,7 @@
 --     glue_set items x         how the glue makes up for the shortfall x
 --     badness_for items x      how bad that is: from 0 to 10000, and 1000000 of an overfull box; 0 of an empty list
 --     is_overfull items x      whether it is overfull: its glue is finite, shrinks by all it can, and that is too little
-use Rattle.std.specs.Prelude.{ℕ, zero, suc, ℤ, pos, negsuc, neg_ℤ, int_lt, unsigned_abs, nat_eq, Bool, false, ◌&&◌, if◌then◌else◌, List, [], ◌∷◌}
+use Rattle.std.specs.Prelude.{ℕ, zero, ℤ, pos, negsuc, neg_ℤ, int_lt, unsigned_abs, nat_eq, Bool, false, ◌&&◌, if◌then◌else◌, List, []}
 use Rattle.ntx_num.specs.Badness.{badness_of}
 use Rattle.ntx_num.specs.Ratio.{with_sign_of}
 use Rattle.ntx_item.specs.declared.item.Item.{Item}

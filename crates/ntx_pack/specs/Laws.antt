@@ -9,7 +9,7 @@
 --     TotalsStayBounded        the running totals of output stay in range
 --     HeapsAreMeasured         the boxes, rules, glue and kerns of every heap have sizes within TeX's largest dimension
 --     BoxesHoldTheirLists      a packed box is as its list is packed, and holds that list
-use Rattle.std.specs.Prelude.{◌≡◌, ◌≢◌, ◌≤◌, ℕ, ℤ, pos, neg_ℤ, ◌+ℤ◌, ◌-ℤ◌, unsigned_abs, Bool, true, false, List, [], ◌∷◌, ◌++◌, map, take, Option, Some, Result, Ok, All}
+use Rattle.std.specs.Prelude.{◌≡◌, ◌≢◌, ◌≤◌, ℕ, ℤ, pos, neg_ℤ, ◌+ℤ◌, ◌-ℤ◌, unsigned_abs, true, false, List, [], ◌∷◌, ◌++◌, map, take, Option, Some, Ok, All}
 use Rattle.std.specs.FinMap as fin
 use Rattle.ntx_nodes.specs.Heap.{Heap, IsLawful}
 use Rattle.ntx_nodes.specs.declared.kind.ListKind.{ListKind}

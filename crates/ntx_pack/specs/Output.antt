@@ -2,10 +2,9 @@
 --     set_widths glue items    the widths of the items of an hlist whose glue is set so
 --     set_heights glue items   the heights and depths together of the items of a vlist
 -- The stretch or shrink of all glue up to a place is one rounded multiple of the ratio, and one glue has the difference: roundings do not add up.
-use Rattle.std.specs.Prelude.{ℕ, ◌≤◌, ◌^◌, ℤ, pos, ◌+ℤ◌, ◌-ℤ◌, neg_ℤ, ◌<ℤ◌, unsigned_abs, nat_eq, if◌then◌else◌, List, [], ◌∷◌, fold}
+use Rattle.std.specs.Prelude.{◌≤◌, ◌^◌, ℤ, pos, ◌+ℤ◌, ◌-ℤ◌, neg_ℤ, ◌<ℤ◌, unsigned_abs, nat_eq, if◌then◌else◌, List, [], ◌∷◌, fold}
 use Rattle.ntx_num.specs.Ratio.{rounded_part}
 use Rattle.ntx_item.specs.declared.item.Item.{Item}
-use Rattle.ntx_item.specs.declared.item.Item.TheVariants.{Glue}
 use Rattle.ntx_item.specs.Items.{signed_sum}
 use Rattle.ntx_view.specs.Natural.{natural_width}
 use Rattle.ntx_pack.specs.declared.change.Change.TheVariants.{Stretch, Shrink}

@@ -4,7 +4,7 @@
 -- Its height and depth together are the heights and depths of its boxes and rules and the sizes of its glue and kerns. Its depth is that of the
 -- last box or rule, or 0 where there is none or where glue or a kern stands after it. It is as wide as its items reach to the right of its left edge, and no less than 0.
 -- Glyphs and discretionaries, which no vertical list holds, count as penalties do.
-use Rattle.std.specs.Prelude.{ℕ, ◌≤◌, ℤ, pos, ◌+ℤ◌, ◌-ℤ◌, unsigned_abs, List, fold}
+use Rattle.std.specs.Prelude.{◌≤◌, ℤ, pos, ◌+ℤ◌, ◌-ℤ◌, unsigned_abs, List, fold}
 use Rattle.std.specs.Int.{int_max}
 use Rattle.ntx_num.specs.Dimension.{max_dimension}
 use Rattle.ntx_num.specs.declared.size.Size.{Size}

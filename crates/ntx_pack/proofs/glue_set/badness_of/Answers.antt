@@ -1,5 +1,5 @@
 -- proofs/glue_set/badness_of/Answers.antt
-use Rattle.std.proofs.Common.{◌≡◌, w64, rules, sym, ◌∙◌}
+use Rattle.std.proofs.Common.{w64, rules, sym, ◌∙◌}
 use Rattle.std.specs.Int.RustNames.{FitsSigned}
 use Rattle.std.proofs.lemmas.Int.{to_z-of_z}
 use Rattle.ntx_pack.proofs.CodeNumbers.{badness_is}

@@ -1,9 +1,9 @@
 -- proofs/make/make_box/Answers.antt
 -- The box after each write, as far as the goal.
-use Rattle.std.proofs.Common.{◌≡◌, ℤ, Err, to_z, of_z, w64, rules}
+use Rattle.std.proofs.Common.{w64, rules}
 use Rattle.std.specs.Int.RustNames.{FitsSigned}
-use Rattle.ntx_pack.specs.Pack.{box_fields, box_node}
-use Rattle.ntx_pack.proofs.BoxLemmas.{holds_new, width_ok, holds_width, height_ok, holds_height, depth_ok, holds_depth, list_ok, holds_list, holds_ratio, ratio_not_refused, ratio_of, fields_are, box_made, box_refused, plain_le}
+use Rattle.ntx_pack.specs.Pack.{box_fields}
+use Rattle.ntx_pack.proofs.BoxLemmas.{holds_new, width_ok, holds_width, height_ok, holds_height, depth_ok, holds_depth, list_ok, holds_list, holds_ratio, ratio_not_refused, ratio_of, fields_are, box_made, plain_le}
 use Rattle.ntx_pack.proofs.make.make_box.Goals as goal
 
 pub write-requires : goal.write-requires

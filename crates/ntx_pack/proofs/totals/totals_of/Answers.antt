@@ -1,5 +1,5 @@
 -- proofs/totals/totals_of/Answers.antt
-use Rattle.std.proofs.Common.{◌≡◌, ◌≤◌, ◌+ℤ◌, get_or, subst, sym, ap, ◌∙◌, take}
+use Rattle.std.proofs.Common.{◌≤◌, ◌+ℤ◌, get_or, subst, sym, ap, ◌∙◌, take}
 use Rattle.std.specs.Int.RustNames.{unsigned_abs}
 use Rattle.ntx_item.specs.Items.{max_total}
 use Rattle.ntx_pack.specs.declared.totals.Totals.{Totals}
