@@ -1,9 +1,9 @@
 //! How the glue of a box is set ("TeX: The Program", sections 658 to 667 and 672 to 677).
 
-ghost use Rattle.std.specs.Prelude.{◌≡◌, ◌≤◌, ◌<◌, ◌^◌, pos, unsigned_abs, Bool, true, false};
+ghost use Rattle.std.specs.Prelude.{◌≡◌, ◌≤◌, ◌^◌, pos, unsigned_abs};
 ghost use Rattle.ntx_item.specs.Items.{AreItemsInRange, max_total};
 ghost use Rattle.ntx_pack.specs.Output.{IsRatio};
-ghost use Rattle.ntx_pack.specs.GlueSet.{order_for, total_for, glue_set, badness_for, shared, fully, unset, is_overfull, is_overfull_by, glue_set_by, badness_by};
+ghost use Rattle.ntx_pack.specs.GlueSet.{order_for, total_for, glue_set, badness_for, shared, fully, is_overfull_by, glue_set_by, badness_by};
 
 use crate::change::Change;
 use crate::totals::{Available, available_glue};

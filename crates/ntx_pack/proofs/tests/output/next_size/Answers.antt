@@ -1,10 +1,10 @@
--- proofs/tests/next_size/Answers.antt
+-- proofs/tests/output/next_size/Answers.antt
 use Rattle.std.proofs.Common.{◌<◌, arith}
 use Rattle.std.specs.Int.RustNames.{unsigned_abs}
 use Rattle.std.proofs.lemmas.Int.{ints}
 use Rattle.ntx_item.specs.declared.item.Item.TheVariants.{Glue}
 use Rattle.ntx_pack.proofs.OutputLemmas.{small_total}
-use Rattle.ntx_pack.proofs.tests.next_size.Goals as goal
+use Rattle.ntx_pack.proofs.tests.output.next_size.Goals as goal
 
 pub size_of-requires-clause-total : goal.size_of-requires-clause-total
 size_of-requires-clause-total g c =
