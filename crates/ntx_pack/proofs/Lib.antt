@@ -1,0 +1,10 @@
+pub mod TotalLemmas
+pub mod StackLemmas
+pub mod OutputLemmas
+pub mod CodeNumbers
+pub mod GlueLemmas
+pub mod PackedLemmas
+pub mod HeapItems
+pub mod BoxLemmas
+pub mod WalkLemmas
+pub mod BoxLists

@@ -1,0 +1,153 @@
+//! How the glue of a box is set ("TeX: The Program", sections 658 to 667 and 672 to 677).
+
+ghost use Rattle.std.specs.Prelude.{◌≡◌, ◌≤◌, ◌^◌, pos, unsigned_abs};
+ghost use Rattle.ntx_item.specs.Items.{AreItemsInRange, max_total};
+ghost use Rattle.ntx_pack.specs.Output.{IsRatio};
+ghost use Rattle.ntx_pack.specs.GlueSet.{order_for, total_for, glue_set, badness_for, shared, fully, is_overfull_by, glue_set_by, badness_by};
+
+use crate::change::Change;
+use crate::totals::{Available, available_glue};
+use ntx_item::Item;
+use ntx_num::badness;
+
+/// The badness of a box that is too small for what is in it.
+const OVERFULL: i64 = 1_000_000;
+
+/// How the glue of a box is set, as the box says it ("TeX: The Program", section 135). The size of all glue of the order
+/// changes by the ratio `num / den` of its stretch or shrink.
+#[derive(Clone, Copy, Debug, PartialEq, Eq)]
+pub struct GlueSet {
+    /// 0 where the glue keeps its natural size, 1 where it stretches, 2 where it shrinks.
+    pub sign: u8,
+    /// The order of the glue that changes, from 0 to 3; 0 where none does.
+    pub order: u8,
+    /// The numerator of the ratio.
+    pub num: i64,
+    /// The denominator of the ratio, at least 1.
+    pub den: i64,
+}
+
+/// Glue that keeps its natural size.
+const UNSET: GlueSet = GlueSet {
+    sign: 0,
+    order: 0,
+    num: 0,
+    den: 1,
+};
+
+/// Whether all glue shrinks by all that it can, and that is too little.
+fn is_overfull(shortfall: i64, glue: Available) -> bool
+    requires { unsigned_abs shortfall ≤ 2 ^ 32 }
+    ensures { result ≡ is_overfull_by shortfall glue.order glue.total }
+{
+    shortfall < 0 && glue.order == 0 && glue.total < -shortfall
+}
+
+/// Glue that changes by the ratio of a shortfall to its total.
+fn share(change: Change, shortfall: i64, glue: Available) -> GlueSet
+    requires shortfall { unsigned_abs shortfall ≤ 2 ^ 32 }
+    requires order { glue.order ≤ 3 }
+    requires total { unsigned_abs glue.total ≤ max_total }
+    ensures value { result ≡ shared change glue.order (unsigned_abs shortfall) glue.total }
+    ensures ratio { IsRatio result }
+{
+    if glue.total == 0 {
+        return UNSET;
+    }
+    let size = shortfall.abs();
+    GlueSet {
+        sign: change.sign(),
+        order: glue.order,
+        num: if glue.total < 0 { -size } else { size },
+        den: glue.total.abs(),
+    }
+}
+
+/// Glue that shrinks by all that it can.
+fn shrink_fully(total: i64) -> GlueSet
+    ensures value { result ≡ fully total }
+    ensures ratio { IsRatio result }
+{
+    if total == 0 {
+        return UNSET;
+    }
+    GlueSet {
+        sign: Change::Shrink.sign(),
+        order: 0,
+        num: 1,
+        den: 1,
+    }
+}
+
+/// How this glue makes up for a shortfall.
+fn set_by(shortfall: i64, glue: Available) -> GlueSet
+    requires shortfall { unsigned_abs shortfall ≤ 2 ^ 32 }
+    requires order { glue.order ≤ 3 }
+    requires total { unsigned_abs glue.total ≤ max_total }
+    ensures value { result ≡ glue_set_by shortfall glue.order glue.total }
+    ensures ratio { IsRatio result }
+{
+    if shortfall == 0 {
+        UNSET
+    } else if is_overfull(shortfall, glue) {
+        shrink_fully(glue.total)
+    } else {
+        share(Change::of(shortfall), shortfall, glue)
+    }
+}
+
+/// How bad it is that this glue makes up for a shortfall.
+fn badness_by(shortfall: i64, glue: Available) -> i64
+    requires shortfall { unsigned_abs shortfall ≤ 2 ^ 32 }
+    ensures { result ≡ pos (badness_by shortfall glue.order glue.total) }
+{
+    if is_overfull(shortfall, glue) {
+        OVERFULL
+    } else if glue.order == 0 {
+        badness(shortfall.abs(), glue.total)
+    } else {
+        0
+    }
+}
+
+/// The glue of these items that can make up for a shortfall.
+fn glue_for(items: &[Item], shortfall: i64) -> Available
+    requires { AreItemsInRange items.now }
+    ensures order { result.order ≡ order_for items.now shortfall }
+    ensures total { result.total ≡ total_for items.now shortfall }
+    ensures order_in_range { result.order ≤ 3 }
+    ensures total_in_range { unsigned_abs result.total ≤ max_total }
+{
+    available_glue(Change::of(shortfall), items)
+}
+
+/// How bad it is that this glue makes up for the shortfall of these items.
+fn badness_of(items: &[Item], shortfall: i64, glue: Available) -> i64
+    requires shortfall { unsigned_abs shortfall ≤ 2 ^ 32 }
+    requires order { glue.order ≡ order_for items.now shortfall }
+    requires total { glue.total ≡ total_for items.now shortfall }
+    ensures { result ≡ pos (badness_for items.now shortfall) }
+{
+    if items.is_empty() {
+        0
+    } else {
+        badness_by(shortfall, glue)
+    }
+}
+
+/// How the glue of these items makes up for a shortfall in scaled points, which is the size that a box is to have less
+/// their natural size, and the box's badness: 0 where there are no items, or where the total of some infinite order is not
+/// 0; else that of the shortfall and the finite glue for it, from 0 to 10000, or 1000000 where that glue shrinks by less
+/// than is needed.
+pub fn set_glue(items: &[Item], shortfall: i64) -> (GlueSet, i64)
+    requires in_range { AreItemsInRange items.now }
+    requires shortfall { unsigned_abs shortfall ≤ 2 ^ 32 }
+    ensures glue { result.0 ≡ glue_set items.now shortfall }
+    ensures badness { result.1 ≡ pos (badness_for items.now shortfall) }
+    ensures ratio { IsRatio result.0 }
+    ensures sign { result.0.sign ≤ 2 }
+    ensures order { result.0.order ≤ 3 }
+{
+    let glue = glue_for(items, shortfall);
+    (set_by(shortfall, glue), badness_of(items, shortfall, glue))
+}
