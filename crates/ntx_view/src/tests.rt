@@ -145,6 +145,57 @@ fn glue_and_penalties_are_seen(rt: HostRuntime) -> Result<(), test::Fail> {
     Ok(())
 }
 
+/// Four words of two letters with spaces between them, and what ends a paragraph: a penalty and glue that fills the line.
+fn four_words(nodes: &mut PlainHeap) -> Result<u64, Fail<Trouble>> {
+    let end = made(
+        nodes,
+        Kind::Glue,
+        &[(Field::Stretch, 65_536), (Field::StretchOrder, 1)],
+    )?;
+    let mut next = made(nodes, Kind::Penalty, &[(Field::Penalty, 10_000)])?;
+    join(nodes, next, Field::Next, end)?;
+    for place in 0..11 {
+        let n = if place % 3 == 2 {
+            made(
+                nodes,
+                Kind::Glue,
+                &[
+                    (Field::Width, 163_840),
+                    (Field::Stretch, 81_920),
+                    (Field::Shrink, 40_960),
+                ],
+            )?
+        } else {
+            made(nodes, Kind::Glyph, &[(Field::Char, 97)])?
+        };
+        join(nodes, n, Field::Next, next)?;
+        next = n;
+    }
+    Ok(next)
+}
+
+#[test]
+fn a_paragraph_of_four_words_has_13_items(rt: HostRuntime) -> Result<(), test::Fail> {
+    let bytes = small_font(rt.alloc())?;
+    let fonts = [read_font(rt.alloc(), &bytes, "T", None)?];
+    let mut nodes = PlainHeap::new(rt.alloc(), 1)?;
+    let head = four_words(&mut nodes)?;
+    let list = items(rt.alloc(), &mut nodes, &fonts, Some(head), ListKind::H)?;
+    assert_eq!(rt; list.len(), 13);
+    let space = GlueSpec {
+        width: 163_840,
+        stretch: 81_920,
+        shrink: 40_960,
+        ..GlueSpec::default()
+    };
+    assert!(rt; list[2] == Item::Glue { spec: space });
+    assert!(rt; list[10] == Item::Glyph { size: LETTER });
+    assert!(rt; list[11] == Item::Penalty { p: 10_000 });
+    let size = hlist_size(&list);
+    assert_eq!(rt; size.w, 8 * 327_680 + 3 * 163_840);
+    Ok(())
+}
+
 #[test]
 fn glyphs_without_a_character_are_refused(rt: HostRuntime) -> Result<(), test::Fail> {
     let bytes = small_font(rt.alloc())?;
