@@ -1,0 +1,2 @@
+pub mod TerminalLemmas
+pub mod SoundAnswers
