@@ -1,2 +1,4 @@
 pub mod TerminalLemmas
 pub mod SoundAnswers
+pub mod SoundPhrases
+pub mod SoundLists
