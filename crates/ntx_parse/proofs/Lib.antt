@@ -5,3 +5,7 @@ pub mod SoundLists
 pub mod SoundPrefixes
 pub mod SoundTables
 pub mod SoundExpressions
+pub mod SoundAssignments
+pub mod SoundStatements
+pub mod SoundBlocks
+pub mod Sound

@@ -100,6 +100,23 @@ sound_then {D = D} {a = a} {next = next} h g = record {
       };
 }
 
+-- Nothing is read where what comes behind always stops.
+pub sound_never : {A B : Type 0} {F : Phrase B} {words : List Word} (a : Answer A) (next : A → List Word → Answer B) → ((x : A) (rest : List Word) → (stop : Stop) × (next x rest ≡ Some (Err stop))) → IsSound F words (and_then a next)
+sound_never a next h = record {
+  holds = λ y behind e.
+      let parts = parts_read a next y (spelled_by behind) e in
+      let stops = h parts.0 parts.1 in
+      not_read stops.0 (sym stops.1 ∙ parts.3);
+}
+
+-- What is read begins the words.
+pub sound_spelled : {A : Type 0} {D : Phrase A} {words : List Word} {answer : Answer A} → IsSound D words answer → IsSound (λ x placed behind. (spelled_by placed ≡ words) × D x placed behind) words answer
+sound_spelled h = record {
+  holds = λ x behind e.
+      let found = h.holds x behind e in
+      record { placed = found.placed; words_are = found.words_are; derives = (found.words_are, found.derives); fine = found.fine };
+}
+
 -- ---- words
 
 -- This word, which is this terminal, at this place.

@@ -36,7 +36,7 @@ names_on (word_taken comma) (local_read is) h = behind_one _ h (λ others names.
 exps_on : {p : Place} {o : Word} {e : Exp} {before all : List Exp} {words behind inner rest : List Placed} → IsTaken p terminal.Comma o words behind → IsExp p precedence.Or e behind inner → IsBehind (before ++ e ∷ []) (IsMoreExps p) all inner rest → IsBehind before (IsMoreExps p) all words rest
 exps_on (word_taken comma) first h = behind_one _ h (λ others exps. exp_more comma first exps)
 
-names_whole : {p : Place} {name : LocalName} {all : List LocalName} {words inner rest : List Placed} → IsLocalName p name words inner → IsBehind (name ∷ []) (IsMoreNames p) all inner rest → IsNames p all words rest
+pub names_whole : {p : Place} {name : LocalName} {all : List LocalName} {words inner rest : List Placed} → IsLocalName p name words inner → IsBehind (name ∷ []) (IsMoreNames p) all inner rest → IsNames p all words rest
 names_whole {p} {words = words} {rest = rest} (local_read is) h = subst (λ names. IsNames p names words rest) (sym h.all_are) (names_from is h.derives)
 
 exps_whole : {p : Place} {e : Exp} {all : List Exp} {words inner rest : List Placed} → IsExp p precedence.Or e words inner → IsBehind (e ∷ []) (IsMoreExps p) all inner rest → IsExps p all words rest
