@@ -1,10 +1,10 @@
 -- What is read as a script is one.
 --     sound    a script with the tree that is read
-use Rattle.std.proofs.Common.{◌≡◌, ℕ, zero, suc, List, [], ◌∷◌, Some, Ok}
+use Rattle.std.proofs.Common.{◌≡◌, ℕ, zero, suc, List, [], Some, Ok}
 use Rattle.ntx_syntax.specs.declared.tree.Block.{Block}
 use Rattle.ntx_parse.specs.Words.{Word}
 use Rattle.ntx_parse.specs.Grammar.{outermost, Accepts}
-use Rattle.ntx_parse.specs.Reading.{Readers, read, nothing, over, readers}
+use Rattle.ntx_parse.specs.Reading.{Readers, nothing, over, readers}
 use Rattle.ntx_parse.proofs.SoundAnswers.{sound_nothing}
 use Rattle.ntx_parse.proofs.SoundPhrases.{AreSound}
 use Rattle.ntx_parse.proofs.SoundLists.{sound_path, sound_names, sound_exps}

@@ -1,5 +1,6 @@
 -- Assignments and calls: what is read of them is spelled.
-use Rattle.std.proofs.Common.{◌≡◌, ℕ, List, [], ◌∷◌, ◌++◌, Option, None, Some, refl, sym, subst}
+use Rattle.std.proofs.Common.{◌≡◌, List, [], ◌∷◌, ◌++◌, Option, None, Some, refl, sym, subst}
+use Rattle.std.proofs.lemmas.Option.{none-some, same_Some}
 use Rattle.ntx_syntax.specs.declared.tree.StatKind.TheVariants as stat
 use Rattle.ntx_syntax.specs.declared.tree.Var.{Var}
 use Rattle.ntx_syntax.specs.declared.tree.Var.TheVariants as var
@@ -23,21 +24,15 @@ values_read (word_taken is) all = grammar.values is all
 
 -- ---- what is assigned to
 
-some-injective : {A : Type 0} {a b : A} → Some a ≡ Some b → a ≡ b
-some-injective e = cc
-
-none_some : {A : Type 0} {X : Type 0} (a : A) → None ≡ Some a → X
-none_some a e = absurd cc
-
 as_the_var : {p : Place} {found v : Var} {words rest : List Placed} → Some found ≡ Some v → IsVar p found words rest → IsVar p v words rest
-as_the_var {p} {words = words} {rest = rest} e h = subst (λ x. IsVar p x words rest) (some-injective e) h
+as_the_var {p} {found} {v} {words} {rest} e h = subst (λ x. IsVar p x words rest) (same_Some found v e) h
 
 part_var : {p : Place} {found : Part} {words rest : List Placed} (v : Var) → IsPart p found words rest → var_of found ≡ Some v → IsVar p v words rest
 part_var v (name_part is) e = as_the_var e (grammar.name_var is)
-part_var v (parenthesized_part open_ inside closed) e = none_some v e
+part_var v (parenthesized_part open_ inside closed) e = absurd (none-some v e)
 part_var v (index_part prefix key) e = as_the_var e (grammar.index_var prefix key)
 part_var v (field_part prefix dot name) e = as_the_var e (grammar.field_var prefix dot name)
-part_var v (call_part prefix all) e = none_some v e
+part_var v (call_part prefix all) e = absurd (none-some v e)
 
 part_call : {p : Place} {prefix : Prefix} {all : List Exp} {words rest : List Placed} → IsPart p (part.Call prefix all) words rest → IsCall p (record { function = prefix; arguments = all }) words rest
 part_call (call_part prefix all) = grammar.call prefix all
@@ -64,8 +59,8 @@ module _ (r : Readers) (s : AreSound r) where
   pub sound_vars : (p : Place) (before : List Var) (words : List Word) → IsSound (IsBehind before (IsMoreVars p)) words (vars_behind r p before words)
   sound_vars p before words = sound_where p terminal.Comma words refl
       (λ _ second. sound_then (sound_prefix r s p second) (λ found behind.
-          sound_then (sound_as_var p found (var_of found) behind refl) (λ v others.
-              sound_as (s.vars p (before ++ v ∷ []) others) (λ _ _ _ h. λ _ v first whole _ comma. vars_on comma (v first whole) h))))
+      sound_then (sound_as_var p found (var_of found) behind refl) (λ v others.
+      sound_as (s.vars p (before ++ v ∷ []) others) (λ _ _ _ h. λ _ v first whole _ comma. vars_on comma (v first whole) h))))
       (λ _. sound_read (λ _ _. behind_all vars_end))
 
   sound_assignment : (p : Place) (first : Var) (words : List Word) → IsSound (Completes (IsVar p) first (IsKind p)) words (assignment_to r p first words)
@@ -73,7 +68,7 @@ module _ (r : Readers) (s : AreSound r) where
       sound_then (s.vars p (first ∷ []) words) (λ vars behind.
       sound_then (sound_expected p terminal.Assign behind refl) (λ _ second.
       sound_then (sound_read_exps r s p second) (λ all rest.
-          sound_read (λ _ _ _ all _ is _ vars _ first. assignment_read first vars is all))))
+      sound_read (λ _ _ _ all _ is _ vars _ first. assignment_read first vars is all))))
 
   assignment_to_part : (p : Place) (found : Part) (v : Var) (words : List Word) → var_of found ≡ Some v → IsSound (Completes (IsWhole p) found (IsKind p)) words (assignment_to r p v words)
   assignment_to_part p found v words e = sound_as (sound_assignment p v words) (λ _ _ _ h. λ first whole. h first (part_var v whole.derives e))

@@ -1,6 +1,6 @@
 -- Blocks: what is read of them is spelled.
-use Rattle.std.proofs.Common.{◌≡◌, ℕ, Bool, true, false, cond, List, [], ◌∷◌, ◌++◌, Option, None, Some, refl, sym, ap, subst}
-use Rattle.ntx_syntax.specs.declared.tree.Block.{Block, roll-Block}
+use Rattle.std.proofs.Common.{◌≡◌, List, [], ◌∷◌, ◌++◌, Option, Some, refl, subst}
+use Rattle.ntx_syntax.specs.declared.tree.Block.{roll-Block}
 use Rattle.ntx_syntax.specs.declared.tree.Return.{Return}
 use Rattle.ntx_syntax.specs.declared.tree.Stat.{Stat}
 use Rattle.ntx_syntax.specs.declared.tree.StatKind.{StatKind}
@@ -10,7 +10,7 @@ use Rattle.ntx_parse.specs.declared.terminal.Terminal.TheVariants as terminal
 use Rattle.ntx_parse.specs.Words.{Word}
 use Rattle.ntx_parse.specs.Grammar as grammar
 use Rattle.ntx_parse.specs.Grammar.{Placed, Is, IsSemicolon, no_semicolon, IsBlock, IsStats, no_stats, more_stats, IsLast, no_return, IsReturned, returns_nothing, IsStat, statement, IsKind}
-use Rattle.ntx_parse.specs.Reading.{Readers, begins, begins_statement, kind_at, stats_behind, semicolon_behind, ends_returned, returned_behind, last_behind, block_at}
+use Rattle.ntx_parse.specs.Reading.{Readers, begins_statement, stats_behind, semicolon_behind, ends_returned, returned_behind, last_behind, block_at}
 use Rattle.ntx_parse.proofs.SoundAnswers.{spelled_by, IsSound, IsTaken, word_taken, sound_read, sound_as, sound_if, sound_then, sound_spelled, sound_where}
 use Rattle.ntx_parse.proofs.SoundPhrases.{IsBehind, behind_all, behind_one, behind_none, AreSound}
 use Rattle.ntx_parse.proofs.SoundLists.{sound_read_exps}
@@ -53,7 +53,7 @@ module _ (r : Readers) (s : AreSound r) where
   sound_stats p before [] = sound_read (λ _ _. behind_all no_stats)
   sound_stats p before (o ∷ words) = sound_if (begins_statement o.is)
       (λ _. sound_then (sound_spelled (sound_kind r s p o.is o words refl)) (λ kind rest.
-          sound_as (s.stats p (before ++ record { line = o.line; kind = kind } ∷ []) rest) (λ _ _ _ h. λ start kind. stats_on (stat_read o words start kind.0 kind.1) h)))
+      sound_as (s.stats p (before ++ record { line = o.line; kind = kind } ∷ []) rest) (λ _ _ _ h. λ start kind. stats_on (stat_read o words start kind.0 kind.1) h)))
       (λ _. sound_read (λ _ _. behind_all no_stats))
 
   sound_returned : (p : Place) (words : List Word) → IsSound (IsReturned p) words (returned_behind r p words)
@@ -64,8 +64,8 @@ module _ (r : Readers) (s : AreSound r) where
   sound_last : (p : Place) (words : List Word) → IsSound (IsLast p) words (last_behind r p words)
   sound_last p words = sound_where p terminal.Return words refl
       (λ _ second.
-          sound_then (sound_returned p second) (λ values behind.
-          sound_then (sound_semicolon p behind) (λ _ rest. sound_read (λ _ _ _ ends _ values _ is. return_read is values ends))))
+      sound_then (sound_returned p second) (λ values behind.
+      sound_then (sound_semicolon p behind) (λ _ rest. sound_read (λ _ _ _ ends _ values _ is. return_read is values ends))))
       (λ _. sound_read (λ _ _. no_return))
 
   pub sound_block : (p : Place) (words : List Word) → IsSound (IsBlock p) words (block_at r p words)

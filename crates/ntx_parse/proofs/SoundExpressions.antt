@@ -1,5 +1,6 @@
 -- Expressions: what is read of them is spelled.
-use Rattle.std.proofs.Common.{◌≡◌, ℕ, Bool, true, false, cond, List, [], ◌∷◌, ◌++◌, ℤ, Option, None, Some, refl, sym, ap, ◌∙◌, subst}
+use Rattle.std.proofs.Common.{◌≡◌, ℕ, true, List, [], ◌∷◌, ◌++◌, ℤ, Option, None, Some, refl}
+use Rattle.std.proofs.lemmas.Option.{none-some}
 use Rattle.ntx_syntax.specs.declared.tree.FunctionBody.{FunctionBody}
 use Rattle.ntx_syntax.specs.declared.tree.Exp.{Exp}
 use Rattle.ntx_syntax.specs.declared.tree.Exp.TheVariants as exp
@@ -19,9 +20,9 @@ use Rattle.ntx_parse.specs.declared.terminal.Terminal.TheVariants as terminal
 use Rattle.ntx_parse.specs.Words.{Word}
 use Rattle.ntx_parse.specs.Grammar as grammar
 use Rattle.ntx_parse.specs.Grammar.{Placed, Is, within, tighter, binary_precedence, binary_terminal, unary_terminal, associates_left, run_of, IsBody, IsExp, IsRun, first_operand, more_operands, IsSimple}
-use Rattle.ntx_parse.specs.Reading.{Readers, Answer, read, and_then, begins, joined, read_prefix, sign_at, operator_at, binary_of, read_value, simple_at, read_simple, read_operand, concat_behind, operations_by, operations_behind, read_run, exp_at}
+use Rattle.ntx_parse.specs.Reading.{Readers, read, and_then, begins, joined, read_prefix, sign_at, operator_at, binary_of, read_value, simple_at, read_simple, read_operand, concat_behind, operations_by, operations_behind, read_run, exp_at}
 use Rattle.ntx_parse.proofs.TerminalLemmas.{begins-true, unary_of-some, binary_of-some, of_precedence-some}
-use Rattle.ntx_parse.proofs.SoundAnswers.{Phrase, Completes, IsSound, IsTaken, word_taken, IsOther, sound_read, sound_stopped, sound_as, sound_if, sound_then, sound_taken, sound_where}
+use Rattle.ntx_parse.proofs.SoundAnswers.{Completes, IsSound, IsTaken, word_taken, IsOther, sound_read, sound_stopped, sound_as, sound_then, sound_taken, sound_where}
 use Rattle.ntx_parse.proofs.SoundPhrases.{IsWhole, IsOperated, AreSound}
 use Rattle.ntx_parse.proofs.SoundPrefixes.{sound_prefix, joined_prefix}
 use Rattle.ntx_parse.proofs.SoundTables.{IsBraced, in_braces, sound_body, sound_table}
@@ -70,15 +71,12 @@ other_binary : (op : BinaryOp) → IsOther (binary_terminal op)
 other_binary binary.Or = refl
 other_binary _ = refl
 
-none_some : {A : Type 0} {X : Type 0} (a : A) → None ≡ Some a → X
-none_some a e = absurd cc
-
 begins_sign : (words : List Word) (op : UnaryOp) → sign_at words ≡ Some op → begins (unary_terminal op) words ≡ true
-begins_sign [] op e = none_some op e
+begins_sign [] op e = absurd (none-some op e)
 begins_sign (o ∷ words) op e = begins-true (unary_terminal op) o words (unary_of-some o.is op e)
 
 begins_operator : (at : Precedence) (words : List Word) (op : BinaryOp) → operator_at at words ≡ Some op → (begins (binary_terminal op) words ≡ true) × (binary_precedence op ≡ at)
-begins_operator at [] op e = none_some op e
+begins_operator at [] op e = absurd (none-some op e)
 begins_operator at (o ∷ words) op e =
     let found = of_precedence-some at (binary_of o.is) op e in
     (begins-true (binary_terminal op) o words (binary_of-some o.is op found.0), found.1)
@@ -124,8 +122,8 @@ module _ (r : Readers) (s : AreSound r) where
   sound_concat p words =
       sound_then (s.exp p (tighter precedence.Concat) words) (λ left behind.
       sound_where p terminal.DoubleDot behind refl
-          (λ _ inner. sound_then (s.exp (within p) precedence.Concat inner) (λ right rest. sound_read (λ _ _ _ right _ is _ left. concat_read left is right)))
-          (λ _. sound_read (λ _ _ _ left. grammar.no_concatenation refl left)))
+      (λ _ inner. sound_then (s.exp (within p) precedence.Concat inner) (λ right rest. sound_read (λ _ _ _ right _ is _ left. concat_read left is right)))
+      (λ _. sound_read (λ _ _ _ left. grammar.no_concatenation refl left)))
 
   sound_operations_by : (p : Place) (at : Precedence) (before : List Operation) (found : Option BinaryOp) (words : List Word) → operator_at at words ≡ found → IsSound (IsOperated p at before) words (operations_by r p at before found words)
   sound_operations_by p at before None words e = sound_read (λ _ _ first start run. run)
@@ -133,7 +131,7 @@ module _ (r : Readers) (s : AreSound r) where
       let is = begins_operator at words op e in
       sound_then (sound_taken p (binary_terminal op) words (other_binary op) is.0) (λ _ behind.
       sound_then (s.exp (within p) (tighter at) behind) (λ operand rest.
-          sound_as (s.operations p at (before ++ record { operator = op; operand = operand } ∷ []) rest) (λ _ _ _ h. λ _ operand _ taken. operated_on op is.1 taken operand h)))
+      sound_as (s.operations p at (before ++ record { operator = op; operand = operand } ∷ []) rest) (λ _ _ _ h. λ _ operand _ taken. operated_on op is.1 taken operand h)))
 
   pub sound_operations : (p : Place) (at : Precedence) (before : List Operation) (words : List Word) → IsSound (IsOperated p at before) words (operations_behind r p at before words)
   sound_operations p at before words = sound_operations_by p at before (operator_at at words) words refl

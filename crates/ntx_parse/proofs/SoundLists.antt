@@ -1,12 +1,12 @@
 -- Names and lists: what is read of them is spelled.
-use Rattle.std.proofs.Common.{◌≡◌, ℕ, List, [], ◌∷◌, ◌++◌, refl, sym, ap, ◌∙◌, subst}
+use Rattle.std.proofs.Common.{ℕ, List, [], ◌∷◌, ◌++◌, refl, sym, subst}
 use Rattle.ntx_syntax.specs.declared.tree.LocalName.{LocalName}
 use Rattle.ntx_syntax.specs.declared.tree.Exp.{Exp}
 use Rattle.ntx_parse.specs.declared.place.Place.{Place}
 use Rattle.ntx_parse.specs.declared.precedence.Precedence.TheVariants as precedence
 use Rattle.ntx_parse.specs.declared.terminal.Terminal.TheVariants as terminal
 use Rattle.ntx_parse.specs.Words.{Word}
-use Rattle.ntx_parse.specs.Grammar.{Placed, Is, IsPath, IsNames, IsExp, IsExps, no_path, more_path}
+use Rattle.ntx_parse.specs.Grammar.{Placed, IsPath, IsNames, IsExp, IsExps, no_path, more_path}
 use Rattle.ntx_parse.specs.Reading.{Readers, local_of, read_name, read_local_name, path_behind, names_behind, read_names, exps_behind, read_exps}
 use Rattle.ntx_parse.proofs.SoundAnswers.{IsSound, IsTaken, word_taken, sound_read, sound_as, sound_then, sound_expected, sound_where}
 use Rattle.ntx_parse.proofs.SoundPhrases.{IsName, name_read, IsLocalName, local_read, IsBehind, behind_all, behind_one, IsMoreNames, names_end, name_more, names_from, IsMoreExps, exps_end, exp_more, exps_from, AreSound}
@@ -46,13 +46,13 @@ module _ (r : Readers) (s : AreSound r) where
   pub sound_path : (p : Place) (before : List (List ℕ)) (words : List Word) → IsSound (IsBehind before (IsPath p)) words (path_behind r p before words)
   sound_path p before words = sound_where p terminal.Dot words refl
       (λ _ behind. sound_then (sound_name p behind) (λ name others.
-          sound_as (s.path p (before ++ name ∷ []) others) (λ _ _ _ h. λ _ is _ dot. path_on dot is h)))
+      sound_as (s.path p (before ++ name ∷ []) others) (λ _ _ _ h. λ _ is _ dot. path_on dot is h)))
       (λ _. sound_read (λ _ _. behind_all no_path))
 
   pub sound_names : (p : Place) (before : List LocalName) (words : List Word) → IsSound (IsBehind before (IsMoreNames p)) words (names_behind r p before words)
   sound_names p before words = sound_where p terminal.Comma words refl
       (λ _ behind. sound_then (sound_local_name p behind) (λ name others.
-          sound_as (s.names p (before ++ name ∷ []) others) (λ _ _ _ h. λ _ is _ comma. names_on comma is h)))
+      sound_as (s.names p (before ++ name ∷ []) others) (λ _ _ _ h. λ _ is _ comma. names_on comma is h)))
       (λ _. sound_read (λ _ _. behind_all names_end))
 
   pub sound_read_names : (p : Place) (words : List Word) → IsSound (IsNames p) words (read_names r p words)
@@ -61,7 +61,7 @@ module _ (r : Readers) (s : AreSound r) where
   pub sound_exps : (p : Place) (before : List Exp) (words : List Word) → IsSound (IsBehind before (IsMoreExps p)) words (exps_behind r p before words)
   sound_exps p before words = sound_where p terminal.Comma words refl
       (λ _ behind. sound_then (s.exp p precedence.Or behind) (λ e others.
-          sound_as (s.exps p (before ++ e ∷ []) others) (λ _ _ _ h. λ _ first _ comma. exps_on comma first h)))
+      sound_as (s.exps p (before ++ e ∷ []) others) (λ _ _ _ h. λ _ first _ comma. exps_on comma first h)))
       (λ _. sound_read (λ _ _. behind_all exps_end))
 
   pub sound_read_exps : (p : Place) (words : List Word) → IsSound (IsExps p) words (read_exps r p words)

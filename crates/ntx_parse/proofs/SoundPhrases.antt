@@ -1,6 +1,5 @@
 -- Phrases between those of the grammar: lists behind their first part, prefixes by their last part, and runs that go on.
-use Rattle.std.proofs.Common.{◌≡◌, ℕ, List, [], ◌∷◌, ◌++◌, Option, None, Some, refl, sym, ap, ◌∙◌, subst, append_assoc, append-nil}
-use Rattle.ntx_syntax.specs.declared.tree.Block.{Block}
+use Rattle.std.proofs.Common.{◌≡◌, ℕ, List, [], ◌∷◌, ◌++◌, sym, ◌∙◌, subst, append_assoc, append-nil}
 use Rattle.ntx_syntax.specs.declared.tree.LocalName.{LocalName}
 use Rattle.ntx_syntax.specs.declared.tree.Var.{Var}
 use Rattle.ntx_syntax.specs.declared.tree.Prefix.{Prefix}
@@ -16,7 +15,7 @@ use Rattle.ntx_parse.specs.declared.precedence.Precedence.{Precedence}
 use Rattle.ntx_parse.specs.declared.precedence.Precedence.TheVariants as precedence
 use Rattle.ntx_parse.specs.declared.terminal.Terminal.TheVariants as terminal
 use Rattle.ntx_parse.specs.Words.{Word}
-use Rattle.ntx_parse.specs.Grammar.{Placed, Is, within, within_loop, NotBefore, local_name, IsPath, IsNames, IsBlock, IsStats, IsArms, IsExp, IsExps, IsVar, IsVars, IsIndex, IsArguments, IsPrefix, IsRun, IsFields, one_name, more_names, one_exp, more_exps, one_var, more_vars}
+use Rattle.ntx_parse.specs.Grammar.{Placed, Is, within, NotBefore, local_name, IsPath, IsNames, IsBlock, IsStats, IsArms, IsExp, IsExps, IsVar, IsVars, IsIndex, IsArguments, IsPrefix, IsRun, IsFields, one_name, more_names, one_exp, more_exps, one_var, more_vars}
 use Rattle.ntx_parse.specs.Reading.{Readers}
 use Rattle.ntx_parse.proofs.SoundAnswers.{Phrase, IsSound}
 

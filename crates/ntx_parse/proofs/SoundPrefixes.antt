@@ -1,12 +1,6 @@
 -- Prefixes, bodies and tables: what is read of them is spelled.
-use Rattle.std.proofs.Common.{◌≡◌, ℕ, Bool, true, false, ◌||◌, cond, List, [], ◌∷◌, ◌++◌, Option, None, Some, refl, sym, ap, ◌∙◌, subst}
-use Rattle.ntx_syntax.specs.declared.tree.FunctionBody.{FunctionBody, roll-FunctionBody}
-use Rattle.ntx_syntax.specs.declared.tree.LocalName.{LocalName}
-use Rattle.ntx_syntax.specs.declared.tree.Block.{Block}
-use Rattle.ntx_syntax.specs.declared.tree.Var.{Var}
+use Rattle.std.proofs.Common.{◌≡◌, ℕ, false, List, [], ◌∷◌, refl, sym, ap, ◌∙◌}
 use Rattle.ntx_syntax.specs.declared.tree.Exp.{Exp}
-use Rattle.ntx_syntax.specs.declared.tree.Field.{Field}
-use Rattle.ntx_syntax.specs.declared.tree.Field.TheVariants as field
 use Rattle.ntx_parse.specs.declared.part.Part.{Part}
 use Rattle.ntx_parse.specs.declared.part.Part.TheVariants as part
 use Rattle.ntx_parse.specs.declared.place.Place.{Place}
@@ -16,11 +10,11 @@ use Rattle.ntx_parse.specs.declared.terminal.Terminal.TheVariants as terminal
 use Rattle.ntx_parse.specs.Words.{Word}
 use Rattle.ntx_parse.specs.Grammar as grammar
 use Rattle.ntx_parse.specs.Grammar.{Placed, Is, within, within_function, NotBefore, IsNames, IsParameters, no_parameters, IsBlock, IsBody, IsExp, IsExps, IsIndex, index, IsArguments, no_arguments, IsPrefix, name_prefix, index_prefix, field_prefix, call_prefix, IsField, keyed, named_field, positional, IsFields, no_fields, last_field, more_fields, IsSeparator}
-use Rattle.ntx_parse.specs.Reading.{Readers, Answer, begins, joined, names_a_field, read_index, read_arguments, suffixes_behind, read_parenthesized, read_prefix, read_parameters, read_body, read_field, fields_behind, read_table}
+use Rattle.ntx_parse.specs.Reading.{Readers, begins, joined, read_index, read_arguments, suffixes_behind, read_parenthesized, read_prefix}
 use Rattle.ntx_parse.proofs.TerminalLemmas.{begins-not}
-use Rattle.ntx_parse.proofs.SoundAnswers.{Phrase, spelled_by, IsSound, IsTaken, word_taken, sound_read, sound_as, sound_if, sound_then, sound_taken, sound_expected, sound_where}
-use Rattle.ntx_parse.proofs.SoundPhrases.{IsName, name_read, IsBehind, behind_all, behind_one, behind_none, IsPart, name_part, parenthesized_part, index_part, field_part, call_part, IsLonger, IsWhole, AreSound}
-use Rattle.ntx_parse.proofs.SoundLists.{sound_name, sound_read_names, sound_read_exps}
+use Rattle.ntx_parse.proofs.SoundAnswers.{spelled_by, IsSound, IsTaken, word_taken, sound_read, sound_as, sound_if, sound_then, sound_expected, sound_where}
+use Rattle.ntx_parse.proofs.SoundPhrases.{IsName, name_read, IsPart, name_part, parenthesized_part, index_part, field_part, call_part, IsLonger, IsWhole, AreSound}
+use Rattle.ntx_parse.proofs.SoundLists.{sound_name, sound_read_exps}
 
 pub not_before : (t : Terminal) (words : List Word) → begins t words ≡ false → (behind : List Placed) → spelled_by behind ≡ words → NotBefore t behind
 not_before t words h behind same o others is this =
@@ -75,32 +69,32 @@ module _ (r : Readers) (s : AreSound r) where
       sound_then (sound_expected p terminal.LeftBracket words refl) (λ _ inside.
       sound_then (s.exp p precedence.Or inside) (λ key behind.
       sound_then (sound_expected p terminal.RightBracket behind refl) (λ _ rest.
-          sound_read (λ _ _ _ closed _ key _ open_. index_read open_ key closed))))
+      sound_read (λ _ _ _ closed _ key _ open_. index_read open_ key closed))))
 
   pub sound_arguments : (p : Place) (words : List Word) → IsSound (IsArguments p) words (read_arguments r p words)
   sound_arguments p words =
       sound_then (sound_expected p terminal.LeftParenthesis words refl) (λ _ inside.
       sound_where p terminal.RightParenthesis inside refl
-          (λ _ rest. sound_read (λ _ _ _ closed _ open_. none_read open_ closed))
-          (λ _. sound_then (sound_read_exps r s p inside) (λ all behind.
-              sound_then (sound_expected p terminal.RightParenthesis behind refl) (λ _ rest.
-                  sound_read (λ _ _ _ closed _ all _ open_. arguments_read open_ all closed)))))
+      (λ _ rest. sound_read (λ _ _ _ closed _ open_. none_read open_ closed))
+      (λ _. sound_then (sound_read_exps r s p inside) (λ all behind.
+      sound_then (sound_expected p terminal.RightParenthesis behind refl) (λ _ rest.
+      sound_read (λ _ _ _ closed _ all _ open_. arguments_read open_ all closed)))))
 
   pub sound_suffixes : (p : Place) (before : Part) (words : List Word) → IsSound (IsLonger p before) words (suffixes_behind r p before words)
   sound_suffixes p before words = sound_if (begins terminal.LeftBracket words)
       (λ _. sound_then (sound_index (within p) words) (λ key rest. sound_as (s.suffixes p (part.Index (joined before) key) rest) (λ _ _ _ h. λ _ key. longer_index key h)))
       (λ _. sound_where p terminal.Dot words refl
-          (λ _ behind. sound_then (sound_name p behind) (λ name rest. sound_as (s.suffixes p (part.Field (joined before) name) rest) (λ _ _ _ h. λ _ name _ dot. longer_field dot name h)))
-          (λ _. sound_if (begins terminal.LeftParenthesis words)
-              (λ _. sound_then (sound_arguments (within p) words) (λ all rest. sound_as (s.suffixes p (part.Call (joined before) all) rest) (λ _ _ _ h. λ _ all. longer_call all h)))
-              (λ none. sound_read (λ behind same. record { derives = λ start prefix. prefix; ends = not_before terminal.LeftParenthesis words none behind same }))))
+      (λ _ behind. sound_then (sound_name p behind) (λ name rest. sound_as (s.suffixes p (part.Field (joined before) name) rest) (λ _ _ _ h. λ _ name _ dot. longer_field dot name h)))
+      (λ _. sound_if (begins terminal.LeftParenthesis words)
+      (λ _. sound_then (sound_arguments (within p) words) (λ all rest. sound_as (s.suffixes p (part.Call (joined before) all) rest) (λ _ _ _ h. λ _ all. longer_call all h)))
+      (λ none. sound_read (λ behind same. record { derives = λ start prefix. prefix; ends = not_before terminal.LeftParenthesis words none behind same }))))
 
   sound_parenthesized : (p : Place) (words : List Word) → IsSound (IsParenthesized p) words (read_parenthesized r p words)
   sound_parenthesized p words =
       sound_then (sound_expected p terminal.LeftParenthesis words refl) (λ _ inside.
       sound_then (s.exp p precedence.Or inside) (λ e behind.
       sound_then (sound_expected p terminal.RightParenthesis behind refl) (λ _ rest.
-          sound_read (λ _ _ _ closed _ e _ open_. parenthesized_read open_ e closed))))
+      sound_read (λ _ _ _ closed _ e _ open_. parenthesized_read open_ e closed))))
 
   pub sound_prefix : (p : Place) (words : List Word) → IsSound (IsWhole p) words (read_prefix r p words)
   sound_prefix p words = sound_if (begins terminal.LeftParenthesis words)

@@ -1,7 +1,6 @@
 -- Statements: what is read of them is spelled.
-use Rattle.std.proofs.Common.{◌≡◌, ℕ, Bool, true, false, cond, List, [], ◌∷◌, ◌++◌, Option, None, Some, refl, sym, ap, ◌∙◌, subst}
+use Rattle.std.proofs.Common.{◌≡◌, ℕ, Bool, true, false, cond, List, [], ◌∷◌, ◌++◌, Option, Some, refl, sym, subst}
 use Rattle.ntx_syntax.specs.declared.tree.Block.{Block}
-use Rattle.ntx_syntax.specs.declared.tree.StatKind.{StatKind}
 use Rattle.ntx_syntax.specs.declared.tree.StatKind.TheVariants as stat
 use Rattle.ntx_syntax.specs.declared.tree.IfArm.{IfArm, roll-IfArm}
 use Rattle.ntx_syntax.specs.declared.tree.FunctionBody.{FunctionBody}
@@ -15,10 +14,10 @@ use Rattle.ntx_parse.specs.declared.terminal.Terminal.TheVariants as terminal
 use Rattle.ntx_parse.specs.Words.{Word}
 use Rattle.ntx_parse.specs.Grammar as grammar
 use Rattle.ntx_parse.specs.Grammar.{Placed, Is, within, within_loop, IsPath, IsNames, IsBlock, IsKind, IsArm, arm, IsArms, no_arms, more_arms, IsElse, no_else, IsStep, no_step, IsValues, IsExp, IsExps, IsBody}
-use Rattle.ntx_parse.specs.Reading.{Readers, read, stopped, and_then, taken, begins, read_break, block_to_end, read_do, loop_body, read_while, read_repeat, read_arm, arms_behind, else_behind, read_if, step_behind, numeric_for_behind, generic_for_behind, read_for, read_function, local_function_behind, locals_behind, read_local, kind_at}
+use Rattle.ntx_parse.specs.Reading.{Readers, read, stopped, and_then, taken, begins, block_to_end, read_do, loop_body, read_while, read_repeat, read_arm, arms_behind, else_behind, read_if, step_behind, numeric_for_behind, generic_for_behind, read_for, read_function, local_function_behind, locals_behind, read_local, kind_at}
 use Rattle.ntx_parse.proofs.TerminalLemmas.{begins-true}
-use Rattle.ntx_parse.proofs.SoundAnswers.{Phrase, Completes, IsSound, IsTaken, word_taken, IsOther, sound_read, sound_stopped, sound_as, sound_if, sound_then, sound_never, sound_taken, sound_taken_where, sound_expected, sound_where}
-use Rattle.ntx_parse.proofs.SoundPhrases.{IsName, name_read, IsLocalName, local_read, IsBehind, behind_all, behind_one, behind_none, IsMoreNames, names_from, AreSound}
+use Rattle.ntx_parse.proofs.SoundAnswers.{Completes, IsSound, IsTaken, word_taken, IsOther, sound_read, sound_as, sound_if, sound_then, sound_never, sound_taken, sound_taken_where, sound_expected, sound_where}
+use Rattle.ntx_parse.proofs.SoundPhrases.{IsName, name_read, IsLocalName, local_read, IsBehind, behind_all, behind_one, behind_none, IsMoreNames, AreSound}
 use Rattle.ntx_parse.proofs.SoundLists.{sound_name, sound_local_name, sound_read_names, sound_read_exps, names_whole}
 use Rattle.ntx_parse.proofs.SoundTables.{sound_body}
 use Rattle.ntx_parse.proofs.SoundAssignments.{sound_values, sound_expression_statement}
@@ -167,7 +166,7 @@ module _ (r : Readers) (s : AreSound r) where
       sound_then (s.exp p precedence.Or third) (λ limit behind_limit.
       sound_then (sound_step p behind_limit) (λ step behind_step.
       sound_then (sound_looped p behind_step) (λ body rest.
-          sound_read (λ _ _ _ body _ step _ limit _ comma _ first _ assign _ name _ for. numeric_read for name assign first comma limit step body)))))))
+      sound_read (λ _ _ _ body _ step _ limit _ comma _ first _ assign _ name _ for. numeric_read for name assign first comma limit step body)))))))
 
   sound_generic : (p : Place) (f : Word) (name : LocalName) (words : List Word) → IsSound (Completes (IsLocalName p) name (Completes (IsTaken p terminal.For) f (IsKind p))) words (generic_for_behind r p name words)
   sound_generic p f name words =
@@ -175,7 +174,7 @@ module _ (r : Readers) (s : AreSound r) where
       sound_then (sound_expected p terminal.In behind_names refl) (λ _ second.
       sound_then (sound_read_exps r s p second) (λ all behind_values.
       sound_then (sound_looped p behind_values) (λ body rest.
-          sound_read (λ _ _ _ body _ all _ inside _ more _ name _ for. generic_read for name more inside all body)))))
+      sound_read (λ _ _ _ body _ all _ inside _ more _ name _ for. generic_read for name more inside all body)))))
 
   sound_for : (p : Place) (words : List Word) → begins terminal.For words ≡ true → IsSound (IsKind p) words (read_for r p words)
   sound_for p words is =

@@ -1,6 +1,6 @@
 -- Bodies of functions and tables: what is read of them is spelled.
-use Rattle.std.proofs.Common.{◌≡◌, ℕ, Bool, true, false, ◌||◌, cond, List, [], ◌∷◌, ◌++◌, refl, sym, ap, ◌∙◌, subst}
-use Rattle.ntx_syntax.specs.declared.tree.FunctionBody.{FunctionBody, roll-FunctionBody}
+use Rattle.std.proofs.Common.{◌≡◌, ℕ, Bool, true, false, ◌||◌, cond, List, [], ◌∷◌, ◌++◌, refl}
+use Rattle.ntx_syntax.specs.declared.tree.FunctionBody.{roll-FunctionBody}
 use Rattle.ntx_syntax.specs.declared.tree.LocalName.{LocalName}
 use Rattle.ntx_syntax.specs.declared.tree.Block.{Block}
 use Rattle.ntx_syntax.specs.declared.tree.Exp.{Exp}
@@ -70,44 +70,44 @@ module _ (r : Readers) (s : AreSound r) where
   sound_parameters p words =
       sound_then (sound_expected p terminal.LeftParenthesis words refl) (λ _ inside.
       sound_where p terminal.RightParenthesis inside refl
-          (λ _ rest. sound_read (λ _ _ _ closed _ open_. none_read open_ closed))
-          (λ _. sound_then (sound_read_names r s p inside) (λ names behind.
-              sound_then (sound_expected p terminal.RightParenthesis behind refl) (λ _ rest.
-                  sound_read (λ _ _ _ closed _ names _ open_. names_read open_ names closed)))))
+      (λ _ rest. sound_read (λ _ _ _ closed _ open_. none_read open_ closed))
+      (λ _. sound_then (sound_read_names r s p inside) (λ names behind.
+      sound_then (sound_expected p terminal.RightParenthesis behind refl) (λ _ rest.
+      sound_read (λ _ _ _ closed _ names _ open_. names_read open_ names closed)))))
 
   pub sound_body : (p : Place) (words : List Word) → IsSound (IsBody p) words (read_body r p words)
   sound_body p words =
       sound_then (sound_parameters (within p) words) (λ parameters inside.
       sound_then (s.block (within_function p) inside) (λ block behind.
       sound_then (sound_expected p terminal.End behind refl) (λ _ rest.
-          sound_read (λ _ _ _ ended _ block _ names. body_read names block ended))))
+      sound_read (λ _ _ _ ended _ block _ names. body_read names block ended))))
 
   sound_field : (p : Place) (words : List Word) → IsSound (IsField p) words (read_field r p words)
   sound_field p words = sound_if (begins terminal.LeftBracket words)
       (λ _. sound_then (sound_index r s (within p) words) (λ key behind.
-          sound_then (sound_expected p terminal.Assign behind refl) (λ _ second.
-          sound_then (s.exp p precedence.Or second) (λ value rest.
-              sound_read (λ _ _ _ value _ assigned _ key. keyed_read key assigned value)))))
+      sound_then (sound_expected p terminal.Assign behind refl) (λ _ second.
+      sound_then (s.exp p precedence.Or second) (λ value rest.
+      sound_read (λ _ _ _ value _ assigned _ key. keyed_read key assigned value)))))
       (λ _. sound_if (names_a_field words)
-          (λ _. sound_then (sound_name p words) (λ name behind.
-              sound_then (sound_expected p terminal.Assign behind refl) (λ _ second.
-              sound_then (s.exp p precedence.Or second) (λ value rest.
-                  sound_read (λ _ _ _ value _ assigned _ name. named_read name assigned value)))))
-          (λ _. sound_then (s.exp p precedence.Or words) (λ value rest. sound_read (λ _ _ _ value. positional value))))
+      (λ _. sound_then (sound_name p words) (λ name behind.
+      sound_then (sound_expected p terminal.Assign behind refl) (λ _ second.
+      sound_then (s.exp p precedence.Or second) (λ value rest.
+      sound_read (λ _ _ _ value _ assigned _ name. named_read name assigned value)))))
+      (λ _. sound_then (s.exp p precedence.Or words) (λ value rest. sound_read (λ _ _ _ value. positional value))))
 
   pub sound_fields : (p : Place) (before : List Field) (words : List Word) → IsSound (IsBehind before (IsFields p)) words (fields_behind r p before words)
   sound_fields p before words = sound_if (begins terminal.RightBrace words)
       (λ _. sound_read (λ _ _. behind_all no_fields))
       (λ _. sound_then (sound_field p words) (λ f behind. sound_either (begins terminal.Comma behind) (begins terminal.Semicolon behind)
-          (λ is. sound_then (sound_taken p terminal.Comma behind refl is) (λ _ rest.
-              sound_as (s.fields p (before ++ f ∷ []) rest) (λ _ _ _ h. λ _ separator _ first. fields_on_comma first separator h)))
-          (λ is. sound_then (sound_taken p terminal.Semicolon behind refl is) (λ _ rest.
-              sound_as (s.fields p (before ++ f ∷ []) rest) (λ _ _ _ h. λ _ separator _ first. fields_on_semicolon first separator h)))
-          (sound_read (λ _ _ _ first. fields_ended first))))
+      (λ is. sound_then (sound_taken p terminal.Comma behind refl is) (λ _ rest.
+      sound_as (s.fields p (before ++ f ∷ []) rest) (λ _ _ _ h. λ _ separator _ first. fields_on_comma first separator h)))
+      (λ is. sound_then (sound_taken p terminal.Semicolon behind refl is) (λ _ rest.
+      sound_as (s.fields p (before ++ f ∷ []) rest) (λ _ _ _ h. λ _ separator _ first. fields_on_semicolon first separator h)))
+      (sound_read (λ _ _ _ first. fields_ended first))))
 
   pub sound_table : (p : Place) (words : List Word) → IsSound (IsBraced p) words (read_table r p words)
   sound_table p words =
       sound_then (sound_expected p terminal.LeftBrace words refl) (λ _ inside.
       sound_then (s.fields p [] inside) (λ fields behind.
       sound_then (sound_expected p terminal.RightBrace behind refl) (λ _ rest.
-          sound_read (λ _ _ _ closed _ fields _ open_. table_read open_ fields closed))))
+      sound_read (λ _ _ _ closed _ fields _ open_. table_read open_ fields closed))))

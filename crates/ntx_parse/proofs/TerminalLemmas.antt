@@ -1,6 +1,7 @@
 -- Terminals by their numbers, and the operators that they spell.
-use Rattle.std.proofs.Common.{◌≡◌, ℕ, Bool, true, false, List, [], ◌∷◌, get_or, Option, None, Some, nat_eq, refl, sym, ap, ◌∙◌, eqb-true, eq-eqb, ne_eqb, cond}
+use Rattle.std.proofs.Common.{◌≡◌, true, false, List, [], ◌∷◌, get_or, Option, None, Some, nat_eq, refl, sym, ap, ◌∙◌, eqb-true, eq-eqb, ne_eqb}
 use Rattle.std.proofs.lemmas.Bool.{true≢false}
+use Rattle.std.proofs.lemmas.Option.{none-some, same_Some, cond_some}
 use Rattle.ntx_syntax.specs.declared.tree.BinaryOp.{BinaryOp}
 use Rattle.ntx_syntax.specs.declared.tree.BinaryOp.TheVariants as binary
 use Rattle.ntx_syntax.specs.declared.tree.UnaryOp.{UnaryOp}
@@ -69,12 +70,6 @@ same_rank p q e = eq-eqb (rank p) (rank q) (ap rank e)
 
 -- ---- operators
 
-none_some : {A : Type 0} {X : Type 0} (a : A) → None ≡ Some a → X
-none_some a e = absurd cc
-
-some-injective : {A : Type 0} {a b : A} → Some a ≡ Some b → a ≡ b
-some-injective e = cc
-
 pub binary_of-terminal : (op : BinaryOp) → binary_of (binary_terminal op) ≡ Some op
 binary_of-terminal binary.Or = refl
 binary_of-terminal _ = refl
@@ -84,42 +79,38 @@ unary_of-terminal unary.Not = refl
 unary_of-terminal _ = refl
 
 pub binary_of-some : (t : Terminal) (op : BinaryOp) → binary_of t ≡ Some op → t ≡ binary_terminal op
-binary_of-some terminal.Or op e = ap binary_terminal (some-injective e)
-binary_of-some terminal.And op e = ap binary_terminal (some-injective e)
-binary_of-some terminal.Less op e = ap binary_terminal (some-injective e)
-binary_of-some terminal.Greater op e = ap binary_terminal (some-injective e)
-binary_of-some terminal.LessEqual op e = ap binary_terminal (some-injective e)
-binary_of-some terminal.GreaterEqual op e = ap binary_terminal (some-injective e)
-binary_of-some terminal.NotEqual op e = ap binary_terminal (some-injective e)
-binary_of-some terminal.Equal op e = ap binary_terminal (some-injective e)
-binary_of-some terminal.Bar op e = ap binary_terminal (some-injective e)
-binary_of-some terminal.Tilde op e = ap binary_terminal (some-injective e)
-binary_of-some terminal.Ampersand op e = ap binary_terminal (some-injective e)
-binary_of-some terminal.ShiftLeft op e = ap binary_terminal (some-injective e)
-binary_of-some terminal.ShiftRight op e = ap binary_terminal (some-injective e)
-binary_of-some terminal.DoubleDot op e = ap binary_terminal (some-injective e)
-binary_of-some terminal.Plus op e = ap binary_terminal (some-injective e)
-binary_of-some terminal.Minus op e = ap binary_terminal (some-injective e)
-binary_of-some terminal.Star op e = ap binary_terminal (some-injective e)
-binary_of-some terminal.DoubleSlash op e = ap binary_terminal (some-injective e)
-binary_of-some terminal.Percent op e = ap binary_terminal (some-injective e)
-binary_of-some _ op e = none_some op e
+binary_of-some terminal.Or op e = ap binary_terminal (same_Some _ op e)
+binary_of-some terminal.And op e = ap binary_terminal (same_Some _ op e)
+binary_of-some terminal.Less op e = ap binary_terminal (same_Some _ op e)
+binary_of-some terminal.Greater op e = ap binary_terminal (same_Some _ op e)
+binary_of-some terminal.LessEqual op e = ap binary_terminal (same_Some _ op e)
+binary_of-some terminal.GreaterEqual op e = ap binary_terminal (same_Some _ op e)
+binary_of-some terminal.NotEqual op e = ap binary_terminal (same_Some _ op e)
+binary_of-some terminal.Equal op e = ap binary_terminal (same_Some _ op e)
+binary_of-some terminal.Bar op e = ap binary_terminal (same_Some _ op e)
+binary_of-some terminal.Tilde op e = ap binary_terminal (same_Some _ op e)
+binary_of-some terminal.Ampersand op e = ap binary_terminal (same_Some _ op e)
+binary_of-some terminal.ShiftLeft op e = ap binary_terminal (same_Some _ op e)
+binary_of-some terminal.ShiftRight op e = ap binary_terminal (same_Some _ op e)
+binary_of-some terminal.DoubleDot op e = ap binary_terminal (same_Some _ op e)
+binary_of-some terminal.Plus op e = ap binary_terminal (same_Some _ op e)
+binary_of-some terminal.Minus op e = ap binary_terminal (same_Some _ op e)
+binary_of-some terminal.Star op e = ap binary_terminal (same_Some _ op e)
+binary_of-some terminal.DoubleSlash op e = ap binary_terminal (same_Some _ op e)
+binary_of-some terminal.Percent op e = ap binary_terminal (same_Some _ op e)
+binary_of-some _ op e = absurd (none-some op e)
 
 pub unary_of-some : (t : Terminal) (op : UnaryOp) → unary_of t ≡ Some op → t ≡ unary_terminal op
-unary_of-some terminal.Not op e = ap unary_terminal (some-injective e)
-unary_of-some terminal.Hash op e = ap unary_terminal (some-injective e)
-unary_of-some terminal.Minus op e = ap unary_terminal (some-injective e)
-unary_of-some terminal.Tilde op e = ap unary_terminal (some-injective e)
-unary_of-some _ op e = none_some op e
-
-if_some : (b : Bool) (op other : BinaryOp) → cond b (Some op) None ≡ Some other → (b ≡ true) × (op ≡ other)
-if_some true op other e = (refl, some-injective e)
-if_some false op other e = none_some other e
+unary_of-some terminal.Not op e = ap unary_terminal (same_Some _ op e)
+unary_of-some terminal.Hash op e = ap unary_terminal (same_Some _ op e)
+unary_of-some terminal.Minus op e = ap unary_terminal (same_Some _ op e)
+unary_of-some terminal.Tilde op e = ap unary_terminal (same_Some _ op e)
+unary_of-some _ op e = absurd (none-some op e)
 
 pub of_precedence-some : (at : Precedence) (found : Option BinaryOp) (op : BinaryOp) → of_precedence at found ≡ Some op → (found ≡ Some op) × (binary_precedence op ≡ at)
-of_precedence-some at None op e = none_some op e
+of_precedence-some at None op e = absurd (none-some op e)
 of_precedence-some at (Some other) op e =
-    let both = if_some (nat_eq (rank (binary_precedence other)) (rank at)) other op e in
+    let both = cond_some (nat_eq (rank (binary_precedence other)) (rank at)) other op e in
     (ap Some both.1, ap binary_precedence (sym both.1) ∙ same_precedence (binary_precedence other) at both.0)
 
 -- ---- words that begin with a terminal
