@@ -1,11 +1,12 @@
 -- What is read as a script is one.
---     sound    a script with the tree that is read
-use Rattle.std.proofs.Common.{◌≡◌, ℕ, zero, suc, List, [], Some, Ok}
+--     sound           words that are read to the end as a block are a script with this tree
+--     sound_script    words that are read as a script are one with this tree
+use Rattle.std.proofs.Common.{◌≡◌, ℕ, zero, suc, List, [], ◌∷◌, Some, Ok, ap, subst}
 use Rattle.ntx_syntax.specs.declared.tree.Block.{Block}
 use Rattle.ntx_parse.specs.Words.{Word}
 use Rattle.ntx_parse.specs.Grammar.{outermost, Accepts}
-use Rattle.ntx_parse.specs.Reading.{Readers, nothing, over, readers}
-use Rattle.ntx_parse.proofs.SoundAnswers.{sound_nothing}
+use Rattle.ntx_parse.specs.Reading.{Readers, read, nothing, over, readers, ended, script_by}
+use Rattle.ntx_parse.proofs.SoundAnswers.{read-injective, not_read, parts_read, sound_nothing}
 use Rattle.ntx_parse.proofs.SoundPhrases.{AreSound}
 use Rattle.ntx_parse.proofs.SoundLists.{sound_path, sound_names, sound_exps}
 use Rattle.ntx_parse.proofs.SoundPrefixes.{sound_suffixes}
@@ -53,3 +54,12 @@ pub sound : (n : ℕ) (tree : Block) (words : List Word) → (readers n).block o
 sound n tree words e =
     let found = ((readers_are_sound n).block outermost words).holds tree [] e in
     record { placed = found.placed; words_are = found.words_are; derives = found.derives; fine = found.fine tt }
+
+ended_sound : (n : ℕ) (block tree : Block) (words behind rest : List Word) → (readers n).block outermost words ≡ read block behind → ended block behind ≡ read tree rest → Accepts words (record { block = tree })
+ended_sound n block tree words [] rest is ends = subst (λ b. Accepts words (record { block = b })) (ap (λ f. f.0) (read-injective ends)) (sound n block words is)
+ended_sound n block tree words (o ∷ behind) rest is ends = not_read _ ends
+
+pub sound_script : (n : ℕ) (tree : Block) (words rest : List Word) → script_by n words ≡ Some (Ok (tree, rest)) → Accepts words (record { block = tree })
+sound_script n tree words rest e =
+    let parts = parts_read ((readers n).block outermost words) ended tree rest e in
+    ended_sound n parts.0 tree words parts.1 rest parts.2 parts.3

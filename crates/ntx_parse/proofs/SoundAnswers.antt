@@ -35,17 +35,17 @@ pub record IsSound {A : Type 0} (D : Phrase A) (words : List Word) (answer : Ans
 
 -- ---- answers and their parts
 
-read-injective : {A : Type 0} {found other : A × List Word} → ◌≡◌ {A = Answer A} (Some (Ok found)) (Some (Ok other)) → found ≡ other
+pub read-injective : {A : Type 0} {found other : A × List Word} → ◌≡◌ {A = Answer A} (Some (Ok found)) (Some (Ok other)) → found ≡ other
 read-injective e = cc
 
-not_read : {A : Type 0} {X : Type 0} {found : A × List Word} (stop : Stop) → ◌≡◌ {A = Answer A} (Some (Err stop)) (Some (Ok found)) → X
+pub not_read : {A : Type 0} {X : Type 0} {found : A × List Word} (stop : Stop) → ◌≡◌ {A = Answer A} (Some (Err stop)) (Some (Ok found)) → X
 not_read stop e = absurd cc
 
 nothing_read : {A : Type 0} {X : Type 0} {found : A × List Word} → ◌≡◌ {A = Answer A} None (Some (Ok found)) → X
 nothing_read e = absurd cc
 
 -- What is read behind a part comes from what the part is and what is behind it.
-parts_read : {A B : Type 0} (a : Answer A) (next : A → List Word → Answer B) (y : B) (rest : List Word) → and_then a next ≡ read y rest → (x : A) × (middle : List Word) × (a ≡ read x middle) × (next x middle ≡ read y rest)
+pub parts_read : {A B : Type 0} (a : Answer A) (next : A → List Word → Answer B) (y : B) (rest : List Word) → and_then a next ≡ read y rest → (x : A) × (middle : List Word) × (a ≡ read x middle) × (next x middle ≡ read y rest)
 parts_read None next y rest e = nothing_read e
 parts_read (Some (Err stop)) next y rest e = not_read stop e
 parts_read (Some (Ok found)) next y rest e = (found.0, found.1, refl, e)

@@ -93,22 +93,23 @@ pub data IsPart : Place → Part → List Placed → List Placed → Type 0 wher
   call_part : {p : Place} {prefix : Prefix} {arguments : List Exp} {words middle rest : List Placed}
       → IsPrefix p prefix words middle → IsArguments (within p) arguments middle rest → IsPart p (part.Call prefix arguments) words rest
 
--- What goes on behind this part as far as it can, and is then this.
+-- The words go on from this part to that one, and no parenthesis opens after it.
 pub record IsLonger (p : Place) (before found : Part) (words rest : List Placed) : Type 0 where
   pub derives : (start : List Placed) → IsPart p before start words → IsPart p found start rest
   pub ends : NotBefore terminal.LeftParenthesis rest
 
--- a prefix as far as it goes
+-- a prefix, after which no parenthesis opens
 pub record IsWhole (p : Place) (found : Part) (words rest : List Placed) : Type 0 where
   pub derives : IsPart p found words rest
   pub ends : NotBefore terminal.LeftParenthesis rest
 
--- What goes on behind these operations, and is then these.
+-- The words go on from a run with these operations to one with all of those.
 abbrev pub IsOperated : Place → Precedence → List Operation → Phrase (List Operation)
 IsOperated p at before = λ all words rest. (first : Exp) (start : List Placed) → IsRun p at first before start words → IsRun p at first all start rest
 
 -- ---- all readings
 
+-- What each of these readings reads is spelled by the words that it takes.
 pub record AreSound (r : Readers) : Type 0 where
   pub block : (p : Place) (words : List Word) → IsSound (IsBlock p) words (r.block p words)
   pub stats : (p : Place) (before : List Stat) (words : List Word) → IsSound (IsBehind before (IsStats p)) words (r.stats p before words)

@@ -1,4 +1,4 @@
--- Prefixes, bodies and tables: what is read of them is spelled.
+-- Prefixes: what is read of them is spelled.
 use Rattle.std.proofs.Common.{◌≡◌, ℕ, false, List, [], ◌∷◌, refl, sym, ap, ◌∙◌}
 use Rattle.ntx_syntax.specs.declared.tree.Exp.{Exp}
 use Rattle.ntx_parse.specs.declared.part.Part.{Part}

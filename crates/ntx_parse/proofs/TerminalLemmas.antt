@@ -1,11 +1,9 @@
 -- Terminals by their numbers, and the operators that they spell.
-use Rattle.std.proofs.Common.{◌≡◌, true, false, List, [], ◌∷◌, get_or, Option, None, Some, nat_eq, refl, sym, ap, ◌∙◌, eqb-true, eq-eqb, ne_eqb}
+use Rattle.std.proofs.Common.{◌≡◌, true, false, List, [], ◌∷◌, get_or, Option, None, Some, nat_eq, refl, sym, ap, ◌∙◌, eqb-true, eq-eqb}
 use Rattle.std.proofs.lemmas.Bool.{true≢false}
 use Rattle.std.proofs.lemmas.Option.{none-some, same_Some, cond_some}
 use Rattle.ntx_syntax.specs.declared.tree.BinaryOp.{BinaryOp}
-use Rattle.ntx_syntax.specs.declared.tree.BinaryOp.TheVariants as binary
 use Rattle.ntx_syntax.specs.declared.tree.UnaryOp.{UnaryOp}
-use Rattle.ntx_syntax.specs.declared.tree.UnaryOp.TheVariants as unary
 use Rattle.ntx_parse.specs.declared.precedence.Precedence.{Precedence}
 use Rattle.ntx_parse.specs.declared.precedence.Precedence.TheVariants as precedence
 use Rattle.ntx_parse.specs.declared.terminal.Terminal.{Terminal}
@@ -44,9 +42,6 @@ same_number t u e = eq-eqb (number t) (number u) (ap number e)
 pub other_terminal : (t u : Terminal) → nat_eq (number t) (number u) ≡ false → t ≡ u → ⊥
 other_terminal t u h e = true≢false (sym (same_number t u e) ∙ h)
 
-pub other_number : (t u : Terminal) → (t ≡ u → ⊥) → nat_eq (number t) (number u) ≡ false
-other_number t u h = ne_eqb (number t) (number u) (λ e. h (number-injective t u e))
-
 -- ---- precedences
 
 precedences : List Precedence
@@ -65,18 +60,7 @@ rank-injective p q e = sym (ranked p) ∙ ap (λ n. get_or precedences n precede
 pub same_precedence : (p q : Precedence) → nat_eq (rank p) (rank q) ≡ true → p ≡ q
 same_precedence p q h = rank-injective p q (eqb-true (rank p) (rank q) h)
 
-pub same_rank : (p q : Precedence) → p ≡ q → nat_eq (rank p) (rank q) ≡ true
-same_rank p q e = eq-eqb (rank p) (rank q) (ap rank e)
-
 -- ---- operators
-
-pub binary_of-terminal : (op : BinaryOp) → binary_of (binary_terminal op) ≡ Some op
-binary_of-terminal binary.Or = refl
-binary_of-terminal _ = refl
-
-pub unary_of-terminal : (op : UnaryOp) → unary_of (unary_terminal op) ≡ Some op
-unary_of-terminal unary.Not = refl
-unary_of-terminal _ = refl
 
 pub binary_of-some : (t : Terminal) (op : BinaryOp) → binary_of t ≡ Some op → t ≡ binary_terminal op
 binary_of-some terminal.Or op e = ap binary_terminal (same_Some _ op e)
@@ -123,6 +107,3 @@ begins-is t o words h = same_terminal o.is t h
 
 pub begins-not : (t : Terminal) (o : Word) (words : List Word) → begins t (o ∷ words) ≡ false → o.is ≡ t → ⊥
 begins-not t o words h e = other_terminal o.is t h e
-
-pub begins-false : (t : Terminal) (o : Word) (words : List Word) → (o.is ≡ t → ⊥) → begins t (o ∷ words) ≡ false
-begins-false t o words h = other_number o.is t h
