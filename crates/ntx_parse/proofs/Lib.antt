@@ -9,3 +9,5 @@ pub mod SoundAssignments
 pub mod SoundStatements
 pub mod SoundBlocks
 pub mod Sound
+pub mod StuckAnswers
+pub mod StuckWords

@@ -19,31 +19,31 @@ use Rattle.ntx_parse.proofs.SoundPhrases.{IsBehind, behind_all, behind_one, IsMo
 use Rattle.ntx_parse.proofs.SoundLists.{sound_read_exps}
 use Rattle.ntx_parse.proofs.SoundPrefixes.{sound_prefix}
 
-values_read : {p : Place} {o : Word} {all : List Exp} {words inner rest : List Placed} → IsTaken p terminal.Assign o words inner → IsExps p all inner rest → IsValues p all words rest
+pub values_read : {p : Place} {o : Word} {all : List Exp} {words inner rest : List Placed} → IsTaken p terminal.Assign o words inner → IsExps p all inner rest → IsValues p all words rest
 values_read (word_taken is) all = grammar.values is all
 
 -- ---- what is assigned to
 
-as_the_var : {p : Place} {found v : Var} {words rest : List Placed} → Some found ≡ Some v → IsVar p found words rest → IsVar p v words rest
+pub as_the_var : {p : Place} {found v : Var} {words rest : List Placed} → Some found ≡ Some v → IsVar p found words rest → IsVar p v words rest
 as_the_var {p} {found} {v} {words} {rest} e h = subst (λ x. IsVar p x words rest) (same_Some found v e) h
 
-part_var : {p : Place} {found : Part} {words rest : List Placed} (v : Var) → IsPart p found words rest → var_of found ≡ Some v → IsVar p v words rest
+pub part_var : {p : Place} {found : Part} {words rest : List Placed} (v : Var) → IsPart p found words rest → var_of found ≡ Some v → IsVar p v words rest
 part_var v (name_part is) e = as_the_var e (grammar.name_var is)
 part_var v (parenthesized_part open_ inside closed) e = absurd (none-some v e)
 part_var v (index_part prefix key) e = as_the_var e (grammar.index_var prefix key)
 part_var v (field_part prefix dot name) e = as_the_var e (grammar.field_var prefix dot name)
 part_var v (call_part prefix all) e = absurd (none-some v e)
 
-part_call : {p : Place} {prefix : Prefix} {all : List Exp} {words rest : List Placed} → IsPart p (part.Call prefix all) words rest → IsCall p (record { function = prefix; arguments = all }) words rest
+pub part_call : {p : Place} {prefix : Prefix} {all : List Exp} {words rest : List Placed} → IsPart p (part.Call prefix all) words rest → IsCall p (record { function = prefix; arguments = all }) words rest
 part_call (call_part prefix all) = grammar.call prefix all
 
-vars_on : {p : Place} {o : Word} {v : Var} {before all : List Var} {words behind inner rest : List Placed} → IsTaken p terminal.Comma o words behind → IsVar p v behind inner → IsBehind (before ++ v ∷ []) (IsMoreVars p) all inner rest → IsBehind before (IsMoreVars p) all words rest
+pub vars_on : {p : Place} {o : Word} {v : Var} {before all : List Var} {words behind inner rest : List Placed} → IsTaken p terminal.Comma o words behind → IsVar p v behind inner → IsBehind (before ++ v ∷ []) (IsMoreVars p) all inner rest → IsBehind before (IsMoreVars p) all words rest
 vars_on (word_taken comma) first h = behind_one _ h (λ others vars. var_more comma first vars)
 
-vars_whole : {p : Place} {v : Var} {all : List Var} {words inner rest : List Placed} → IsVar p v words inner → IsBehind (v ∷ []) (IsMoreVars p) all inner rest → IsVars p all words rest
+pub vars_whole : {p : Place} {v : Var} {all : List Var} {words inner rest : List Placed} → IsVar p v words inner → IsBehind (v ∷ []) (IsMoreVars p) all inner rest → IsVars p all words rest
 vars_whole {p} {words = words} {rest = rest} first h = subst (λ vars. IsVars p vars words rest) (sym h.all_are) (vars_from first h.derives)
 
-assignment_read : {p : Place} {o : Word} {first : Var} {vars : List Var} {values : List Exp} {words behind second inner rest : List Placed} → IsVar p first words behind → IsBehind (first ∷ []) (IsMoreVars p) vars behind second → IsTaken p terminal.Assign o second inner → IsExps p values inner rest → IsKind p (stat.Assign vars values) words rest
+pub assignment_read : {p : Place} {o : Word} {first : Var} {vars : List Var} {values : List Exp} {words behind second inner rest : List Placed} → IsVar p first words behind → IsBehind (first ∷ []) (IsMoreVars p) vars behind second → IsTaken p terminal.Assign o second inner → IsExps p values inner rest → IsKind p (stat.Assign vars values) words rest
 assignment_read first vars (word_taken is) all = grammar.assignment (vars_whole first vars) is all
 
 sound_as_var : (p : Place) (found : Part) (this : Option Var) (words : List Word) → var_of found ≡ this → IsSound (Completes (IsWhole p) found (IsVar p)) words (as_var this words)

@@ -18,29 +18,29 @@ use Rattle.ntx_parse.proofs.SoundStatements.{sound_kind}
 
 -- ---- statements
 
-none_are : {X : Type 0} (o : Word) (words : List Word) → [] ≡ o ∷ words → X
+pub none_are : {X : Type 0} (o : Word) (words : List Word) → [] ≡ o ∷ words → X
 none_are o words e = absurd cc
 
-first_is : (o other : Word) (words others : List Word) → o ∷ words ≡ other ∷ others → o ≡ other
+pub first_is : (o other : Word) (words others : List Word) → o ∷ words ≡ other ∷ others → o ≡ other
 first_is o other words others e = cc
 
 -- a statement of this kind, whose first word this is
-stat_read : {p : Place} (o : Word) (words : List Word) {kind : StatKind} (placed : List Placed) {rest : List Placed} → spelled_by placed ≡ o ∷ words → IsKind p kind placed rest → IsStat p (record { line = o.line; kind = kind }) placed rest
+pub stat_read : {p : Place} (o : Word) (words : List Word) {kind : StatKind} (placed : List Placed) {rest : List Placed} → spelled_by placed ≡ o ∷ words → IsKind p kind placed rest → IsStat p (record { line = o.line; kind = kind }) placed rest
 stat_read o words [] same h = none_are o words same
 stat_read {p} o words {kind} (first ∷ placed) {rest} same h = subst (λ w. IsStat p (record { line = w.line; kind = kind }) (first ∷ placed) rest) (first_is first.word o (spelled_by placed) words same) (statement h)
 
-stats_on : {p : Place} {first : Stat} {before all : List Stat} {words inner rest : List Placed} → IsStat p first words inner → IsBehind (before ++ first ∷ []) (IsStats p) all inner rest → IsBehind before (IsStats p) all words rest
+pub stats_on : {p : Place} {first : Stat} {before all : List Stat} {words inner rest : List Placed} → IsStat p first words inner → IsBehind (before ++ first ∷ []) (IsStats p) all inner rest → IsBehind before (IsStats p) all words rest
 stats_on first h = behind_one _ h (λ others stats. more_stats first stats)
 
 -- ---- return
 
-semicolon_read : {p : Place} {o : Word} {words rest : List Placed} → IsTaken p terminal.Semicolon o words rest → IsSemicolon p words rest
+pub semicolon_read : {p : Place} {o : Word} {words rest : List Placed} → IsTaken p terminal.Semicolon o words rest → IsSemicolon p words rest
 semicolon_read (word_taken is) = grammar.semicolon is
 
-return_read : {p : Place} {o : Word} {values : List Exp} {words second behind rest : List Placed} → IsTaken p terminal.Return o words second → IsReturned p values second behind → IsSemicolon p behind rest → IsLast p (Some (record { line = o.line; values = values })) words rest
+pub return_read : {p : Place} {o : Word} {values : List Exp} {words second behind rest : List Placed} → IsTaken p terminal.Return o words second → IsReturned p values second behind → IsSemicolon p behind rest → IsLast p (Some (record { line = o.line; values = values })) words rest
 return_read (word_taken is) values ends = grammar.last_return is values ends
 
-block_read : {p : Place} {stats : List Stat} {last : Option Return} {words behind rest : List Placed} → IsBehind [] (IsStats p) stats words behind → IsLast p last behind rest → IsBlock p (roll-Block (record { stats = stats; last = last })) words rest
+pub block_read : {p : Place} {stats : List Stat} {last : Option Return} {words behind rest : List Placed} → IsBehind [] (IsStats p) stats words behind → IsLast p last behind rest → IsBlock p (roll-Block (record { stats = stats; last = last })) words rest
 block_read stats last = grammar.block (behind_none stats) last
 
 sound_semicolon : (p : Place) (words : List Word) → IsSound (λ _ placed behind. IsSemicolon p placed behind) words (semicolon_behind p words)

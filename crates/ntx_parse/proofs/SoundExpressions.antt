@@ -29,28 +29,28 @@ use Rattle.ntx_parse.proofs.SoundTables.{IsBraced, in_braces, sound_body, sound_
 
 -- ---- simple expressions
 
-nil_read : {p : Place} {o : Word} {words rest : List Placed} → IsTaken p terminal.Nil o words rest → IsSimple p exp.Nil words rest
+pub nil_read : {p : Place} {o : Word} {words rest : List Placed} → IsTaken p terminal.Nil o words rest → IsSimple p exp.Nil words rest
 nil_read (word_taken is) = grammar.nil is
 
-false_read : {p : Place} {o : Word} {words rest : List Placed} → IsTaken p terminal.False o words rest → IsSimple p exp.False words rest
+pub false_read : {p : Place} {o : Word} {words rest : List Placed} → IsTaken p terminal.False o words rest → IsSimple p exp.False words rest
 false_read (word_taken is) = grammar.false_ is
 
-true_read : {p : Place} {o : Word} {words rest : List Placed} → IsTaken p terminal.True o words rest → IsSimple p exp.True words rest
+pub true_read : {p : Place} {o : Word} {words rest : List Placed} → IsTaken p terminal.True o words rest → IsSimple p exp.True words rest
 true_read (word_taken is) = grammar.true_ is
 
-numeral_read : {p : Place} {o : Word} {words rest : List Placed} (value : ℤ) → numeral_value o.spelled ≡ Some value → IsTaken p terminal.Numeral o words rest → IsSimple p (exp.Numeral value) words rest
+pub numeral_read : {p : Place} {o : Word} {words rest : List Placed} (value : ℤ) → numeral_value o.spelled ≡ Some value → IsTaken p terminal.Numeral o words rest → IsSimple p (exp.Numeral value) words rest
 numeral_read value spells (word_taken is) = grammar.numeral is spells
 
-text_read : {p : Place} {o : Word} {words rest : List Placed} (value : List ℕ) → text_value o.spelled ≡ Some value → IsTaken p terminal.Text o words rest → IsSimple p (exp.Text value) words rest
+pub text_read : {p : Place} {o : Word} {words rest : List Placed} (value : List ℕ) → text_value o.spelled ≡ Some value → IsTaken p terminal.Text o words rest → IsSimple p (exp.Text value) words rest
 text_read value spells (word_taken is) = grammar.text is spells
 
-function_read : {p : Place} {o : Word} {body : FunctionBody} {words inner rest : List Placed} → IsTaken p terminal.Function o words inner → IsBody (within p) body inner rest → IsSimple p (exp.Function body) words rest
+pub function_read : {p : Place} {o : Word} {body : FunctionBody} {words inner rest : List Placed} → IsTaken p terminal.Function o words inner → IsBody (within p) body inner rest → IsSimple p (exp.Function body) words rest
 function_read (word_taken is) inside = grammar.function_exp is inside
 
-table_exp : {p : Place} {fields : List Field} {words rest : List Placed} → IsBraced (within p) fields words rest → IsSimple p (exp.Table fields) words rest
+pub table_exp : {p : Place} {fields : List Field} {words rest : List Placed} → IsBraced (within p) fields words rest → IsSimple p (exp.Table fields) words rest
 table_exp (in_braces open_ fields closed) = grammar.table open_ fields closed
 
-prefix_exp : {p : Place} {found : Part} {words rest : List Placed} → IsWhole p found words rest → IsSimple p (exp.Prefix (joined found)) words rest
+pub prefix_exp : {p : Place} {found : Part} {words rest : List Placed} → IsWhole p found words rest → IsSimple p (exp.Prefix (joined found)) words rest
 prefix_exp h = grammar.prefix_exp (joined_prefix h.derives) h.ends
 
 sound_numeral : (p : Place) (o : Word) (found : Option ℤ) (words rest : List Word) → numeral_value o.spelled ≡ found → IsSound (Completes (IsTaken p terminal.Numeral) o (IsSimple p)) rest (read_value exp.Numeral found words rest)
@@ -63,31 +63,31 @@ sound_text p o (Some value) words rest spells = sound_read (λ _ _ _ is. text_re
 
 -- ---- operators
 
-other_unary : (op : UnaryOp) → IsOther (unary_terminal op)
+pub other_unary : (op : UnaryOp) → IsOther (unary_terminal op)
 other_unary unary.Not = refl
 other_unary _ = refl
 
-other_binary : (op : BinaryOp) → IsOther (binary_terminal op)
+pub other_binary : (op : BinaryOp) → IsOther (binary_terminal op)
 other_binary binary.Or = refl
 other_binary _ = refl
 
-begins_sign : (words : List Word) (op : UnaryOp) → sign_at words ≡ Some op → begins (unary_terminal op) words ≡ true
+pub begins_sign : (words : List Word) (op : UnaryOp) → sign_at words ≡ Some op → begins (unary_terminal op) words ≡ true
 begins_sign [] op e = absurd (none-some op e)
 begins_sign (o ∷ words) op e = begins-true (unary_terminal op) o words (unary_of-some o.is op e)
 
-begins_operator : (at : Precedence) (words : List Word) (op : BinaryOp) → operator_at at words ≡ Some op → (begins (binary_terminal op) words ≡ true) × (binary_precedence op ≡ at)
+pub begins_operator : (at : Precedence) (words : List Word) (op : BinaryOp) → operator_at at words ≡ Some op → (begins (binary_terminal op) words ≡ true) × (binary_precedence op ≡ at)
 begins_operator at [] op e = absurd (none-some op e)
 begins_operator at (o ∷ words) op e =
     let found = of_precedence-some at (binary_of o.is) op e in
     (begins-true (binary_terminal op) o words (binary_of-some o.is op found.0), found.1)
 
-unary_read : {p : Place} {o : Word} {op : UnaryOp} {e : Exp} {words inner rest : List Placed} → IsTaken p (unary_terminal op) o words inner → IsExp (within p) precedence.Unary e inner rest → IsExp p precedence.Unary (exp.Unary op e) words rest
+pub unary_read : {p : Place} {o : Word} {op : UnaryOp} {e : Exp} {words inner rest : List Placed} → IsTaken p (unary_terminal op) o words inner → IsExp (within p) precedence.Unary e inner rest → IsExp p precedence.Unary (exp.Unary op e) words rest
 unary_read (word_taken is) e = grammar.operator refl is e
 
-concat_read : {p : Place} {o : Word} {left right : Exp} {words middle inner rest : List Placed} → IsExp p (tighter precedence.Concat) left words middle → IsTaken p terminal.DoubleDot o middle inner → IsExp (within p) precedence.Concat right inner rest → IsExp p precedence.Concat (exp.Binary left (record { operator = binary.Concat; operand = right } ∷ [])) words rest
+pub concat_read : {p : Place} {o : Word} {left right : Exp} {words middle inner rest : List Placed} → IsExp p (tighter precedence.Concat) left words middle → IsTaken p terminal.DoubleDot o middle inner → IsExp (within p) precedence.Concat right inner rest → IsExp p precedence.Concat (exp.Binary left (record { operator = binary.Concat; operand = right } ∷ [])) words rest
 concat_read left (word_taken is) right = grammar.concatenation refl left is right
 
-operated_on : {p : Place} {at : Precedence} {o : Word} (op : BinaryOp) {operand : Exp} {before all : List Operation} {words inner behind rest : List Placed} → binary_precedence op ≡ at → IsTaken p (binary_terminal op) o words inner → IsExp (within p) (tighter at) operand inner behind → IsOperated p at (before ++ record { operator = op; operand = operand } ∷ []) all behind rest → IsOperated p at before all words rest
+pub operated_on : {p : Place} {at : Precedence} {o : Word} (op : BinaryOp) {operand : Exp} {before all : List Operation} {words inner behind rest : List Placed} → binary_precedence op ≡ at → IsTaken p (binary_terminal op) o words inner → IsExp (within p) (tighter at) operand inner behind → IsOperated p at (before ++ record { operator = op; operand = operand } ∷ []) all behind rest → IsOperated p at before all words rest
 operated_on op binds (word_taken is) operand h first start run = h first start (more_operands op run binds is operand)
 
 module _ (r : Readers) (s : AreSound r) where

@@ -13,10 +13,10 @@ use Rattle.ntx_parse.proofs.SoundPhrases.{IsName, name_read, IsLocalName, local_
 
 -- ---- names
 
-name_taken : {p : Place} {o : Word} {words rest : List Placed} → IsTaken p terminal.Name o words rest → IsName p o.spelled words rest
+pub name_taken : {p : Place} {o : Word} {words rest : List Placed} → IsTaken p terminal.Name o words rest → IsName p o.spelled words rest
 name_taken (word_taken is) = name_read is
 
-local_taken : {p : Place} {o : Word} {words rest : List Placed} → IsTaken p terminal.Name o words rest → IsLocalName p (local_of o) words rest
+pub local_taken : {p : Place} {o : Word} {words rest : List Placed} → IsTaken p terminal.Name o words rest → IsLocalName p (local_of o) words rest
 local_taken (word_taken is) = local_read is
 
 pub sound_name : (p : Place) (words : List Word) → IsSound (IsName p) words (read_name p words)
@@ -27,19 +27,19 @@ sound_local_name p words = sound_then (sound_expected p terminal.Name words refl
 
 -- ---- lists
 
-path_on : {p : Place} {o : Word} {name : List ℕ} {before all : List (List ℕ)} {words behind inner rest : List Placed} → IsTaken p terminal.Dot o words behind → IsName p name behind inner → IsBehind (before ++ name ∷ []) (IsPath p) all inner rest → IsBehind before (IsPath p) all words rest
+pub path_on : {p : Place} {o : Word} {name : List ℕ} {before all : List (List ℕ)} {words behind inner rest : List Placed} → IsTaken p terminal.Dot o words behind → IsName p name behind inner → IsBehind (before ++ name ∷ []) (IsPath p) all inner rest → IsBehind before (IsPath p) all words rest
 path_on (word_taken dot) (name_read is) h = behind_one _ h (λ others path. more_path dot is path)
 
-names_on : {p : Place} {o : Word} {name : LocalName} {before all : List LocalName} {words behind inner rest : List Placed} → IsTaken p terminal.Comma o words behind → IsLocalName p name behind inner → IsBehind (before ++ name ∷ []) (IsMoreNames p) all inner rest → IsBehind before (IsMoreNames p) all words rest
+pub names_on : {p : Place} {o : Word} {name : LocalName} {before all : List LocalName} {words behind inner rest : List Placed} → IsTaken p terminal.Comma o words behind → IsLocalName p name behind inner → IsBehind (before ++ name ∷ []) (IsMoreNames p) all inner rest → IsBehind before (IsMoreNames p) all words rest
 names_on (word_taken comma) (local_read is) h = behind_one _ h (λ others names. name_more comma is names)
 
-exps_on : {p : Place} {o : Word} {e : Exp} {before all : List Exp} {words behind inner rest : List Placed} → IsTaken p terminal.Comma o words behind → IsExp p precedence.Or e behind inner → IsBehind (before ++ e ∷ []) (IsMoreExps p) all inner rest → IsBehind before (IsMoreExps p) all words rest
+pub exps_on : {p : Place} {o : Word} {e : Exp} {before all : List Exp} {words behind inner rest : List Placed} → IsTaken p terminal.Comma o words behind → IsExp p precedence.Or e behind inner → IsBehind (before ++ e ∷ []) (IsMoreExps p) all inner rest → IsBehind before (IsMoreExps p) all words rest
 exps_on (word_taken comma) first h = behind_one _ h (λ others exps. exp_more comma first exps)
 
 pub names_whole : {p : Place} {name : LocalName} {all : List LocalName} {words inner rest : List Placed} → IsLocalName p name words inner → IsBehind (name ∷ []) (IsMoreNames p) all inner rest → IsNames p all words rest
 names_whole {p} {words = words} {rest = rest} (local_read is) h = subst (λ names. IsNames p names words rest) (sym h.all_are) (names_from is h.derives)
 
-exps_whole : {p : Place} {e : Exp} {all : List Exp} {words inner rest : List Placed} → IsExp p precedence.Or e words inner → IsBehind (e ∷ []) (IsMoreExps p) all inner rest → IsExps p all words rest
+pub exps_whole : {p : Place} {e : Exp} {all : List Exp} {words inner rest : List Placed} → IsExp p precedence.Or e words inner → IsBehind (e ∷ []) (IsMoreExps p) all inner rest → IsExps p all words rest
 exps_whole {p} {words = words} {rest = rest} first h = subst (λ exps. IsExps p exps words rest) (sym h.all_are) (exps_from first h.derives)
 
 module _ (r : Readers) (s : AreSound r) where

@@ -22,21 +22,21 @@ not_before t words h behind same o others is this =
 
 -- ---- brackets
 
-index_read : {p : Place} {o c : Word} {key : Exp} {words inner close rest : List Placed} → IsTaken p terminal.LeftBracket o words inner → IsExp p precedence.Or key inner close → IsTaken p terminal.RightBracket c close rest → IsIndex p key words rest
+pub index_read : {p : Place} {o c : Word} {key : Exp} {words inner close rest : List Placed} → IsTaken p terminal.LeftBracket o words inner → IsExp p precedence.Or key inner close → IsTaken p terminal.RightBracket c close rest → IsIndex p key words rest
 index_read (word_taken open_) key (word_taken closed) = index open_ key closed
 
-none_read : {p : Place} {o c : Word} {words inner rest : List Placed} → IsTaken p terminal.LeftParenthesis o words inner → IsTaken p terminal.RightParenthesis c inner rest → IsArguments p [] words rest
+pub none_read : {p : Place} {o c : Word} {words inner rest : List Placed} → IsTaken p terminal.LeftParenthesis o words inner → IsTaken p terminal.RightParenthesis c inner rest → IsArguments p [] words rest
 none_read (word_taken open_) (word_taken closed) = no_arguments open_ closed
 
-arguments_read : {p : Place} {o c : Word} {all : List Exp} {words inner close rest : List Placed} → IsTaken p terminal.LeftParenthesis o words inner → IsExps p all inner close → IsTaken p terminal.RightParenthesis c close rest → IsArguments p all words rest
+pub arguments_read : {p : Place} {o c : Word} {all : List Exp} {words inner close rest : List Placed} → IsTaken p terminal.LeftParenthesis o words inner → IsExps p all inner close → IsTaken p terminal.RightParenthesis c close rest → IsArguments p all words rest
 arguments_read (word_taken open_) all (word_taken closed) = grammar.arguments open_ all closed
 
 -- ( exp )
-data IsParenthesized : Place → Exp → List Placed → List Placed → Type 0 where
+pub data IsParenthesized : Place → Exp → List Placed → List Placed → Type 0 where
   in_parentheses : {p : Place} {o c : Placed} {e : Exp} {words rest : List Placed}
       → Is p terminal.LeftParenthesis o → IsExp p precedence.Or e words (c ∷ rest) → Is p terminal.RightParenthesis c → IsParenthesized p e (o ∷ words) rest
 
-parenthesized_read : {p : Place} {o c : Word} {e : Exp} {words inner close rest : List Placed} → IsTaken p terminal.LeftParenthesis o words inner → IsExp p precedence.Or e inner close → IsTaken p terminal.RightParenthesis c close rest → IsParenthesized p e words rest
+pub parenthesized_read : {p : Place} {o c : Word} {e : Exp} {words inner close rest : List Placed} → IsTaken p terminal.LeftParenthesis o words inner → IsExp p precedence.Or e inner close → IsTaken p terminal.RightParenthesis c close rest → IsParenthesized p e words rest
 parenthesized_read (word_taken open_) e (word_taken closed) = in_parentheses open_ e closed
 
 -- ---- prefixes
@@ -48,19 +48,19 @@ joined_prefix (index_part prefix key) = index_prefix prefix key
 joined_prefix (field_part prefix dot name) = field_prefix prefix dot name
 joined_prefix (call_part prefix all) = call_prefix prefix all
 
-longer_index : {p : Place} {before found : Part} {key : Exp} {words inner rest : List Placed} → IsIndex (within p) key words inner → IsLonger p (part.Index (joined before) key) found inner rest → IsLonger p before found words rest
+pub longer_index : {p : Place} {before found : Part} {key : Exp} {words inner rest : List Placed} → IsIndex (within p) key words inner → IsLonger p (part.Index (joined before) key) found inner rest → IsLonger p before found words rest
 longer_index key h = record { derives = λ start prefix. h.derives start (index_part (joined_prefix prefix) key); ends = h.ends }
 
-longer_field : {p : Place} {o : Word} {before found : Part} {name : List ℕ} {words middle inner rest : List Placed} → IsTaken p terminal.Dot o words middle → IsName p name middle inner → IsLonger p (part.Field (joined before) name) found inner rest → IsLonger p before found words rest
+pub longer_field : {p : Place} {o : Word} {before found : Part} {name : List ℕ} {words middle inner rest : List Placed} → IsTaken p terminal.Dot o words middle → IsName p name middle inner → IsLonger p (part.Field (joined before) name) found inner rest → IsLonger p before found words rest
 longer_field (word_taken dot) (name_read name) h = record { derives = λ start prefix. h.derives start (field_part (joined_prefix prefix) dot name); ends = h.ends }
 
-longer_call : {p : Place} {before found : Part} {all : List Exp} {words inner rest : List Placed} → IsArguments (within p) all words inner → IsLonger p (part.Call (joined before) all) found inner rest → IsLonger p before found words rest
+pub longer_call : {p : Place} {before found : Part} {all : List Exp} {words inner rest : List Placed} → IsArguments (within p) all words inner → IsLonger p (part.Call (joined before) all) found inner rest → IsLonger p before found words rest
 longer_call all h = record { derives = λ start prefix. h.derives start (call_part (joined_prefix prefix) all); ends = h.ends }
 
-whole_parenthesized : {p : Place} {found : Part} {e : Exp} {words inner rest : List Placed} → IsParenthesized (within p) e words inner → IsLonger p (part.Parenthesized e) found inner rest → IsWhole p found words rest
+pub whole_parenthesized : {p : Place} {found : Part} {e : Exp} {words inner rest : List Placed} → IsParenthesized (within p) e words inner → IsLonger p (part.Parenthesized e) found inner rest → IsWhole p found words rest
 whole_parenthesized (in_parentheses open_ e closed) h = record { derives = h.derives _ (parenthesized_part open_ e closed); ends = h.ends }
 
-whole_name : {p : Place} {found : Part} {name : List ℕ} {words inner rest : List Placed} → IsName p name words inner → IsLonger p (part.Name name) found inner rest → IsWhole p found words rest
+pub whole_name : {p : Place} {found : Part} {name : List ℕ} {words inner rest : List Placed} → IsName p name words inner → IsLonger p (part.Name name) found inner rest → IsWhole p found words rest
 whole_name (name_read is) h = record { derives = h.derives _ (name_part is); ends = h.ends }
 
 module _ (r : Readers) (s : AreSound r) where

@@ -25,55 +25,55 @@ use Rattle.ntx_parse.proofs.SoundAssignments.{sound_values, sound_expression_sta
 -- ---- blocks
 
 -- block end
-data IsEnded : Place → Place → Block → List Placed → List Placed → Type 0 where
+pub data IsEnded : Place → Place → Block → List Placed → List Placed → Type 0 where
   ended : {p inside : Place} {e : Placed} {body : Block} {words rest : List Placed} → IsBlock inside body words (e ∷ rest) → Is p terminal.End e → IsEnded p inside body words rest
 
-ended_read : {p inside : Place} {e : Word} {body : Block} {words behind rest : List Placed} → IsBlock inside body words behind → IsTaken p terminal.End e behind rest → IsEnded p inside body words rest
+pub ended_read : {p inside : Place} {e : Word} {body : Block} {words behind rest : List Placed} → IsBlock inside body words behind → IsTaken p terminal.End e behind rest → IsEnded p inside body words rest
 ended_read body (word_taken is) = ended body is
 
-do_read : {p : Place} {o : Word} {body : Block} {words inner rest : List Placed} → IsTaken p terminal.Do o words inner → IsEnded p (within p) body inner rest → IsKind p (stat.Do body) words rest
+pub do_read : {p : Place} {o : Word} {body : Block} {words inner rest : List Placed} → IsTaken p terminal.Do o words inner → IsEnded p (within p) body inner rest → IsKind p (stat.Do body) words rest
 do_read (word_taken is) (ended body e) = grammar.do_end is body e
 
 -- do block end, of a loop
-data IsLooped : Place → Block → List Placed → List Placed → Type 0 where
+pub data IsLooped : Place → Block → List Placed → List Placed → Type 0 where
   looped : {p : Place} {d e : Placed} {body : Block} {words rest : List Placed} → Is p terminal.Do d → IsBlock (within_loop p) body words (e ∷ rest) → Is p terminal.End e → IsLooped p body (d ∷ words) rest
 
-looped_read : {p : Place} {d : Word} {body : Block} {words inner rest : List Placed} → IsTaken p terminal.Do d words inner → IsEnded p (within_loop p) body inner rest → IsLooped p body words rest
+pub looped_read : {p : Place} {d : Word} {body : Block} {words inner rest : List Placed} → IsTaken p terminal.Do d words inner → IsEnded p (within_loop p) body inner rest → IsLooped p body words rest
 looped_read (word_taken is) (ended body e) = looped is body e
 
-while_read : {p : Place} {o : Word} {condition : Exp} {body : Block} {words second behind rest : List Placed} → IsTaken p terminal.While o words second → IsExp p precedence.Or condition second behind → IsLooped p body behind rest → IsKind p (stat.While condition body) words rest
+pub while_read : {p : Place} {o : Word} {condition : Exp} {body : Block} {words second behind rest : List Placed} → IsTaken p terminal.While o words second → IsExp p precedence.Or condition second behind → IsLooped p body behind rest → IsKind p (stat.While condition body) words rest
 while_read (word_taken is) condition (looped d body e) = grammar.while_do is condition d body e
 
-repeat_read : {p : Place} {o u : Word} {condition : Exp} {body : Block} {words inner behind second rest : List Placed} → IsTaken p terminal.Repeat o words inner → IsBlock (within_loop p) body inner behind → IsTaken p terminal.Until u behind second → IsExp p precedence.Or condition second rest → IsKind p (stat.Repeat body condition) words rest
+pub repeat_read : {p : Place} {o u : Word} {condition : Exp} {body : Block} {words inner behind second rest : List Placed} → IsTaken p terminal.Repeat o words inner → IsBlock (within_loop p) body inner behind → IsTaken p terminal.Until u behind second → IsExp p precedence.Or condition second rest → IsKind p (stat.Repeat body condition) words rest
 repeat_read (word_taken is) body (word_taken until) condition = grammar.repeat_until is body until condition
 
 -- ---- if
 
-arm_read : {p : Place} {t : Terminal} {o m : Word} {condition : Exp} {body : Block} {words second behind inner rest : List Placed} → IsTaken p t o words second → IsExp p precedence.Or condition second behind → IsTaken p terminal.Then m behind inner → IsBlock (within p) body inner rest → IsArm p t (roll-IfArm (record { condition = condition; block = body })) words rest
+pub arm_read : {p : Place} {t : Terminal} {o m : Word} {condition : Exp} {body : Block} {words second behind inner rest : List Placed} → IsTaken p t o words second → IsExp p precedence.Or condition second behind → IsTaken p terminal.Then m behind inner → IsBlock (within p) body inner rest → IsArm p t (roll-IfArm (record { condition = condition; block = body })) words rest
 arm_read (word_taken is) condition (word_taken then) body = arm is condition then body
 
-arms_on : {p : Place} {first : IfArm} {before all : List IfArm} {words inner rest : List Placed} → IsArm p terminal.Elseif first words inner → IsBehind (before ++ first ∷ []) (IsArms p) all inner rest → IsBehind before (IsArms p) all words rest
+pub arms_on : {p : Place} {first : IfArm} {before all : List IfArm} {words inner rest : List Placed} → IsArm p terminal.Elseif first words inner → IsBehind (before ++ first ∷ []) (IsArms p) all inner rest → IsBehind before (IsArms p) all words rest
 arms_on first h = behind_one _ h (λ others arms. more_arms first arms)
 
-else_read : {p : Place} {o : Word} {body : Block} {words inner rest : List Placed} → IsTaken p terminal.Else o words inner → IsBlock (within p) body inner rest → IsElse p (Some body) words rest
+pub else_read : {p : Place} {o : Word} {body : Block} {words inner rest : List Placed} → IsTaken p terminal.Else o words inner → IsBlock (within p) body inner rest → IsElse p (Some body) words rest
 else_read (word_taken is) body = grammar.else is body
 
-if_read : {p : Place} {e : Word} {first : IfArm} {arms : List IfArm} {other : Option Block} {words behind_first behind_arms behind rest : List Placed} → IsArm p terminal.If first words behind_first → IsBehind (first ∷ []) (IsArms p) arms behind_first behind_arms → IsElse p other behind_arms behind → IsTaken p terminal.End e behind rest → IsKind p (stat.If arms other) words rest
+pub if_read : {p : Place} {e : Word} {first : IfArm} {arms : List IfArm} {other : Option Block} {words behind_first behind_arms behind rest : List Placed} → IsArm p terminal.If first words behind_first → IsBehind (first ∷ []) (IsArms p) arms behind_first behind_arms → IsElse p other behind_arms behind → IsTaken p terminal.End e behind rest → IsKind p (stat.If arms other) words rest
 if_read {p} {other = other} {words = words} {rest = rest} first h otherwise (word_taken is) = subst (λ arms. IsKind p (stat.If arms other) words rest) (sym h.all_are) (grammar.if_then first h.derives otherwise is)
 
 -- ---- for
 
-step_read : {p : Place} {o : Word} {value : Exp} {words second rest : List Placed} → IsTaken p terminal.Comma o words second → IsExp p precedence.Or value second rest → IsStep p (Some value) words rest
+pub step_read : {p : Place} {o : Word} {value : Exp} {words second rest : List Placed} → IsTaken p terminal.Comma o words second → IsExp p precedence.Or value second rest → IsStep p (Some value) words rest
 step_read (word_taken is) value = grammar.step is value
 
-numeric_read : {p : Place} {f a c : Word} {name : LocalName} {first limit : Exp} {step : Option Exp} {body : Block} {words named assigned second behind_first third behind_limit behind_step rest : List Placed}
+pub numeric_read : {p : Place} {f a c : Word} {name : LocalName} {first limit : Exp} {step : Option Exp} {body : Block} {words named assigned second behind_first third behind_limit behind_step rest : List Placed}
     → IsTaken p terminal.For f words named → IsLocalName p name named assigned → IsTaken p terminal.Assign a assigned second
     → IsExp p precedence.Or first second behind_first → IsTaken p terminal.Comma c behind_first third → IsExp p precedence.Or limit third behind_limit
     → IsStep p step behind_limit behind_step → IsLooped p body behind_step rest → IsKind p (stat.NumericFor name first limit step body) words rest
 numeric_read (word_taken for) (local_read is) (word_taken assign) first (word_taken comma) limit by (looped d body e) =
     grammar.numeric_for for is assign first comma limit by d body e
 
-generic_read : {p : Place} {f i : Word} {name : LocalName} {names : List LocalName} {values : List Exp} {body : Block} {words named behind behind_names second behind_values rest : List Placed}
+pub generic_read : {p : Place} {f i : Word} {name : LocalName} {names : List LocalName} {values : List Exp} {body : Block} {words named behind behind_names second behind_values rest : List Placed}
     → IsTaken p terminal.For f words named → IsLocalName p name named behind → IsBehind (name ∷ []) (IsMoreNames p) names behind behind_names
     → IsTaken p terminal.In i behind_names second → IsExps p values second behind_values → IsLooped p body behind_values rest
     → IsKind p (stat.GenericFor names values body) words rest
@@ -81,21 +81,21 @@ generic_read (word_taken for) is more (word_taken inside) values (looped d body 
 
 -- ---- functions and locals
 
-function_read : {p : Place} {f : Word} {name : List ℕ} {fields : List (List ℕ)} {body : FunctionBody} {words named behind_name behind rest : List Placed} → IsTaken p terminal.Function f words named → IsName p name named behind_name → IsBehind [] (IsPath p) fields behind_name behind → IsBody (within p) body behind rest → IsKind p (stat.Function name fields body) words rest
+pub function_read : {p : Place} {f : Word} {name : List ℕ} {fields : List (List ℕ)} {body : FunctionBody} {words named behind_name behind rest : List Placed} → IsTaken p terminal.Function f words named → IsName p name named behind_name → IsBehind [] (IsPath p) fields behind_name behind → IsBody (within p) body behind rest → IsKind p (stat.Function name fields body) words rest
 function_read (word_taken is) (name_read name) path inside = grammar.function is name (behind_none path) inside
 
-local_function_read : {p : Place} {l f : Word} {name : LocalName} {body : FunctionBody} {words second named behind rest : List Placed} → IsTaken p terminal.Local l words second → IsTaken p terminal.Function f second named → IsLocalName p name named behind → IsBody (within p) body behind rest → IsKind p (stat.LocalFunction name body) words rest
+pub local_function_read : {p : Place} {l f : Word} {name : LocalName} {body : FunctionBody} {words second named behind rest : List Placed} → IsTaken p terminal.Local l words second → IsTaken p terminal.Function f second named → IsLocalName p name named behind → IsBody (within p) body behind rest → IsKind p (stat.LocalFunction name body) words rest
 local_function_read (word_taken is) (word_taken function) (local_read name) inside = grammar.local_function is function name inside
 
-locals_read : {p : Place} {l : Word} {names : List LocalName} {values : List Exp} {words second behind rest : List Placed} → IsTaken p terminal.Local l words second → IsNames p names second behind → IsValues p values behind rest → IsKind p (stat.Local names values) words rest
+pub locals_read : {p : Place} {l : Word} {names : List LocalName} {values : List Exp} {words second behind rest : List Placed} → IsTaken p terminal.Local l words second → IsNames p names second behind → IsValues p values behind rest → IsKind p (stat.Local names values) words rest
 locals_read (word_taken is) names all = grammar.locals is names all
 
 -- ---- single words
 
-empty_read : {p : Place} {o : Word} {words rest : List Placed} → IsTaken p terminal.Semicolon o words rest → IsKind p stat.Empty words rest
+pub empty_read : {p : Place} {o : Word} {words rest : List Placed} → IsTaken p terminal.Semicolon o words rest → IsKind p stat.Empty words rest
 empty_read (word_taken is) = grammar.empty is
 
-break_read : {p : Place} {o : Word} {words rest : List Placed} → IsTaken p terminal.Break o words rest → IsKind p stat.Break words rest
+pub break_read : {p : Place} {o : Word} {words rest : List Placed} → IsTaken p terminal.Break o words rest → IsKind p stat.Break words rest
 break_read (word_taken is) = grammar.break is
 
 sound_break_where : (p : Place) (in_loop : Bool) (words : List Word) → p.in_loop ≡ in_loop → begins terminal.Break words ≡ true → IsSound (IsKind p) words (and_then (taken p words) (λ _ rest. cond in_loop (read stat.Break rest) (stopped why.Break words)))

@@ -21,34 +21,34 @@ use Rattle.ntx_parse.proofs.SoundPrefixes.{sound_index}
 -- ---- functions
 
 -- ( [namelist] )
-data IsParenthesized : Place → List LocalName → List Placed → List Placed → Type 0 where
+pub data IsParenthesized : Place → List LocalName → List Placed → List Placed → Type 0 where
   in_parentheses : {p : Place} {o c : Placed} {names : List LocalName} {words rest : List Placed}
       → Is p terminal.LeftParenthesis o → IsParameters p names words (c ∷ rest) → Is p terminal.RightParenthesis c → IsParenthesized p names (o ∷ words) rest
 
-none_read : {p : Place} {o c : Word} {words inner rest : List Placed} → IsTaken p terminal.LeftParenthesis o words inner → IsTaken p terminal.RightParenthesis c inner rest → IsParenthesized p [] words rest
+pub none_read : {p : Place} {o c : Word} {words inner rest : List Placed} → IsTaken p terminal.LeftParenthesis o words inner → IsTaken p terminal.RightParenthesis c inner rest → IsParenthesized p [] words rest
 none_read (word_taken open_) (word_taken closed) = in_parentheses open_ no_parameters closed
 
-names_read : {p : Place} {o c : Word} {names : List LocalName} {words inner close rest : List Placed} → IsTaken p terminal.LeftParenthesis o words inner → IsNames p names inner close → IsTaken p terminal.RightParenthesis c close rest → IsParenthesized p names words rest
+pub names_read : {p : Place} {o c : Word} {names : List LocalName} {words inner close rest : List Placed} → IsTaken p terminal.LeftParenthesis o words inner → IsNames p names inner close → IsTaken p terminal.RightParenthesis c close rest → IsParenthesized p names words rest
 names_read (word_taken open_) names (word_taken closed) = in_parentheses open_ (grammar.parameters names) closed
 
-body_read : {p : Place} {e : Word} {names : List LocalName} {block : Block} {words inner ended rest : List Placed} → IsParenthesized (within p) names words inner → IsBlock (within_function p) block inner ended → IsTaken p terminal.End e ended rest → IsBody p (roll-FunctionBody (record { parameters = names; block = block })) words rest
+pub body_read : {p : Place} {e : Word} {names : List LocalName} {block : Block} {words inner ended rest : List Placed} → IsParenthesized (within p) names words inner → IsBlock (within_function p) block inner ended → IsTaken p terminal.End e ended rest → IsBody p (roll-FunctionBody (record { parameters = names; block = block })) words rest
 body_read (in_parentheses open_ names closed) inside (word_taken ended) = grammar.body open_ names closed inside ended
 
 -- ---- tables
 
-keyed_read : {p : Place} {a : Word} {key value : Exp} {words behind inner rest : List Placed} → IsIndex (within p) key words behind → IsTaken p terminal.Assign a behind inner → IsExp p precedence.Or value inner rest → IsField p (field.Keyed key value) words rest
+pub keyed_read : {p : Place} {a : Word} {key value : Exp} {words behind inner rest : List Placed} → IsIndex (within p) key words behind → IsTaken p terminal.Assign a behind inner → IsExp p precedence.Or value inner rest → IsField p (field.Keyed key value) words rest
 keyed_read key (word_taken assigned) value = keyed key assigned value
 
-named_read : {p : Place} {a : Word} {name : List ℕ} {value : Exp} {words behind inner rest : List Placed} → IsName p name words behind → IsTaken p terminal.Assign a behind inner → IsExp p precedence.Or value inner rest → IsField p (field.Named name value) words rest
+pub named_read : {p : Place} {a : Word} {name : List ℕ} {value : Exp} {words behind inner rest : List Placed} → IsName p name words behind → IsTaken p terminal.Assign a behind inner → IsExp p precedence.Or value inner rest → IsField p (field.Named name value) words rest
 named_read (name_read is) (word_taken assigned) value = named_field is assigned value
 
-fields_on_comma : {p : Place} {o : Word} {f : Field} {before all : List Field} {words behind inner rest : List Placed} → IsField p f words behind → IsTaken p terminal.Comma o behind inner → IsBehind (before ++ f ∷ []) (IsFields p) all inner rest → IsBehind before (IsFields p) all words rest
+pub fields_on_comma : {p : Place} {o : Word} {f : Field} {before all : List Field} {words behind inner rest : List Placed} → IsField p f words behind → IsTaken p terminal.Comma o behind inner → IsBehind (before ++ f ∷ []) (IsFields p) all inner rest → IsBehind before (IsFields p) all words rest
 fields_on_comma f (word_taken is) h = behind_one _ h (λ _ others. more_fields f (comma is) others)
 
-fields_on_semicolon : {p : Place} {o : Word} {f : Field} {before all : List Field} {words behind inner rest : List Placed} → IsField p f words behind → IsTaken p terminal.Semicolon o behind inner → IsBehind (before ++ f ∷ []) (IsFields p) all inner rest → IsBehind before (IsFields p) all words rest
+pub fields_on_semicolon : {p : Place} {o : Word} {f : Field} {before all : List Field} {words behind inner rest : List Placed} → IsField p f words behind → IsTaken p terminal.Semicolon o behind inner → IsBehind (before ++ f ∷ []) (IsFields p) all inner rest → IsBehind before (IsFields p) all words rest
 fields_on_semicolon f (word_taken is) h = behind_one _ h (λ _ others. more_fields f (semicolon_separator is) others)
 
-fields_ended : {p : Place} {f : Field} {before : List Field} {words rest : List Placed} → IsField p f words rest → IsBehind before (IsFields p) (before ++ f ∷ []) words rest
+pub fields_ended : {p : Place} {f : Field} {before : List Field} {words rest : List Placed} → IsField p f words rest → IsBehind before (IsFields p) (before ++ f ∷ []) words rest
 fields_ended {f = f} h = record { others = f ∷ []; all_are = refl; derives = last_field h }
 
 -- { fields }
@@ -56,7 +56,7 @@ pub data IsBraced : Place → List Field → List Placed → List Placed → Typ
   in_braces : {p : Place} {o c : Placed} {fields : List Field} {words rest : List Placed}
       → Is p terminal.LeftBrace o → IsFields p fields words (c ∷ rest) → Is p terminal.RightBrace c → IsBraced p fields (o ∷ words) rest
 
-table_read : {p : Place} {o c : Word} {fields : List Field} {words inner close rest : List Placed} → IsTaken p terminal.LeftBrace o words inner → IsBehind [] (IsFields p) fields inner close → IsTaken p terminal.RightBrace c close rest → IsBraced p fields words rest
+pub table_read : {p : Place} {o c : Word} {fields : List Field} {words inner close rest : List Placed} → IsTaken p terminal.LeftBrace o words inner → IsBehind [] (IsFields p) fields inner close → IsTaken p terminal.RightBrace c close rest → IsBraced p fields words rest
 table_read (word_taken open_) fields (word_taken closed) = in_braces open_ (behind_none fields) closed
 
 -- where one of two words is at the front
