@@ -11,3 +11,6 @@ pub mod SoundBlocks
 pub mod Sound
 pub mod StuckAnswers
 pub mod StuckWords
+pub mod StuckPhrases
+pub mod StuckLists
+pub mod StuckPrefixes
