@@ -14,3 +14,5 @@ pub mod StuckWords
 pub mod StuckPhrases
 pub mod StuckLists
 pub mod StuckPrefixes
+pub mod StuckTables
+pub mod StuckExpressions
