@@ -16,3 +16,5 @@ pub mod StuckLists
 pub mod StuckPrefixes
 pub mod StuckTables
 pub mod StuckExpressions
+pub mod StuckAssignments
+pub mod StuckStatements

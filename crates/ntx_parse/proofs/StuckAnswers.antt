@@ -100,7 +100,7 @@ fine_twice (o ∷ one) two f g = (f.0, fine_twice one two f.1 g)
 -- ---- one reading, and behind it another
 
 module _ {A B : Type 0} {b m c : Ends} {D : Phrase A} {F : Phrase B} where
-  whole_then : (w : HasPhrase b m D) → HasPhrase m c (Completes D w.tree F) → HasPhrase b c F
+  pub whole_then : (w : HasPhrase b m D) → HasPhrase m c (Completes D w.tree F) → HasPhrase b c F
   whole_then w v = record {
     others = w.others ++ v.others;
     tree = v.tree;

@@ -156,8 +156,11 @@ taken_where p t (o ∷ words) looped w h = taken_if p t o words (nat_le p.nestin
 no_break : (p : Place) (t : Terminal) → IsOther t → t ≡ terminal.Break → p.in_loop ≡ true
 no_break p t other breaks = absurd (other_terminal t terminal.Break other breaks)
 
+pub viable_taken_where : (c : Ends) (p : Place) (t : Terminal) (words : List Word) → (t ≡ terminal.Break → p.in_loop ≡ true) → IsNoCall t → begins t words ≡ true → IsViable no_call c (IsTaken p t) words (taken p words)
+viable_taken_where c p t words looped none h = taken_where p t words looped (taken_phrase no_call p t none) h
+
 pub viable_taken : (c : Ends) (p : Place) (t : Terminal) (words : List Word) → IsOther t → IsNoCall t → begins t words ≡ true → IsViable no_call c (IsTaken p t) words (taken p words)
-viable_taken c p t words other none h = taken_where p t words (no_break p t other) (taken_phrase no_call p t none) h
+viable_taken c p t words other none h = viable_taken_where c p t words (no_break p t other) none h
 
 pub viable_expected : (c : Ends) (p : Place) (t : Terminal) (words : List Word) → IsOther t → IsNoCall t → IsViable no_call c (IsTaken p t) words (expected p t words)
 viable_expected c p t words other none = viable_if (begins t words) (λ h. viable_taken c p t words other none h) (λ _. viable_stopped (taken_phrase no_call p t none))
