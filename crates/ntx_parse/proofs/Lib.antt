@@ -18,3 +18,5 @@ pub mod StuckTables
 pub mod StuckExpressions
 pub mod StuckAssignments
 pub mod StuckStatements
+pub mod StuckFirstWords
+pub mod StuckBlocks
