@@ -20,3 +20,5 @@ pub mod StuckAssignments
 pub mod StuckStatements
 pub mod StuckFirstWords
 pub mod StuckBlocks
+pub mod StuckNil
+pub mod Stuck
