@@ -1,24 +1,19 @@
 -- Where a script is refused, the words before stand, and the word there is wrong.
 --     stand      the words before the stop stand, and if it lies too deep there or is a `break` outside of any loop, it can stand there but for that
 --     refused    the script is refused there, if no word of the stop can follow where it is not expected
-use Rattle.std.proofs.Common.{◌≡◌, ◌<◌, ◌≤◌, ℕ, zero, suc, false, List, [], ◌∷◌, ◌++◌, map, None, Some, Ok, Err, refl, sym, ap, ◌∙◌, subst, append_assoc, append-nil}
+use Rattle.std.proofs.Common.{◌≡◌, ℕ, zero, suc, List, [], ◌∷◌, ◌++◌, None, Some, Ok, Err, refl, subst, append_assoc}
 use Rattle.ntx_syntax.specs.declared.fault.SyntaxWhy.{SyntaxWhy}
 use Rattle.ntx_syntax.specs.declared.fault.SyntaxWhy.TheVariants as why
 use Rattle.ntx_syntax.specs.declared.tree.Block.{Block}
-use Rattle.ntx_syntax.specs.declared.tree.Exp.TheVariants as exp
-use Rattle.ntx_parse.specs.declared.place.Place.{Place}
-use Rattle.ntx_parse.specs.declared.precedence.Precedence.{Precedence}
-use Rattle.ntx_parse.specs.declared.precedence.Precedence.TheVariants as precedence
-use Rattle.ntx_parse.specs.declared.terminal.Terminal.TheVariants as terminal
 use Rattle.ntx_parse.specs.Words.{Word}
 use Rattle.ntx_parse.specs.Grammar as grammar
 use Rattle.ntx_parse.specs.Grammar.{Placed, outermost, max_nesting, IsBlock, IsExp, IsSimple}
-use Rattle.ntx_parse.specs.Faults.{CanBegin, Stand, CannotStand, IsNoScript, at_place, IsWrong, IsRefusedAt}
+use Rattle.ntx_parse.specs.Faults.{CanBegin, Stand, IsWrong, IsRefusedAt}
 use Rattle.ntx_parse.specs.Reading.{Answer, Stop, Readers, nothing, over, readers, and_then, ended, script_by}
 use Rattle.ntx_parse.proofs.SoundAnswers.{Phrase, spelled_by}
-use Rattle.ntx_parse.proofs.SoundPhrases.{IsBehind, behind_all, names_end, exps_end, vars_end}
-use Rattle.ntx_parse.proofs.StuckAnswers.{Ends, any_words, no_call, MayFollow, HaveValues, IsFront, IsCompleted, IsWrongWord, not_expected, too_deep, no_loop, IsStuck, HasPhrase, IsViable, stop-injective}
-use Rattle.ntx_parse.proofs.StuckWords.{some_word, viable_nothing}
+use Rattle.ntx_parse.proofs.SoundPhrases.{behind_all, names_end, exps_end, vars_end}
+use Rattle.ntx_parse.proofs.StuckAnswers.{Ends, no_call, MayFollow, HaveValues, IsFront, IsWrongWord, not_expected, too_deep, no_loop, IsStuck, HasPhrase, IsViable, stop-injective}
+use Rattle.ntx_parse.proofs.StuckWords.{viable_nothing}
 use Rattle.ntx_parse.proofs.StuckPhrases.{AreViable}
 use Rattle.ntx_parse.proofs.StuckLists.{viable_path, viable_names, viable_exps}
 use Rattle.ntx_parse.proofs.StuckPrefixes.{no_parenthesis, viable_suffixes}

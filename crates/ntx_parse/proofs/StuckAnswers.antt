@@ -1,8 +1,7 @@
 -- What a reading tells, said of one answer. The words that were read stand before others too, and where the reading stops, some words complete what was
 -- read to the phrase that it looked for. So they do where no word is read at all.
 --     IsViable b c D words answer    all that, of the phrase D, behind which these words may follow (c), in front of which those of b do
-use Rattle.std.proofs.Common.{◌≡◌, ◌<◌, ◌≤◌, Bool, true, false, List, [], ◌∷◌, ◌++◌, map, None, Some, Ok, Err, cond, IsSome, refl, sym, ap, ◌∙◌, subst, append_assoc}
-use Rattle.std.proofs.lemmas.Bool.{false≢true}
+use Rattle.std.proofs.Common.{◌≡◌, ◌<◌, ◌≤◌, false, List, [], ◌∷◌, ◌++◌, None, Some, Ok, Err, IsSome, refl, sym, ap, ◌∙◌, subst, append_assoc}
 use Rattle.std.proofs.lemmas.List.{map-append}
 use Rattle.std.specs.List.{AllByRecursion}
 use Rattle.ntx_syntax.specs.declared.fault.SyntaxWhy.{SyntaxWhy}
@@ -11,10 +10,10 @@ use Rattle.ntx_syntax.specs.Values.{numeral_value, text_value}
 use Rattle.ntx_parse.specs.declared.place.Place.{Place}
 use Rattle.ntx_parse.specs.declared.terminal.Terminal.TheVariants as terminal
 use Rattle.ntx_parse.specs.Words.{Word}
-use Rattle.ntx_parse.specs.Grammar.{Placed, IsFine, max_nesting}
+use Rattle.ntx_parse.specs.Grammar.{Placed, max_nesting}
 use Rattle.ntx_parse.specs.Faults.{at_place}
-use Rattle.ntx_parse.specs.Reading.{Answer, Stop, read, stopped, and_then, begins}
-use Rattle.ntx_parse.proofs.SoundAnswers.{Phrase, spelled_by, AreFine, Completes, read-injective, not_read, parts_read}
+use Rattle.ntx_parse.specs.Reading.{Answer, Stop, read, and_then, begins}
+use Rattle.ntx_parse.proofs.SoundAnswers.{Phrase, spelled_by, AreFine, Completes, parts_read}
 
 -- What may follow: any words, or words that do not open a parenthesis, which would begin the arguments of a call.
 pub data Ends : Type 0 where

@@ -1,5 +1,5 @@
 -- Blocks: what an answer of theirs tells.
-use Rattle.std.proofs.Common.{◌≡◌, List, [], ◌∷◌, ◌++◌, refl}
+use Rattle.std.proofs.Common.{List, [], ◌∷◌, ◌++◌, refl}
 use Rattle.ntx_syntax.specs.declared.tree.Stat.{Stat}
 use Rattle.ntx_parse.specs.declared.place.Place.{Place}
 use Rattle.ntx_parse.specs.declared.terminal.Terminal.TheVariants as terminal

@@ -1,12 +1,11 @@
 -- A statement has a first word, whose line is the statement's.
-use Rattle.std.proofs.Common.{◌≡◌, List, [], ◌∷◌, ◌++◌, map, refl, sym, ap, ◌∙◌, subst}
+use Rattle.std.proofs.Common.{◌≡◌, List, [], ◌∷◌, ◌++◌, refl, sym, subst}
 use Rattle.ntx_syntax.specs.declared.tree.IfArm.{IfArm}
 use Rattle.ntx_syntax.specs.declared.tree.StatKind.{StatKind}
 use Rattle.ntx_syntax.specs.declared.tree.StatKind.TheVariants as stat
 use Rattle.ntx_syntax.specs.declared.tree.Prefix.{Prefix}
 use Rattle.ntx_syntax.specs.declared.tree.Var.{Var}
 use Rattle.ntx_syntax.specs.declared.tree.Call.{Call}
-use Rattle.ntx_syntax.specs.declared.tree.Stat.{Stat}
 use Rattle.ntx_syntax.specs.declared.fault.SyntaxWhy.{SyntaxWhy}
 use Rattle.ntx_parse.specs.declared.place.Place.{Place}
 use Rattle.ntx_parse.specs.declared.terminal.Terminal.{Terminal}
@@ -17,7 +16,7 @@ use Rattle.ntx_parse.specs.Grammar.{Placed, IsPrefix, IsVar, IsVars, IsCall, IsA
 use Rattle.ntx_parse.specs.Faults.{at_place}
 use Rattle.ntx_parse.specs.Reading.{Answer, Stop}
 use Rattle.ntx_parse.proofs.SoundAnswers.{Phrase, spelled_by}
-use Rattle.ntx_parse.proofs.StuckAnswers.{no_call, MayFollow, IsFront, IsCompleted, IsWrongWord, not_expected, too_deep, no_loop, IsStuck, HasPhrase, IsViable}
+use Rattle.ntx_parse.proofs.StuckAnswers.{no_call, MayFollow, IsCompleted, IsWrongWord, not_expected, too_deep, no_loop, HasPhrase, IsViable}
 
 -- ---- phrases that are never empty
 

@@ -1,6 +1,5 @@
 -- Prefixes: what an answer of theirs tells.
-use Rattle.std.proofs.Common.{◌≡◌, false, List, [], ◌∷◌, nat_eq, refl, sym, ap, ◌∙◌}
-use Rattle.ntx_syntax.specs.declared.tree.Exp.{Exp}
+use Rattle.std.proofs.Common.{List, [], refl}
 use Rattle.ntx_parse.specs.declared.part.Part.{Part}
 use Rattle.ntx_parse.specs.declared.part.Part.TheVariants as part
 use Rattle.ntx_parse.specs.declared.place.Place.{Place}
@@ -12,8 +11,8 @@ use Rattle.ntx_parse.specs.Reading.{Readers, and_then, begins, joined, read_name
 use Rattle.ntx_parse.proofs.SoundAnswers.{spelled_by}
 use Rattle.ntx_parse.proofs.SoundPhrases.{IsLonger, IsWhole}
 use Rattle.ntx_parse.proofs.SoundPrefixes.{not_before, index_read, none_read, arguments_read, IsParenthesized, parenthesized_read, longer_index, longer_field, longer_call, whole_parenthesized, whole_name}
-use Rattle.ntx_parse.proofs.StuckAnswers.{Ends, any_words, no_call, MayFollow, HasPhrase, IsViable, viable_then}
-use Rattle.ntx_parse.proofs.StuckWords.{viable_read, viable_if, viable_parenthesis, viable_as, viable_taken, viable_expected, viable_open, viable_where}
+use Rattle.ntx_parse.proofs.StuckAnswers.{any_words, no_call, MayFollow, IsViable, viable_then}
+use Rattle.ntx_parse.proofs.StuckWords.{viable_read, viable_if, viable_parenthesis, viable_as, viable_expected, viable_open, viable_where}
 use Rattle.ntx_parse.proofs.StuckPhrases.{AreViable}
 use Rattle.ntx_parse.proofs.StuckLists.{viable_name, viable_read_exps}
 

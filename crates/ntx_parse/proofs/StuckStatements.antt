@@ -1,8 +1,6 @@
 -- Statements: what an answer of theirs tells.
-use Rattle.ntx_syntax.specs.declared.tree.Block.{Block}
 use Rattle.ntx_syntax.specs.declared.tree.StatKind.TheVariants as stat
 use Rattle.ntx_syntax.specs.declared.tree.LocalName.{LocalName}
-use Rattle.ntx_syntax.specs.declared.tree.Exp.{Exp}
 use Rattle.ntx_syntax.specs.declared.fault.SyntaxWhy.TheVariants as why
 use Rattle.ntx_parse.specs.declared.place.Place.{Place}
 use Rattle.ntx_parse.specs.declared.precedence.Precedence.TheVariants as precedence
@@ -13,7 +11,7 @@ use Rattle.ntx_parse.specs.Grammar as grammar
 use Rattle.ntx_parse.specs.Grammar.{max_nesting, Placed, Is, within, within_loop, IsPath, IsNames, IsBlock, IsKind, IsArm, arm, IsArms, no_arms, more_arms, IsElse, no_else, IsStep, no_step, IsValues, IsExp, IsExps, IsBody}
 use Rattle.ntx_parse.specs.Reading.{Readers, read, stopped, and_then, taken, begins, block_to_end, read_do, loop_body, read_while, read_repeat, read_arm, arms_behind, else_behind, read_if, step_behind, numeric_for_behind, generic_for_behind, read_for, read_function, local_function_behind, locals_behind, read_local, kind_at}
 use Rattle.ntx_parse.proofs.TerminalLemmas.{begins-true}
-use Rattle.std.proofs.Common.{◌≡◌, Bool, true, false, cond, List, [], ◌∷◌, ◌++◌, nat_le, refl, sym, ◌∙◌, leb-true, leb-false}
+use Rattle.std.proofs.Common.{◌≡◌, Bool, true, false, cond, List, [], ◌∷◌, ◌++◌, nat_le, refl, leb-true, leb-false}
 use Rattle.ntx_syntax.specs.declared.tree.IfArm.{IfArm}
 use Rattle.ntx_parse.specs.Faults.{at_place}
 use Rattle.ntx_parse.proofs.SoundAnswers.{Completes, IsTaken, IsOther}

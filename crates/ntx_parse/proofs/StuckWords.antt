@@ -1,17 +1,17 @@
 -- Answers of one word or none: what they tell.
-use Rattle.std.proofs.Common.{◌≡◌, ◌<◌, ◌≤◌, Bool, true, false, List, [], ◌∷◌, ◌++◌, None, Some, Ok, Err, cond, nat_eq, nat_le, refl, sym, ap, ◌∙◌, subst, leb-true, leb-false}
+use Rattle.std.proofs.Common.{◌≡◌, Bool, true, false, List, [], ◌∷◌, ◌++◌, None, Some, Ok, Err, cond, nat_eq, nat_le, refl, sym, ◌∙◌, subst, leb-true, leb-false}
 use Rattle.std.proofs.lemmas.Bool.{false≢true, true≢false}
 use Rattle.ntx_syntax.specs.declared.fault.SyntaxWhy.TheVariants as why
 use Rattle.ntx_parse.specs.declared.place.Place.{Place}
 use Rattle.ntx_parse.specs.declared.terminal.Terminal.{Terminal}
 use Rattle.ntx_parse.specs.declared.terminal.Terminal.TheVariants as terminal
 use Rattle.ntx_parse.specs.Words.{Word}
-use Rattle.ntx_parse.specs.Grammar.{Placed, Is, IsFine, max_nesting}
+use Rattle.ntx_parse.specs.Grammar.{Placed, IsFine, max_nesting}
 use Rattle.ntx_parse.specs.Faults.{at_place}
 use Rattle.ntx_parse.specs.Reading.{Answer, Stop, read, stopped, and_then, number, begins, taken, expected}
 use Rattle.ntx_parse.proofs.TerminalLemmas.{other_terminal, begins-is}
 use Rattle.ntx_parse.proofs.SoundAnswers.{Phrase, spelled_by, Completes, IsTaken, word_taken, IsOther, read-injective, not_read}
-use Rattle.ntx_parse.proofs.StuckAnswers.{Ends, any_words, no_call, MayFollow, HaveValues, IsFront, IsCompleted, IsWrongWord, not_expected, too_deep, no_loop, IsStuck, HasPhrase, IsViable, stop-injective, viable_then}
+use Rattle.ntx_parse.proofs.StuckAnswers.{Ends, any_words, no_call, MayFollow, HaveValues, IsFront, IsWrongWord, not_expected, too_deep, IsStuck, HasPhrase, IsViable, stop-injective, viable_then}
 
 not_stopped : {A X : Type 0} {found : A × List Word} {stop : Stop} → ◌≡◌ {A = Answer A} (Some (Ok found)) (Some (Err stop)) → X
 not_stopped e = absurd cc
