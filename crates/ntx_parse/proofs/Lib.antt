@@ -22,3 +22,4 @@ pub mod StuckFirstWords
 pub mod StuckBlocks
 pub mod StuckNil
 pub mod Stuck
+pub mod WordValues
