@@ -1,6 +1,6 @@
--- What a reading tells, said of one answer. The words that were read stand before others too, and where the reading stops, some words complete what was
--- read to the phrase that it looked for. So they do where no word is read at all.
---     IsViable b c D words answer    all that, of the phrase D, behind which these words may follow (c), in front of which those of b do
+-- What a reading tells, said of one answer: the words that it reads stand before other words too, and where it stops, some words complete what it read so
+-- far to the phrase that it reads. There are also words that are such a phrase, whatever was read.
+--     IsViable b c D words answer    all three, of a phrase D, with c for what may follow it, and b for what it follows on
 use Rattle.std.proofs.Common.{◌≡◌, ◌<◌, ◌≤◌, false, List, [], ◌∷◌, ◌++◌, None, Some, Ok, Err, IsSome, refl, sym, ap, ◌∙◌, subst, append_assoc}
 use Rattle.std.proofs.lemmas.List.{map-append}
 use Rattle.std.specs.List.{AllByRecursion}
@@ -15,7 +15,7 @@ use Rattle.ntx_parse.specs.Faults.{at_place}
 use Rattle.ntx_parse.specs.Reading.{Answer, Stop, read, and_then, begins}
 use Rattle.ntx_parse.proofs.SoundAnswers.{Phrase, spelled_by, AreFine, Completes, parts_read}
 
--- What may follow: any words, or words that do not open a parenthesis, which would begin the arguments of a call.
+-- What may follow: any words, or those that do not begin with a parenthesis, which would open the arguments of a call.
 pub data Ends : Type 0 where
   any_words : Ends
   no_call : Ends
@@ -34,7 +34,8 @@ HaveValues words = AllByRecursion HasValue words
 
 -- ---- the three things that are told
 
--- The words up to the rest have places at which this phrase stands, whatever follows, if it may follow where the rest may.
+-- The words up to the rest have places at which they are this phrase, before the rest and before all else that may follow if the rest may. Together with
+-- that they may follow on what these words may follow on.
 pub record IsFront {A : Type 0} (b c : Ends) (D : Phrase A) (words : List Word) (x : A) (rest : List Word) : Type 0 where
   pub front : List Placed
   pub words_are : words ≡ spelled_by front ++ rest
@@ -42,20 +43,20 @@ pub record IsFront {A : Type 0} (b c : Ends) (D : Phrase A) (words : List Word) 
   pub derives : (behind : List Placed) → (MayFollow c rest → MayFollow c (spelled_by behind)) → D x (front ++ behind) behind
   pub begins : (behind : List Placed) → (MayFollow c rest → MayFollow c (spelled_by behind)) → MayFollow b words → MayFollow b (spelled_by (front ++ behind))
 
--- Some words complete these to the phrase.
+-- Some words complete these to the phrase, before all that may follow.
 pub record IsCompleted {A : Type 0} (b c : Ends) (D : Phrase A) (words : List Word) (upto : List Placed) : Type 0 where
   pub others : List Placed
   pub tree : A
   pub derives : (behind : List Placed) → MayFollow c (spelled_by behind) → D tree (upto ++ (others ++ behind)) behind
   pub begins : (behind : List Placed) → MayFollow c (spelled_by behind) → MayFollow b words → MayFollow b (spelled_by (upto ++ (others ++ behind)))
 
--- What is wrong with the first of the words, with its place if the word itself can stand there.
+-- What is wrong with the first of the words; and that word at its place, if it is not one that something else is expected for.
 pub data IsWrongWord : SyntaxWhy → List Word → List Placed → Type 0 where
   not_expected : {words : List Word} → IsWrongWord why.Expected words []
   too_deep : {o : Word} {behind : List Word} {p : Place} → max_nesting < p.nesting → IsWrongWord why.Depth (o ∷ behind) (at_place o p ∷ [])
   no_loop : {o : Word} {behind : List Word} {p : Place} → p.nesting ≤ max_nesting → o.is ≡ terminal.Break → p.in_loop ≡ false → IsWrongWord why.Break (o ∷ behind) (at_place o p ∷ [])
 
--- The words before the stop, and that at which the reading stops if it can stand there, can be completed.
+-- The words before the stop have places at which they can be completed, together with the word of the stop if it lies too deep there or is a `break`.
 pub record IsStuck {A : Type 0} (b c : Ends) (D : Phrase A) (words : List Word) (s : Stop) : Type 0 where
   pub front : List Placed
   pub words_are : words ≡ spelled_by front ++ s.words
@@ -64,7 +65,7 @@ pub record IsStuck {A : Type 0} (b c : Ends) (D : Phrase A) (words : List Word) 
   pub wrong : IsWrongWord s.why s.words last
   pub completed : IsCompleted b c D words (front ++ last)
 
--- There is such a phrase.
+-- Some words are the phrase, before all that may follow.
 pub record HasPhrase {A : Type 0} (b c : Ends) (D : Phrase A) : Type 0 where
   pub others : List Placed
   pub tree : A

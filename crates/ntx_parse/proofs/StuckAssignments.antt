@@ -61,7 +61,7 @@ module _ (r : Readers) (v : AreViable r) where
   field_assigned p found =
       let w : HasPhrase no_call no_call (Completes (IsWhole p) found (IsVar p)) = field_phrase p found in
       let h : IsViable no_call no_call (Completes (Completes (IsWhole p) found (IsVar p)) w.tree (Completes (IsWhole p) found (IsKind p))) [] (assignment_to r p w.tree []) =
-          viable_as (viable_assignment p w.tree []) (λ _ _ _ h. λ _ var start whole. h start (var start whole)) in
+      viable_as (viable_assignment p w.tree []) (λ _ _ _ h. λ _ var start whole. h start (var start whole)) in
       whole_then w h.whole
 
   viable_statement_of : (p : Place) (found : Part) (words : List Word) → IsViable no_call no_call (Completes (IsWhole p) found (IsKind p)) words (statement_of r p found words)

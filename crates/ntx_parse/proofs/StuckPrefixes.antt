@@ -46,7 +46,7 @@ module _ (r : Readers) (v : AreViable r) where
       (λ _ behind. viable_then (viable_name no_call p behind) (λ name rest. viable_as (v.suffixes p (part.Field (joined before) name) rest) (λ _ _ _ h. λ _ name _ dot. longer_field dot name h)))
       (λ _. viable_if (begins terminal.LeftParenthesis words)
       (λ is. viable_parenthesis (record { others = []; tree = before; derives = longer_none p before; begins = λ behind h. h }) is
-          (viable_then (viable_arguments (within p) words) (λ all rest. viable_as (v.suffixes p (part.Call (joined before) all) rest) (λ _ _ _ h. λ _ all. longer_call all h))))
+      (viable_then (viable_arguments (within p) words) (λ all rest. viable_as (v.suffixes p (part.Call (joined before) all) rest) (λ _ _ _ h. λ _ all. longer_call all h))))
       (λ none. viable_read (λ behind h. longer_none p before behind (h none)))))
 
   viable_parenthesized : (p : Place) (words : List Word) → IsViable any_words no_call (IsParenthesized p) words (read_parenthesized r p words)
@@ -62,5 +62,5 @@ module _ (r : Readers) (v : AreViable r) where
   pub viable_prefix : (p : Place) (words : List Word) → IsViable no_call no_call (IsWhole p) words (read_prefix r p words)
   viable_prefix p words = viable_if (begins terminal.LeftParenthesis words)
       (λ is. viable_parenthesis (viable_named p []).whole is
-          (viable_then (viable_parenthesized (within p) words) (λ e rest. viable_as (v.suffixes p (part.Parenthesized e) rest) (λ _ _ _ h. λ _ e. whole_parenthesized e h))))
+      (viable_then (viable_parenthesized (within p) words) (λ e rest. viable_as (v.suffixes p (part.Parenthesized e) rest) (λ _ _ _ h. λ _ e. whole_parenthesized e h))))
       (λ _. viable_named p words)

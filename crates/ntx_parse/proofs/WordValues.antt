@@ -1,17 +1,15 @@
 -- The numerals and texts among the tokens of a script have values.
-use Rattle.std.proofs.Common.{◌≡◌, ℕ, Bool, true, false, not, nat_eq, List, [], ◌∷◌, map, Some, IsSome, refl, sym, ap, ◌∙◌, subst, cond, bytes_eq, slice_range}
-use Rattle.std.proofs.lemmas.Bool.{false≢true, true≢false}
-use Rattle.std.specs.List.{AllByRecursion}
+use Rattle.std.proofs.Common.{◌≡◌, ℕ, Bool, true, false, nat_eq, List, [], ◌∷◌, Some, refl, ap, ◌∙◌, cond, bytes_eq, slice_range}
+use Rattle.std.proofs.lemmas.Bool.{false≢true}
 use Rattle.ntx_syntax.specs.declared.token.Token as token
 use Rattle.ntx_syntax.specs.declared.token.Sort.{Sort}
 use Rattle.ntx_syntax.specs.declared.token.Sort.TheVariants as sort
 use Rattle.ntx_syntax.specs.declared.piece.Piece.TheVariants.{Token}
-use Rattle.ntx_syntax.specs.Values.{numeral_value, text_value}
 use Rattle.ntx_syntax.specs.Pieces.{piece_of}
 use Rattle.ntx_syntax.specs.Lexes.{StandInOrder, NumeralsHaveValues, TextsHaveValues}
 use Rattle.ntx_parse.specs.declared.terminal.Terminal.{Terminal}
 use Rattle.ntx_parse.specs.declared.terminal.Terminal.TheVariants as terminal
-use Rattle.ntx_parse.specs.Words.{Word, named, keywords, symbols, terminal_of, word_of, words_of}
+use Rattle.ntx_parse.specs.Words.{named, keywords, symbols, terminal_of, word_of, words_of}
 use Rattle.ntx_parse.specs.Reading.{number}
 use Rattle.ntx_parse.proofs.TerminalLemmas.{other_terminal}
 use Rattle.ntx_parse.proofs.StuckAnswers.{HasValue, HaveValues}
