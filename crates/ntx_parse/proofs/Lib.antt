@@ -9,3 +9,13 @@ pub mod SoundAssignments
 pub mod SoundStatements
 pub mod SoundBlocks
 pub mod Sound
+
+pub mod Views
+pub mod ViewedLists
+pub mod ViewedPrefixes
+pub mod ViewedTables
+pub mod ViewedExpressions
+pub mod ViewedNames
+pub mod ViewedStatements
+pub mod ViewedBlocks
+pub mod Viewed

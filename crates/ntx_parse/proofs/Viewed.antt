@@ -1,0 +1,50 @@
+-- Two readings side by side, with calls that lie ever deeper.
+--     go_over    readings whose parts go side by side do
+use Rattle.std.proofs.Common.{◌≤◌, ℕ, zero, suc, arith}
+use Rattle.ntx_parse.specs.Reading.{Readers, nothing, over, readers}
+use Rattle.ntx_parse.proofs.Views.{View, goes_nothing}
+use Rattle.ntx_parse.proofs.ViewedLists.{Go, goes_path, goes_names, goes_exps}
+use Rattle.ntx_parse.proofs.ViewedPrefixes.{goes_suffixes}
+use Rattle.ntx_parse.proofs.ViewedTables.{goes_fields}
+use Rattle.ntx_parse.proofs.ViewedExpressions.{goes_exp, goes_operations}
+use Rattle.ntx_parse.proofs.ViewedNames.{lost_exp}
+use Rattle.ntx_parse.proofs.ViewedStatements.{goes_vars, goes_arms}
+use Rattle.ntx_parse.proofs.ViewedBlocks.{goes_stats, goes_block}
+
+go_nothing : {V : View} {other : Readers} → Go V nothing other
+go_nothing = record {
+  block = λ p h. goes_nothing;
+  stats = λ p before h. goes_nothing;
+  arms = λ p before h. goes_nothing;
+  path = λ p before h. goes_nothing;
+  names = λ p before h. goes_nothing;
+  exps = λ p before h. goes_nothing;
+  vars = λ p before h. goes_nothing;
+  suffixes = λ p before h. goes_nothing;
+  exp = λ p at h. goes_nothing;
+  operations = λ p at before h. goes_nothing;
+  fields = λ p before h. goes_nothing;
+  named = λ p at o words e l. goes_nothing;
+}
+
+pub go_over : {V : View} {r other : Readers} → Go V r other → Go V (over r) (over other)
+go_over g = record {
+  block = λ p h. goes_block g p h;
+  stats = λ p before h. goes_stats g p before h;
+  arms = λ p before h. goes_arms g p before h;
+  path = λ p before h. goes_path g p before h;
+  names = λ p before h. goes_names g p before h;
+  exps = λ p before h. goes_exps g p before h;
+  vars = λ p before h. goes_vars g p before h;
+  suffixes = λ p before h. goes_suffixes g p before h;
+  exp = λ p at h. goes_exp g p at h;
+  operations = λ p at before h. goes_operations g p at before h;
+  fields = λ p before h. goes_fields g p before h;
+  named = λ p at o words e l. lost_exp g o words e l p at;
+}
+
+-- The first with calls of this depth go beside the others with calls as deep or deeper.
+pub go_readers : {V : View} (n m : ℕ) → n ≤ m → Go V (readers n) (readers m)
+go_readers zero m h = go_nothing
+go_readers (suc n) zero h = absurd (omega arith)
+go_readers (suc n) (suc m) h = go_over (go_readers n m (omega arith))
