@@ -19,3 +19,5 @@ pub mod ViewedNames
 pub mod ViewedStatements
 pub mod ViewedBlocks
 pub mod Viewed
+pub mod More
+pub mod Local

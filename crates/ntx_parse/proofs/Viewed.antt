@@ -1,8 +1,12 @@
 -- Two readings side by side, with calls that lie ever deeper.
---     go_over    readings whose parts go side by side do
-use Rattle.std.proofs.Common.{◌≤◌, ℕ, zero, suc, arith}
-use Rattle.ntx_parse.specs.Reading.{Readers, nothing, over, readers}
-use Rattle.ntx_parse.proofs.Views.{View, goes_nothing}
+--     go_readers      those with calls of some depth, beside those with calls as deep or deeper
+--     goes_script     the same of whole scripts
+use Rattle.std.proofs.Common.{◌≤◌, ℕ, zero, suc, List, [], ◌∷◌, arith}
+use Rattle.ntx_syntax.specs.declared.tree.Block.{Block}
+use Rattle.ntx_parse.specs.Words.{Word}
+use Rattle.ntx_parse.specs.Grammar.{outermost}
+use Rattle.ntx_parse.specs.Reading.{Readers, nothing, over, readers, ended, script_by}
+use Rattle.ntx_parse.proofs.Views.{View, Situation, At, Goes, goes_nothing, goes_read, goes_stopped, goes_then, Firsts, no_first, first, firsts}
 use Rattle.ntx_parse.proofs.ViewedLists.{Go, goes_path, goes_names, goes_exps}
 use Rattle.ntx_parse.proofs.ViewedPrefixes.{goes_suffixes}
 use Rattle.ntx_parse.proofs.ViewedTables.{goes_fields}
@@ -48,3 +52,10 @@ pub go_readers : {V : View} (n m : ℕ) → n ≤ m → Go V (readers n) (reader
 go_readers zero m h = go_nothing
 go_readers (suc n) zero h = absurd (omega arith)
 go_readers (suc n) (suc m) h = go_over (go_readers n m (omega arith))
+
+ended_first : {V : View} (block : Block) {s : Situation} {words others : List Word} → At V s words others → Firsts V s words others → Goes V s (ended block words) (ended block others)
+ended_first block h no_first = goes_read h
+ended_first block h (first behind) = goes_stopped h
+
+pub goes_script : {V : View} {s : Situation} {words others : List Word} (n m : ℕ) → n ≤ m → At V s words others → Goes V s (script_by n words) (script_by m others)
+goes_script n m deeper h = goes_then ((go_readers n m deeper).block outermost h) (λ block _ _ _ h. ended_first block h (firsts h))
