@@ -73,6 +73,10 @@ pub starts_follows : (q : Terminal → Bool) (words : List Placed) → Starts q 
 starts_follows q [] h = elim h [ ]
 starts_follows q (o ∷ words) h = h
 
+pub starts_begin : (u : Terminal) (words : List Placed) → Starts (is_this u) words → begins u (plain words) ≡ true
+starts_begin u [] h = elim h [ ]
+starts_begin u (o ∷ words) h = h
+
 -- A word that is this passes the tests that this passes.
 pub passes : {p : Place} {t : Terminal} {o : Placed} (q : Terminal → Bool) → Is p t o → q t ≡ true → q o.word.is ≡ true
 passes q i e = ap q i.is ∙ e

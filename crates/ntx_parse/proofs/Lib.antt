@@ -1,7 +1,9 @@
 pub mod BeginsLemmas
 pub mod ComesLemmas
+pub mod CompleteExpressions
 pub mod CompleteForms
 pub mod CompleteNames
+pub mod CompletePrefixes
 pub mod FollowLemmas
 pub mod NamedLemmas
 pub mod OperatorLemmas
