@@ -2,6 +2,7 @@
 use Rattle.std.specs.Prelude.{◌≡◌, ◌≤◌, ℕ, Bool, true, false, List, [], ◌∷◌, ◌++◌, Option, None, Some}
 use Rattle.std.proofs.Common.{refl, sym, ap, ◌∙◌, subst, append_assoc, append-nil}
 use Rattle.std.specs.List.{AllByRecursion}
+use Rattle.ntx_syntax.specs.declared.tree.Block.{Block}
 use Rattle.ntx_syntax.specs.declared.tree.Stat.{Stat}
 use Rattle.ntx_syntax.specs.declared.tree.LocalName.{LocalName}
 use Rattle.ntx_syntax.specs.declared.tree.Var.{Var}
@@ -78,6 +79,9 @@ pub record RunDone (p : Place) (at : Precedence) (first : Exp) (others : List Op
 
 abbrev pub ExpDone : Place → Precedence → Exp → List Word → List Placed → Type 0
 ExpDone p at e words rest = Done (λ n. (readers n).exp p at words) e rest
+
+abbrev pub BlockDone : Place → Block → List Word → List Placed → Type 0
+BlockDone p b words rest = Done (λ n. (readers n).block p words) b rest
 
 abbrev pub NamesDone : Place → List LocalName → List Word → List Placed → Type 0
 NamesDone p names words rest = RestDone (λ n. read_local_name p words) (λ n. (readers n).names p) names rest

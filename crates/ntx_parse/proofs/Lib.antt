@@ -2,8 +2,11 @@ pub mod BeginsLemmas
 pub mod ComesLemmas
 pub mod CompleteExpressions
 pub mod CompleteForms
+pub mod CompleteKinds
 pub mod CompleteNames
 pub mod CompletePrefixes
+pub mod CompleteStatements
+pub mod CompleteTables
 pub mod FollowLemmas
 pub mod NamedLemmas
 pub mod OperatorLemmas
