@@ -14,7 +14,7 @@ use Rattle.ntx_parse.specs.declared.terminal.Terminal.TheVariants as terminal
 use Rattle.ntx_parse.specs.Words.{Word}
 use Rattle.ntx_parse.specs.Grammar.{Placed, Is, binary_precedence, binary_terminal, unary_terminal, tighter, associates_left}
 use Rattle.ntx_parse.specs.Reading.{number, begins_statement, binary_of, unary_of, rank, of_precedence, operator_at, sign_at, ends_return}
-use Rattle.ntx_parse.proofs.BeginsLemmas.{plain, implies, implied, Follows, Starts, follows_also}
+use Rattle.ntx_parse.proofs.BeginsLemmas.{plain, is_this, implies, implied, Follows, Starts, follows_also}
 
 -- ---- what ends phrases
 
@@ -55,10 +55,11 @@ abbrev pub ends_exps : Terminal → Bool
 ends_exps terminal.Comma = false
 ends_exps t = ends_exp precedence.Or t
 
-abbrev pub ends_var : Terminal → Bool
-ends_var terminal.Comma = true
-ends_var terminal.Assign = true
-ends_var _ = false
+-- what stands behind the arms of an `if`
+abbrev pub ends_arms : Terminal → Bool
+ends_arms terminal.Else = true
+ends_arms terminal.End = true
+ends_arms _ = false
 
 abbrev pub ends_field : Terminal → Bool
 ends_field terminal.Comma = true
@@ -69,6 +70,22 @@ ends_field _ = false
 pub block_ends_stats : (t : Terminal) → implies (ends_block t) (ends_stats t) ≡ true
 block_ends_stats terminal.Name = refl
 block_ends_stats _ = refl
+
+pub arms_end_block : (t : Terminal) → implies (ends_arms t) (ends_block t) ≡ true
+arms_end_block terminal.Name = refl
+arms_end_block _ = refl
+
+pub end_ends_block : (t : Terminal) → implies (is_this terminal.End t) (ends_block t) ≡ true
+end_ends_block terminal.Name = refl
+end_ends_block _ = refl
+
+pub end_ends_arms : (t : Terminal) → implies (is_this terminal.End t) (ends_arms t) ≡ true
+end_ends_arms terminal.Name = refl
+end_ends_arms _ = refl
+
+pub do_ends_exp : (t : Terminal) → implies (is_this terminal.Do t) (ends_exp precedence.Or t) ≡ true
+do_ends_exp terminal.Name = refl
+do_ends_exp _ = refl
 
 pub block_ends_return : (t : Terminal) → implies (ends_block t) (ends_return t) ≡ true
 block_ends_return terminal.Name = refl
@@ -157,3 +174,7 @@ unary_begins_exp _ = refl
 pub bracket_begins_field : (t : Terminal) → implies (nat_eq (number t) (number terminal.LeftBracket)) (begins_field t) ≡ true
 bracket_begins_field terminal.Name = refl
 bracket_begins_field _ = refl
+
+pub brace_ends_field : (t : Terminal) → implies (is_this terminal.RightBrace t) (ends_field t) ≡ true
+brace_ends_field terminal.Name = refl
+brace_ends_field _ = refl

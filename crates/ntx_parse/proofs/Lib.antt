@@ -1,9 +1,11 @@
 pub mod BeginsLemmas
 pub mod ComesLemmas
+pub mod CompleteBlocks
 pub mod CompleteExpressions
 pub mod CompleteForms
 pub mod CompleteKinds
 pub mod CompleteNames
+pub mod CompletePhrases
 pub mod CompletePrefixes
 pub mod CompleteStatements
 pub mod CompleteTables

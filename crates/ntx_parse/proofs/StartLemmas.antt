@@ -16,12 +16,13 @@ use Rattle.ntx_syntax.specs.declared.tree.Operation.{Operation}
 use Rattle.ntx_syntax.specs.declared.tree.Field.{Field}
 use Rattle.ntx_parse.specs.declared.place.Place.{Place}
 use Rattle.ntx_parse.specs.declared.precedence.Precedence.{Precedence}
+use Rattle.ntx_parse.specs.declared.precedence.Precedence.TheVariants as precedence
 use Rattle.ntx_parse.specs.declared.terminal.Terminal.{Terminal}
 use Rattle.ntx_parse.specs.declared.terminal.Terminal.TheVariants as terminal
 use Rattle.ntx_parse.specs.Grammar.{Placed, Is, IsSemicolon, no_semicolon, semicolon, IsPath, no_path, more_path, IsNames, one_name, more_names, IsParameters, no_parameters, parameters, IsSeparator, comma, semicolon_separator, IsStats, no_stats, more_stats, IsLast, no_return, last_return, IsReturned, returns_nothing, returns, IsStat, statement, IsKind, empty, assignment, called, break, do_end, while_do, repeat_until, if_then, numeric_for, generic_for, function, local_function, locals, IsArm, arm, IsArms, no_arms, more_arms, IsElse, no_else, else, IsStep, no_step, step, IsValues, no_values, values, IsExps, one_exp, more_exps, IsVars, one_var, more_vars, IsBody, body, IsVar, name_var, index_var, field_var, IsPrefix, name_prefix, index_prefix, field_prefix, call_prefix, parenthesized, IsIndex, index, IsCall, call, IsArguments, no_arguments, arguments, IsExp, operations, concatenation, no_concatenation, operator, simple, IsRun, first_operand, more_operands, IsSimple, nil, false_, true_, numeral, text, function_exp, prefix_exp, table, IsFields, no_fields, last_field, more_fields, IsField, keyed, named_field, positional}
-use Rattle.ntx_parse.specs.Reading.{number, begins_statement, ends_return}
-use Rattle.ntx_parse.proofs.BeginsLemmas.{is_this, Follows, Starts, follows_also, starts_also, starts_follows, passes}
-use Rattle.ntx_parse.proofs.FollowLemmas.{ends_block, ends_stats, ends_stat, begins_prefix, begins_simple, begins_exp, begins_field, prefix_begins_simple, prefix_begins_statement, simple_begins_exp, exp_begins_field, bracket_begins_field, block_ends_return, unary_begins_exp, block_ends_stats, stats_end_stat, statement_ends_stat}
+use Rattle.ntx_parse.specs.Reading.{number, begins, begins_statement, ends_return}
+use Rattle.ntx_parse.proofs.BeginsLemmas.{plain, is_other, not_begins, is_this, Follows, Starts, follows_also, starts_also, starts_follows, passes}
+use Rattle.ntx_parse.proofs.FollowLemmas.{ends_block, ends_stats, ends_stat, ends_arms, ends_exp, arms_end_block, end_ends_arms, do_ends_exp, begins_prefix, begins_simple, begins_exp, begins_field, prefix_begins_simple, prefix_begins_statement, simple_begins_exp, exp_begins_field, bracket_begins_field, block_ends_return, unary_begins_exp, block_ends_stats, stats_end_stat, statement_ends_stat}
 
 -- ---- expressions
 
@@ -122,10 +123,21 @@ pub semicolon_follows : {p : Place} {words rest : List Placed} → IsSemicolon p
 semicolon_follows no_semicolon h = follows_also ends_block ends_return block_ends_return _ h
 semicolon_follows (semicolon o) h = passes ends_return o refl
 
-pub else_follows : {p : Place} {other : Option Block} {words rest : List Placed} → IsElse p other words rest → Follows ends_block rest → Follows ends_block words
-else_follows no_else h = h
-else_follows (else o inside) h = passes ends_block o refl
+pub else_follows : {p : Place} {other : Option Block} {words rest : List Placed} → IsElse p other words rest → Follows (is_this terminal.End) rest → Follows ends_arms words
+else_follows no_else h = follows_also (is_this terminal.End) ends_arms end_ends_arms _ h
+else_follows (else o inside) h = passes ends_arms o refl
 
-pub arms_follow : {p : Place} {arms : List IfArm} {words rest : List Placed} → IsArms p arms words rest → Follows ends_block rest → Follows ends_block words
-arms_follow no_arms h = h
+pub arms_follow : {p : Place} {arms : List IfArm} {words rest : List Placed} → IsArms p arms words rest → Follows ends_arms rest → Follows ends_block words
+arms_follow no_arms h = follows_also ends_arms ends_block arms_end_block _ h
 arms_follow (more_arms first others) h = starts_follows ends_block _ (arm_starts ends_block refl first)
+
+pub step_follows : {p : Place} {s : Option Exp} {words rest : List Placed} → IsStep p s words rest → Follows (is_this terminal.Do) rest → Follows (ends_exp precedence.Or) words
+step_follows no_step h = follows_also (is_this terminal.Do) (ends_exp precedence.Or) do_ends_exp _ h
+step_follows (step c value) h = passes (ends_exp precedence.Or) c refl
+
+pub values_no_comma : {p : Place} {es : List Exp} {words rest : List Placed} → IsValues p es words rest → Follows ends_stat rest → begins terminal.Comma (plain words) ≡ false
+values_no_comma (no_values {rest = behind}) h = not_begins ends_stat terminal.Comma behind refl h
+values_no_comma (values a es) h = is_other terminal.Comma a refl
+
+pub body_no_dot : {p : Place} {b : FunctionBody} {words rest : List Placed} → IsBody p b words rest → begins terminal.Dot (plain words) ≡ false
+body_no_dot (body o names c inside e) = is_other terminal.Dot o refl
