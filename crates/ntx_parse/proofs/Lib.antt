@@ -1,5 +1,6 @@
 pub mod BeginsLemmas
 pub mod ComesLemmas
+pub mod Complete
 pub mod CompleteBlocks
 pub mod CompleteExpressions
 pub mod CompleteForms
