@@ -1,6 +1,6 @@
 -- What words begin with.
-use Rattle.std.specs.Prelude.{◌≡◌, ◌≤◌, ℕ, zero, suc, nat_eq, nat_le, Bool, true, false, not, List, [], ◌∷◌, map, Option, None, Some, Result, Ok, Err, if◌then◌else◌, ⊤}
-use Rattle.std.proofs.Common.{refl, sym, ap, ◌∙◌, subst, arith, le-leb, true≢false}
+use Rattle.std.specs.Prelude.{◌≡◌, ◌≤◌, ℕ, zero, suc, nat_eq, nat_le, Bool, true, false, List, [], ◌∷◌, map, ⊤}
+use Rattle.std.proofs.Common.{refl, sym, ap, ◌∙◌, subst, le-leb, true≢false}
 use Rattle.std.proofs.lemmas.Bool.{eqb-true, eq-eqb}
 use Rattle.ntx_parse.specs.declared.place.Place.{Place}
 use Rattle.ntx_parse.specs.declared.terminal.Terminal.{Terminal}

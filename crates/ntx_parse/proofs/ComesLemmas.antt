@@ -1,5 +1,5 @@
 -- What readings come to, once the calls may lie deep enough.
-use Rattle.std.specs.Prelude.{◌≡◌, ◌≤◌, ℕ, zero, suc, max, Bool, true, false, List, [], ◌∷◌, Option, None, Some, Result, Ok, Err, if◌then◌else◌}
+use Rattle.std.specs.Prelude.{◌≡◌, ◌≤◌, ℕ, zero, suc, max, Bool, true, false, List, if◌then◌else◌}
 use Rattle.std.proofs.Common.{refl, sym, ap, ◌∙◌, subst, arith}
 use Rattle.ntx_syntax.specs.declared.tree.Block.{Block}
 use Rattle.ntx_syntax.specs.declared.tree.Stat.{Stat}
@@ -42,7 +42,7 @@ comes_then {a = a} {words = words} g c d = record {
   is = λ n h.
       let first : c.from ≤ n = omega arith in
       let second : d.from ≤ n = omega arith in
-      ap (λ y. and_then y (g n)) (c.is n first) ∙ d.is n second
+      ap (λ y. and_then y (g n)) (c.is n first) ∙ d.is n second;
 }
 
 -- Readings that have others for their parts.

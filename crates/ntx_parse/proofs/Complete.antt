@@ -1,12 +1,11 @@
 -- A script that the grammar accepts is read to its tree, and it has no other.
-use Rattle.std.specs.Prelude.{◌≡◌, ◌≤◌, ℕ, max, List, [], ◌∷◌, map, Option, None, Some, Result, Ok, Err}
-use Rattle.std.proofs.Common.{refl, sym, ap, ◌∙◌, subst, arith}
+use Rattle.std.specs.Prelude.{◌≡◌, ◌≤◌, ℕ, max, List, [], ◌∷◌, None, Some, Ok, Err}
+use Rattle.std.proofs.Common.{sym, ap, ◌∙◌, arith}
 use Rattle.ntx_syntax.specs.declared.tree.Chunk.{Chunk}
 use Rattle.ntx_syntax.specs.declared.tree.Block.{Block}
 use Rattle.ntx_parse.specs.Words.{Word}
-use Rattle.ntx_parse.specs.Grammar.{Placed, Accepts, outermost}
+use Rattle.ntx_parse.specs.Grammar.{Accepts, outermost}
 use Rattle.ntx_parse.specs.Reading.{Answer, Stop, read, readers}
-use Rattle.ntx_parse.proofs.ComesLemmas.{Comes}
 use Rattle.ntx_parse.proofs.CompletePhrases.{block_read}
 
 -- What derives is read, once the calls may lie deep enough.

@@ -1,22 +1,19 @@
 -- Blocks are read.
-use Rattle.std.specs.Prelude.{◌≡◌, ◌≤◌, ℕ, nat_eq, Bool, true, false, not, List, [], ◌∷◌, ◌++◌, Option, None, Some, if◌then◌else◌}
-use Rattle.std.proofs.Common.{refl, sym, ap, ◌∙◌, subst, true≢false}
+use Rattle.std.specs.Prelude.{◌≡◌, Bool, true, false, not, List, [], ◌∷◌, ◌++◌, Option, None, Some}
+use Rattle.std.proofs.Common.{refl, sym}
 use Rattle.std.specs.List.{AllByRecursion}
-use Rattle.ntx_syntax.specs.declared.tree.Block.{Block, roll-Block}
+use Rattle.ntx_syntax.specs.declared.tree.Block.{roll-Block}
 use Rattle.ntx_syntax.specs.declared.tree.Return.{Return}
 use Rattle.ntx_syntax.specs.declared.tree.Stat.{Stat}
 use Rattle.ntx_syntax.specs.declared.tree.StatKind.{StatKind}
 use Rattle.ntx_syntax.specs.declared.tree.Exp.{Exp}
 use Rattle.ntx_parse.specs.declared.place.Place.{Place}
-use Rattle.ntx_parse.specs.declared.precedence.Precedence.{Precedence}
-use Rattle.ntx_parse.specs.declared.precedence.Precedence.TheVariants as precedence
 use Rattle.ntx_parse.specs.declared.terminal.Terminal.{Terminal}
 use Rattle.ntx_parse.specs.declared.terminal.Terminal.TheVariants as terminal
-use Rattle.ntx_parse.specs.Words.{Word}
 use Rattle.ntx_parse.specs.Grammar.{Placed, Is, IsFine}
-use Rattle.ntx_parse.specs.Reading.{Answer, read, and_then, begins, readers, begins_statement, ends_return, ends_returned, returned_behind, semicolon_behind, last_behind}
+use Rattle.ntx_parse.specs.Reading.{read, begins, readers, begins_statement, ends_return, ends_returned, returned_behind, semicolon_behind, last_behind}
 use Rattle.ntx_parse.proofs.BeginsLemmas.{plain, implies, implied, Follows, Starts, begins_here, comes_taken}
-use Rattle.ntx_parse.proofs.ComesLemmas.{Comes, comes_as, comes_then, comes_now, comes_if, comes_else, comes_read, over_block, over_stats}
+use Rattle.ntx_parse.proofs.ComesLemmas.{Comes, comes_as, comes_then, comes_if, comes_else, comes_read, over_block, over_stats}
 use Rattle.ntx_parse.proofs.FollowLemmas.{ends_stats, begins_exp, exp_begins_returned}
 use Rattle.ntx_parse.proofs.CompleteForms.{Done, ListDone, StatDone, BlockDone, ExpsDone, all_before, one_more}
 use Rattle.ntx_parse.proofs.CompletePrefixes.{exps_come}
@@ -84,7 +81,7 @@ last_return_done words middle o fine d more =
     let last = (more d.fine).1 in
     record {
       comes = comes_if _ (begins_here o) (comes_taken _ o fine (comes_then _ d.comes (comes_then _ last.comes (comes_read _))));
-      fine = last.fine
+      fine = last.fine;
     }
 
 -- ---- blocks

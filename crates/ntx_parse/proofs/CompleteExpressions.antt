@@ -1,5 +1,5 @@
 -- Expressions are read.
-use Rattle.std.specs.Prelude.{◌≡◌, ◌≤◌, ℕ, Bool, true, false, not, ◌||◌, List, [], ◌∷◌, ◌++◌, ℤ, Option, None, Some}
+use Rattle.std.specs.Prelude.{◌≡◌, ℕ, true, List, [], ◌∷◌, ◌++◌, ℤ, Option, None, Some}
 use Rattle.std.proofs.Common.{refl, sym, ap, ◌∙◌, subst, true≢false}
 use Rattle.std.specs.List.{AllByRecursion}
 use Rattle.ntx_syntax.specs.declared.tree.FunctionBody.{FunctionBody}
@@ -12,7 +12,6 @@ use Rattle.ntx_syntax.specs.declared.tree.BinaryOp.{BinaryOp}
 use Rattle.ntx_syntax.specs.declared.tree.BinaryOp.TheVariants as binary
 use Rattle.ntx_syntax.specs.declared.tree.UnaryOp.{UnaryOp}
 use Rattle.ntx_syntax.specs.Values.{numeral_value, text_value}
-use Rattle.ntx_parse.specs.declared.part.Part.{Part}
 use Rattle.ntx_parse.specs.declared.place.Place.{Place}
 use Rattle.ntx_parse.specs.declared.precedence.Precedence.{Precedence}
 use Rattle.ntx_parse.specs.declared.precedence.Precedence.TheVariants as precedence
@@ -20,9 +19,9 @@ use Rattle.ntx_parse.specs.declared.terminal.Terminal.{Terminal}
 use Rattle.ntx_parse.specs.declared.terminal.Terminal.TheVariants as terminal
 use Rattle.ntx_parse.specs.Words.{Word}
 use Rattle.ntx_parse.specs.Grammar.{Placed, Is, IsFine, within, tighter, binary_precedence, binary_terminal, unary_terminal, associates_left, run_of}
-use Rattle.ntx_parse.specs.Reading.{Answer, read, and_then, begins, readers, read_prefix, read_body, read_table, read_value, simple_at, read_simple, read_operand, read_run, exp_at, operations_by, unary_of, joined}
+use Rattle.ntx_parse.specs.Reading.{Answer, read, and_then, readers, read_prefix, read_body, read_value, simple_at, read_simple, read_operand, read_run, exp_at, operations_by, unary_of, joined}
 use Rattle.ntx_parse.proofs.BeginsLemmas.{plain, Follows, Starts, begins_here, not_begins, comes_taken, comes_expected}
-use Rattle.ntx_parse.proofs.ComesLemmas.{Comes, comes_as, comes_then, comes_now, comes_if, comes_else, comes_read, over_exp, over_operations}
+use Rattle.ntx_parse.proofs.ComesLemmas.{Comes, comes_then, comes_now, comes_if, comes_else, comes_read, over_exp, over_operations}
 use Rattle.ntx_parse.proofs.FollowLemmas.{begins_prefix, begins_simple, ends_exp}
 use Rattle.ntx_parse.proofs.OperatorLemmas.{sign_of, simple_has_no_sign, operator_at_here, no_operator_at}
 use Rattle.ntx_parse.proofs.CompleteForms.{Done, ListDone, ExpDone, PrefixDone, RunDone}
@@ -50,14 +49,14 @@ pub numeral_done : {p : Place} {o : Placed} {value : ℤ} {rest : List Placed} �
     → AllByRecursion IsFine (o ∷ rest) → SimpleDone p (exp.Numeral value) (o ∷ rest) rest
 numeral_done {o = o} {rest = rest} i e fine = record {
   comes = simple_is (plain rest) i (comes_taken _ i fine.0 (comes_now (ap (λ v. read_value exp.Numeral v (plain (o ∷ rest)) (plain rest)) e)));
-  fine = fine.1
+  fine = fine.1;
 }
 
 pub text_done : {p : Place} {o : Placed} {value : List ℕ} {rest : List Placed} → Is p terminal.Text o → text_value o.word.spelled ≡ Some value
     → AllByRecursion IsFine (o ∷ rest) → SimpleDone p (exp.Text value) (o ∷ rest) rest
 text_done {o = o} {rest = rest} i e fine = record {
   comes = simple_is (plain rest) i (comes_taken _ i fine.0 (comes_now (ap (λ v. read_value exp.Text v (plain (o ∷ rest)) (plain rest)) e)));
-  fine = fine.1
+  fine = fine.1;
 }
 
 pub function_done : {p : Place} {f : Placed} {b : FunctionBody} {rest : List Placed} (words : List Placed) → Is p terminal.Function f → IsFine f
@@ -80,7 +79,7 @@ pub prefix_exp_done : {p : Place} {prefix : Prefix} {rest : List Placed} (words 
     → NoSuffix (plain rest) → SimpleDone p (exp.Prefix prefix) words rest
 prefix_exp_done {p = p} {rest = rest} words start d ends = record {
   comes = prefix_first p words start (comes_then _ (d.goes_on (suffixes_end d.part ends)) (comes_now (ap (λ q. read (exp.Prefix q) (plain rest)) d.joins)));
-  fine = d.fine
+  fine = d.fine;
 }
 
 pub table_done : {o c : Placed} {fields : List Field} {rest : List Placed} (p : Place) (words : List Placed) → Is (within p) terminal.LeftBrace o → IsFine o
@@ -89,7 +88,7 @@ pub table_done : {o c : Placed} {fields : List Field} {rest : List Placed} (p : 
 table_done {o} {c} {fields} {rest} p words o_is fine d c_is = record {
   comes = subst (λ t. Comes (λ n. simple_at (readers n) p t (plain (o ∷ words))) (read (exp.Table fields) (plain rest))) (sym o_is.is)
       (comes_then _ (comes_expected _ o_is fine (comes_then _ (d.comes []) (comes_expected _ c_is d.fine.0 (comes_read _)))) (comes_read _));
-  fine = d.fine.1
+  fine = d.fine.1;
 }
 
 -- ---- operators before an operand
@@ -102,7 +101,7 @@ unary_done : {p : Place} {o : Placed} {op : UnaryOp} {e : Exp} {words : List Wor
     → ExpDone (within p) precedence.Unary e words rest → ExpDone p precedence.Unary (exp.Unary op e) (o.word ∷ words) rest
 unary_done {p} {o} {op} {e} {words} i fine d = record {
   comes = over_exp (operand_by p (o.word ∷ words) (Some op) (ap unary_of i.is ∙ sign_of op) (comes_taken _ i fine (comes_then _ d.comes (comes_read _))));
-  fine = d.fine
+  fine = d.fine;
 }
 
 pub operator_done : {p : Place} {at : Precedence} {o : Placed} {op : UnaryOp} {e : Exp} {words : List Word} {rest : List Placed} → at ≡ precedence.Unary
@@ -126,7 +125,7 @@ concat_done middle d o second =
     let other = second d.fine.1 in
     record {
       comes = over_exp (comes_then _ d.comes (comes_if _ (begins_here o) (comes_taken _ o d.fine.0 (comes_then _ other.comes (comes_read _)))));
-      fine = other.fine
+      fine = other.fine;
     }
 
 pub concatenation_done : {p : Place} {at : Precedence} {o : Placed} {left right : Exp} {words : List Word} {rest : List Placed} (middle : List Placed) → at ≡ precedence.Concat
@@ -134,13 +133,13 @@ pub concatenation_done : {p : Place} {at : Precedence} {o : Placed} {left right 
     → ExpDone p at (exp.Binary left (record { operator = binary.Concat; operand = right } ∷ [])) words rest
 concatenation_done {p} {at} {o} {left} {right} {words} {rest} middle is =
     subst (λ k. ExpDone p (tighter k) left words (o ∷ middle) → Is p terminal.DoubleDot o → (AllByRecursion IsFine middle → ExpDone (within p) k right (plain middle) rest)
-        → ExpDone p k (exp.Binary left (record { operator = binary.Concat; operand = right } ∷ [])) words rest) (sym is) (λ d i second. concat_done middle d i second)
+    → ExpDone p k (exp.Binary left (record { operator = binary.Concat; operand = right } ∷ [])) words rest) (sym is) (λ d i second. concat_done middle d i second)
 
 no_concat_done : {p : Place} {e : Exp} {words : List Word} {rest : List Placed} → ExpDone p (tighter precedence.Concat) e words rest → Follows (ends_exp precedence.Concat) rest
     → ExpDone p precedence.Concat e words rest
 no_concat_done {rest = rest} d h = record {
   comes = over_exp (comes_then _ d.comes (comes_else _ (not_begins (ends_exp precedence.Concat) terminal.DoubleDot rest refl h) (comes_read _)));
-  fine = d.fine
+  fine = d.fine;
 }
 
 pub no_concatenation_done : {p : Place} {at : Precedence} {e : Exp} {words : List Word} {rest : List Placed} → at ≡ precedence.Concat → ExpDone p (tighter at) e words rest
@@ -166,7 +165,7 @@ more_operands_done {p} {at} {o} {others = others} op middle d e i second =
       behind = d.behind;
       comes = d.comes;
       goes_on = λ h. d.goes_on (over_operations (operations_are p at others (plain (o ∷ middle)) (Some op) (operator_at_here at op (plain middle) i e) (comes_taken _ i d.fine.0 (comes_then _ other.comes h))));
-      fine = other.fine
+      fine = other.fine;
     }
 
 by_run : {p : Place} {words : List Word} {x : Answer Exp} (at : Precedence) → associates_left at ≡ true → Comes (λ n. read_run (readers n) p at words) x
@@ -179,5 +178,5 @@ pub operations_done : {p : Place} {at : Precedence} {first : Exp} {others : List
     → RunDone p at first others words rest → Follows (ends_exp at) rest → ExpDone p at (run_of first others) words rest
 operations_done {p} {at} {others = others} {rest = rest} left d h = record {
   comes = over_exp (by_run at left (comes_then _ d.comes (comes_then _ (d.goes_on (over_operations (operations_are p at others (plain rest) None (no_operator_at at rest h) (comes_read _)))) (comes_read _))));
-  fine = d.fine
+  fine = d.fine;
 }

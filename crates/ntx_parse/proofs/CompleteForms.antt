@@ -1,6 +1,6 @@
 -- What it is that a phrase is read.
-use Rattle.std.specs.Prelude.{◌≡◌, ◌≤◌, ℕ, Bool, true, false, List, [], ◌∷◌, ◌++◌, Option, None, Some}
-use Rattle.std.proofs.Common.{refl, sym, ap, ◌∙◌, subst, append_assoc, append-nil}
+use Rattle.std.specs.Prelude.{◌≡◌, ℕ, List, [], ◌∷◌, ◌++◌, Some}
+use Rattle.std.proofs.Common.{sym, ap, append_assoc, append-nil}
 use Rattle.std.specs.List.{AllByRecursion}
 use Rattle.ntx_syntax.specs.declared.tree.Block.{Block}
 use Rattle.ntx_syntax.specs.declared.tree.Stat.{Stat}
@@ -13,11 +13,9 @@ use Rattle.ntx_parse.specs.declared.part.Part.{Part}
 use Rattle.ntx_parse.specs.declared.place.Place.{Place}
 use Rattle.ntx_parse.specs.declared.precedence.Precedence.{Precedence}
 use Rattle.ntx_parse.specs.declared.precedence.Precedence.TheVariants as precedence
-use Rattle.ntx_parse.specs.declared.terminal.Terminal.{Terminal}
-use Rattle.ntx_parse.specs.declared.terminal.Terminal.TheVariants as terminal
 use Rattle.ntx_parse.specs.Words.{Word}
 use Rattle.ntx_parse.specs.Grammar.{Placed, IsFine, tighter}
-use Rattle.ntx_parse.specs.Reading.{Answer, read, begins, readers, read_prefix, read_local_name, joined, var_of}
+use Rattle.ntx_parse.specs.Reading.{Answer, read, readers, read_prefix, read_local_name, joined, var_of}
 use Rattle.ntx_parse.proofs.BeginsLemmas.{plain}
 use Rattle.ntx_parse.proofs.ComesLemmas.{Comes}
 

@@ -1,32 +1,23 @@
 -- Statements are told apart, and assignments, calls and what follows a name are read.
-use Rattle.std.specs.Prelude.{◌≡◌, ◌≤◌, ℕ, nat_eq, Bool, true, false, not, List, [], ◌∷◌, ◌++◌, Option, None, Some, if◌then◌else◌}
-use Rattle.std.proofs.Common.{refl, sym, ap, ◌∙◌, subst, true≢false}
+use Rattle.std.specs.Prelude.{◌≡◌, true, false, List, [], ◌∷◌, Option, None, Some}
+use Rattle.std.proofs.Common.{sym, ap, subst, true≢false}
 use Rattle.std.specs.List.{AllByRecursion}
-use Rattle.ntx_syntax.specs.declared.tree.Block.{Block, roll-Block}
-use Rattle.ntx_syntax.specs.declared.tree.Return.{Return}
-use Rattle.ntx_syntax.specs.declared.tree.Stat.{Stat}
 use Rattle.ntx_syntax.specs.declared.tree.StatKind.{StatKind}
 use Rattle.ntx_syntax.specs.declared.tree.StatKind.TheVariants as stat
-use Rattle.ntx_syntax.specs.declared.tree.IfArm.{IfArm, roll-IfArm}
-use Rattle.ntx_syntax.specs.declared.tree.FunctionBody.{FunctionBody}
-use Rattle.ntx_syntax.specs.declared.tree.LocalName.{LocalName}
 use Rattle.ntx_syntax.specs.declared.tree.Var.{Var}
 use Rattle.ntx_syntax.specs.declared.tree.Var.TheVariants as var
-use Rattle.ntx_syntax.specs.declared.tree.Call.{Call}
 use Rattle.ntx_syntax.specs.declared.tree.Prefix.{Prefix}
 use Rattle.ntx_syntax.specs.declared.tree.Exp.{Exp}
 use Rattle.ntx_parse.specs.declared.part.Part.{Part}
 use Rattle.ntx_parse.specs.declared.part.Part.TheVariants as part
 use Rattle.ntx_parse.specs.declared.place.Place.{Place}
-use Rattle.ntx_parse.specs.declared.precedence.Precedence.{Precedence}
-use Rattle.ntx_parse.specs.declared.precedence.Precedence.TheVariants as precedence
 use Rattle.ntx_parse.specs.declared.terminal.Terminal.{Terminal}
 use Rattle.ntx_parse.specs.declared.terminal.Terminal.TheVariants as terminal
 use Rattle.ntx_parse.specs.Words.{Word}
 use Rattle.ntx_parse.specs.Grammar.{Placed, Is, IsFine, within}
-use Rattle.ntx_parse.specs.Reading.{Answer, read, and_then, number, begins, Readers, readers, read_prefix, read_arguments, var_of, joined, assignment_to, statement_of, read_expression_statement, kind_at, values_behind}
+use Rattle.ntx_parse.specs.Reading.{Answer, read, begins, Readers, readers, read_arguments, var_of, joined, assignment_to, statement_of, read_expression_statement, kind_at, values_behind}
 use Rattle.ntx_parse.proofs.BeginsLemmas.{plain, is_this, Starts, number_tells, begins_here, comes_taken, comes_expected}
-use Rattle.ntx_parse.proofs.ComesLemmas.{Comes, comes_as, comes_then, comes_now, comes_if, comes_else, comes_read}
+use Rattle.ntx_parse.proofs.ComesLemmas.{Comes, comes_then, comes_now, comes_if, comes_else, comes_read}
 use Rattle.ntx_parse.proofs.FollowLemmas.{begins_prefix}
 use Rattle.ntx_parse.proofs.CompleteForms.{Done, ExpsDone, PrefixDone, VarsDone}
 use Rattle.ntx_parse.proofs.CompletePrefixes.{NoSuffix, suffixes_end, call_goes_on, exps_come}
@@ -88,7 +79,7 @@ assignment_done {p} words middle start d o more =
     record {
       comes = expression_first p words start (comes_then _ d.comes (statement_of_var p d.behind d.part d.one d.is_var
           (comes_then _ (d.tail []) (comes_expected _ o d.fine.0 (comes_then _ all.comes (comes_read _))))));
-      fine = found.fine
+      fine = found.fine;
     }
 
 pub called_done : {p : Place} {prefix : Prefix} {es : List Exp} {rest : List Placed} (words middle : List Placed) → Starts begins_prefix words → PrefixDone p prefix (plain words) middle
@@ -99,7 +90,7 @@ called_done {p} {es = es} {rest = rest} words middle start d opens more ends =
     record {
       comes = expression_first p words start (comes_then _ (d.goes_on (call_goes_on middle opens given (suffixes_end (part.Call (joined d.part) es) ends)))
           (comes_now (ap (λ q. read (stat.Call (record { function = q; arguments = es })) (plain rest)) d.joins)));
-      fine = given.fine
+      fine = given.fine;
     }
 
 -- ---- [= explist]

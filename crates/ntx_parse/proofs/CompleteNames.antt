@@ -1,6 +1,6 @@
 -- Names, paths of names, and semicolons are read.
-use Rattle.std.specs.Prelude.{◌≡◌, ◌≤◌, ℕ, Bool, true, false, List, [], ◌∷◌, ◌++◌, Option, None, Some}
-use Rattle.std.proofs.Common.{refl, sym, ap, ◌∙◌, subst, append_assoc, append-nil}
+use Rattle.std.specs.Prelude.{◌≡◌, ℕ, Bool, true, false, List, [], ◌∷◌, ◌++◌}
+use Rattle.std.proofs.Common.{refl}
 use Rattle.std.specs.List.{AllByRecursion}
 use Rattle.std.specs.Prelude.{nat_eq}
 use Rattle.ntx_syntax.specs.declared.tree.LocalName.{LocalName}
@@ -9,10 +9,10 @@ use Rattle.ntx_parse.specs.declared.terminal.Terminal.{Terminal}
 use Rattle.ntx_parse.specs.declared.terminal.Terminal.TheVariants as terminal
 use Rattle.ntx_parse.specs.Words.{Word}
 use Rattle.ntx_parse.specs.Grammar.{Placed, Is, IsFine, IsSemicolon, no_semicolon, semicolon, IsPath, no_path, more_path, IsNames, one_name, more_names, IsParameters, no_parameters, parameters, local_name}
-use Rattle.ntx_parse.specs.Reading.{Answer, read, number, begins, readers, read_name, read_local_name, read_names, read_parameters, semicolon_behind}
+use Rattle.ntx_parse.specs.Reading.{read, number, begins, readers, read_name, read_local_name, read_names, read_parameters, semicolon_behind}
 use Rattle.ntx_parse.proofs.BeginsLemmas.{plain, begins_here, is_other, comes_taken, comes_expected}
 use Rattle.ntx_parse.proofs.ComesLemmas.{Comes, comes_as, comes_then, comes_now, comes_if, comes_else, comes_read, over_names, over_path}
-use Rattle.ntx_parse.proofs.CompleteForms.{Done, ListDone, RestDone, NamesDone, all_before, one_more}
+use Rattle.ntx_parse.proofs.CompleteForms.{Done, ListDone, NamesDone, all_before, one_more}
 
 pub name_comes : {p : Place} {o : Placed} {words : List Word} → Is p terminal.Name o → IsFine o → Comes (λ n. read_name p (o.word ∷ words)) (read o.word.spelled words)
 name_comes o fine = comes_expected _ o fine (comes_read _)
@@ -29,7 +29,7 @@ path_done (more_path {n = n} {fields = fields} {rest = rest} d is_name path) fin
     record {
       comes = λ before. over_path (comes_if _ (begins_here d) (comes_taken _ d fine.0 (comes_then _ (name_comes is_name fine.1.0)
           (comes_as (others.comes (before ++ n.word.spelled ∷ [])) (one_more before n.word.spelled fields (plain rest))))));
-      fine = others.fine
+      fine = others.fine;
     }
 
 names_end : {p : Place} {words : List Word} (before : List LocalName) → begins terminal.Comma words ≡ false → Comes (λ n. (readers n).names p before words) (read before words)
@@ -42,7 +42,7 @@ names_done (one_name {n = n} {rest = rest} is_name) fine h = record {
   behind = plain rest;
   comes = local_name_comes is_name fine.0;
   tail = λ before. names_end (before ++ local_name n ∷ []) h;
-  fine = fine.1
+  fine = fine.1;
 }
 names_done (more_names {n = n} {c = c} {names = names} {words = words} {rest = rest} is_name is_comma more) fine h =
     let others = names_done more fine.1.1 h in
@@ -52,7 +52,7 @@ names_done (more_names {n = n} {c = c} {names = names} {words = words} {rest = r
       comes = local_name_comes is_name fine.0;
       tail = λ before. over_names (comes_if _ (begins_here is_comma) (comes_taken _ is_comma fine.1.0 (comes_then _ others.comes
           (comes_as (others.tail (before ++ local_name n ∷ [])) (one_more before (local_name n) names (plain rest))))));
-      fine = others.fine
+      fine = others.fine;
     }
 
 -- Behind the first of some names stands a comma, or what stands behind them all.
@@ -78,13 +78,13 @@ pub parameters_done : {p : Place} {o c : Placed} {names : List LocalName} {words
     → Is p terminal.RightParenthesis c → AllByRecursion IsFine (o ∷ words) → Done (λ n. read_parameters (readers n) p (plain (o ∷ words))) names rest
 parameters_done o no_parameters c fine = record {
   comes = comes_expected _ o fine.0 (comes_if _ (begins_here c) (comes_taken _ c fine.1.0 (comes_read _)));
-  fine = fine.1.1
+  fine = fine.1.1;
 }
 parameters_done {words = words} o (parameters names) c fine =
     let all = names_come (plain words) (names_done names fine.1 (is_other terminal.Comma c refl)) in
     record {
       comes = comes_expected _ o fine.0 (comes_else _ (names_start terminal.RightParenthesis names refl) (comes_then _ all.comes (comes_expected _ c all.fine.0 (comes_read _))));
-      fine = all.fine.1
+      fine = all.fine.1;
     }
 
 pub semicolon_done : {p : Place} {words rest : List Placed} → IsSemicolon p words rest → AllByRecursion IsFine words → begins terminal.Semicolon (plain rest) ≡ false

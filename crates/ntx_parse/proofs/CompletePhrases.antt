@@ -1,6 +1,6 @@
 -- Each phrase that derives is read, where its words are fine and what ends it stands behind it.
-use Rattle.std.specs.Prelude.{◌≡◌, ◌≤◌, ℕ, Bool, true, false, List, [], ◌∷◌, ◌++◌, map, Option, None, Some, Ok}
-use Rattle.std.proofs.Common.{refl, sym, ap, ◌∙◌, subst}
+use Rattle.std.specs.Prelude.{◌≡◌, Bool, true, false, List, Option}
+use Rattle.std.proofs.Common.{refl, ap, ◌∙◌, subst}
 use Rattle.std.specs.List.{AllByRecursion}
 use Rattle.ntx_syntax.specs.declared.tree.Block.{Block}
 use Rattle.ntx_syntax.specs.declared.tree.Return.{Return}
@@ -18,8 +18,8 @@ use Rattle.ntx_parse.specs.declared.precedence.Precedence.{Precedence}
 use Rattle.ntx_parse.specs.declared.precedence.Precedence.TheVariants as precedence
 use Rattle.ntx_parse.specs.declared.terminal.Terminal.{Terminal}
 use Rattle.ntx_parse.specs.declared.terminal.Terminal.TheVariants as terminal
-use Rattle.ntx_parse.specs.Grammar.{Placed, Is, IsFine, tighter, IsBlock, block, IsStats, no_stats, more_stats, IsLast, no_return, last_return, IsReturned, returns_nothing, returns, IsStat, statement, IsKind, empty, assignment, called, break, do_end, while_do, repeat_until, if_then, numeric_for, generic_for, function, local_function, locals, IsArm, arm, IsArms, no_arms, more_arms, IsElse, no_else, else, IsStep, no_step, step, IsValues, no_values, values, IsExps, one_exp, more_exps, IsVars, one_var, more_vars, IsBody, body, IsVar, name_var, index_var, field_var, IsPrefix, name_prefix, index_prefix, field_prefix, call_prefix, parenthesized, IsIndex, index, IsCall, call, IsArguments, no_arguments, arguments, IsExp, operations, concatenation, no_concatenation, operator, simple, IsRun, first_operand, more_operands, IsSimple, nil, false_, true_, numeral, text, function_exp, prefix_exp, table, IsFields, no_fields, last_field, more_fields, IsField, keyed, named_field, positional}
-use Rattle.ntx_parse.specs.Reading.{begins, readers, read_index, read_arguments, begins_statement, ends_return}
+use Rattle.ntx_parse.specs.Grammar.{Placed, Is, IsFine, tighter, IsBlock, block, IsStats, no_stats, more_stats, IsLast, no_return, last_return, IsReturned, returns_nothing, returns, IsStat, statement, IsKind, empty, assignment, called, break, do_end, while_do, repeat_until, if_then, numeric_for, generic_for, function, local_function, locals, IsArm, arm, IsArms, no_arms, more_arms, IsElse, no_else, else, IsStep, no_step, step, IsValues, no_values, values, IsExps, one_exp, more_exps, IsVars, one_var, more_vars, IsBody, body, IsVar, name_var, index_var, field_var, IsPrefix, name_prefix, index_prefix, field_prefix, call_prefix, parenthesized, IsIndex, index, call, IsArguments, no_arguments, arguments, IsExp, operations, concatenation, no_concatenation, operator, simple, IsRun, first_operand, more_operands, IsSimple, nil, false_, true_, numeral, text, function_exp, prefix_exp, table, IsFields, no_fields, last_field, more_fields, IsField, keyed, named_field, positional}
+use Rattle.ntx_parse.specs.Reading.{begins, readers, read_index, read_arguments, ends_return}
 use Rattle.ntx_parse.proofs.BeginsLemmas.{plain, is_this, Follows, Starts, follows_also, starts_follows, passes, is_other, not_begins, not_before}
 use Rattle.ntx_parse.proofs.FollowLemmas.{ends_block, ends_stats, ends_stat, ends_arms, ends_exp, ends_exps, ends_field, return_ends_exps, stat_ends_exps, stat_ends_exp, exps_end_exp, field_ends_exp, end_ends_block, do_ends_exp, brace_ends_field}
 use Rattle.ntx_parse.proofs.OperatorLemmas.{ends_tighter, operator_follows}
@@ -27,7 +27,7 @@ use Rattle.ntx_parse.proofs.StartLemmas.{prefix_starts, simple_starts, exp_start
 use Rattle.ntx_parse.proofs.NamedLemmas.{exp_names_none}
 use Rattle.ntx_parse.proofs.CompleteForms.{Done, ExpDone, ExpsDone, BlockDone, StatDone, PrefixDone, VarDone, VarsDone, RunDone}
 use Rattle.ntx_parse.proofs.CompleteNames.{names_done, names_start, behind_first, path_done, semicolon_done}
-use Rattle.ntx_parse.proofs.CompletePrefixes.{NoSuffix, no_suffix_here, one_exp_done, more_exps_done, index_done, no_arguments_done, arguments_done, name_prefix_done, index_prefix_done, field_prefix_done, call_prefix_done, parenthesized_done, name_var_done, index_var_done, field_var_done, one_var_done, more_vars_done}
+use Rattle.ntx_parse.proofs.CompletePrefixes.{NoSuffix, one_exp_done, more_exps_done, index_done, no_arguments_done, arguments_done, name_prefix_done, index_prefix_done, field_prefix_done, call_prefix_done, parenthesized_done, name_var_done, index_var_done, field_var_done, one_var_done, more_vars_done}
 use Rattle.ntx_parse.proofs.CompleteExpressions.{SimpleDone, nil_done, false_done, true_done, numeral_done, text_done, function_done, prefix_exp_done, table_done, operator_done, simple_done, concatenation_done, no_concatenation_done, first_operand_done, more_operands_done, operations_done}
 use Rattle.ntx_parse.proofs.CompleteTables.{body_done, FieldDone, keyed_done, named_done, positional_done, FieldsDone, no_fields_done, last_field_done, more_fields_done, separator_ends_field}
 use Rattle.ntx_parse.proofs.CompleteKinds.{KindDone, assignment_done, called_done, ValuesDone, no_values_done, values_done}
@@ -47,7 +47,7 @@ no_suffix_of : (q : Terminal → Bool) (rest : List Placed) → q terminal.LeftB
 no_suffix_of q rest bracket dot h parenthesis = record {
   bracket = not_begins q terminal.LeftBracket rest bracket h;
   dot = not_begins q terminal.Dot rest dot h;
-  parenthesis = parenthesis
+  parenthesis = parenthesis;
 }
 
 field_no_equals : (rest : List Placed) → Follows ends_field rest → begins terminal.Assign (plain rest) ≡ false
@@ -87,7 +87,7 @@ mutual
       assignment_done w m (vars_start vs) (vars_read vs fine (passes (is_this terminal.Assign) o refl)) o (λ f. exps_read es f (follows_also ends_stat ends_exps stat_ends_exps r h))
   kind_read (called (call {words = w} {middle = m} {rest = r} prefix given) before) fine h =
       called_done w m (prefix_starts prefix) (prefix_read prefix fine) (arguments_start given) (λ f. arguments_read given f)
-          (no_suffix_of ends_stat r refl refl h (not_before terminal.LeftParenthesis r before))
+      (no_suffix_of ends_stat r refl refl h (not_before terminal.LeftParenthesis r before))
   kind_read (break o) fine h = break_done o fine
   kind_read (do_end {words = w} o inside e) fine h = do_done w o fine.0 (block_read inside fine.1 (passes ends_block e refl)) e
   kind_read (while_do {words = w} {middle = m} o condition d inside e) fine h =
@@ -96,15 +96,15 @@ mutual
       repeat_done w m o fine.0 (block_read inside fine.1 (passes ends_block u refl)) u (λ f. exp_read condition f (follows_also ends_stat (ends_exp precedence.Or) stat_ends_exp r h))
   kind_read (if_then {words = w} {behind_first = a} {behind_arms = b} first others last e) fine h =
       if_done w a b (arm_starts (is_this terminal.If) refl first) (arm_read first fine (arms_follow others (else_follows last (passes (is_this terminal.End) e refl))))
-          (λ f. arms_read others f (else_follows last (passes (is_this terminal.End) e refl))) (λ f. else_read last f (passes (is_this terminal.End) e refl)) e
+      (λ f. arms_read others f (else_follows last (passes (is_this terminal.End) e refl))) (λ f. else_read last f (passes (is_this terminal.End) e refl)) e
   kind_read (numeric_for {words = w} {behind_first = a} {behind_limit = b} {behind_step = c} f n is_assign first is_comma limit s d inside e) fine h =
       numeric_for_done w a b c f n is_assign fine (exp_read first fine.1.1.1 (passes (ends_exp precedence.Or) is_comma refl)) is_comma
-          (λ g. exp_read limit g (step_follows s (passes (is_this terminal.Do) d refl))) (λ g. step_read s g (passes (is_this terminal.Do) d refl)) d
-          (λ g. block_read inside g (passes ends_block e refl)) e
+      (λ g. exp_read limit g (step_follows s (passes (is_this terminal.Do) d refl))) (λ g. step_read s g (passes (is_this terminal.Do) d refl)) d
+      (λ g. block_read inside g (passes ends_block e refl)) e
   kind_read (generic_for {words = w} {behind_names = a} {behind_values = b} f names i es d inside e) fine h =
       generic_for_done w a b f fine.0 (names_done names fine.1 (is_other terminal.Comma i refl))
-          (behind_first terminal.Assign names fine.1 (is_other terminal.Comma i refl) refl (is_other terminal.Assign i refl)) i
-          (λ g. exps_read es g (passes ends_exps d refl)) d (λ g. block_read inside g (passes ends_block e refl)) e
+      (behind_first terminal.Assign names fine.1 (is_other terminal.Comma i refl) refl (is_other terminal.Assign i refl)) i
+      (λ g. exps_read es g (passes ends_exps d refl)) d (λ g. block_read inside g (passes ends_block e refl)) e
   kind_read (function {words = w} {middle = m} f n path inside) fine h = function_stat_done w m f n fine (path_done path fine.1.1 (body_no_dot inside)) (λ g. body_read inside g)
   kind_read (local_function {words = w} l f n inside) fine h = local_function_done w l f n fine (body_read inside fine.1.1.1)
   kind_read (locals {words = w} {middle = m} l names es) fine h =
@@ -147,8 +147,8 @@ mutual
       → VarsDone p vs (plain words) rest
   vars_read (one_var {rest = r} v) fine h =
       one_var_done (var_read v fine)
-          (no_suffix_of (is_this terminal.Assign) r refl refl h (not_begins (is_this terminal.Assign) terminal.LeftParenthesis r refl h))
-          (not_begins (is_this terminal.Assign) terminal.Comma r refl h)
+      (no_suffix_of (is_this terminal.Assign) r refl refl h (not_begins (is_this terminal.Assign) terminal.LeftParenthesis r refl h))
+      (not_begins (is_this terminal.Assign) terminal.Comma r refl h)
   vars_read (more_vars {middle = m} v c vs) fine h = more_vars_done m (var_read v fine) c (λ f. vars_read vs f h)
 
   body_read : {p : Place} {b : FunctionBody} {words rest : List Placed} → IsBody p b words rest → AllByRecursion IsFine words → BodyDone p b words rest

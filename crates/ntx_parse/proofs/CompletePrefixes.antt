@@ -1,6 +1,6 @@
 -- Prefixes, what is assigned to, and arguments are read.
-use Rattle.std.specs.Prelude.{◌≡◌, ◌≤◌, ℕ, Bool, true, false, not, List, [], ◌∷◌, ◌++◌, ℤ, Option, None, Some}
-use Rattle.std.proofs.Common.{refl, sym, ap, ◌∙◌, subst, true≢false}
+use Rattle.std.specs.Prelude.{◌≡◌, false, List, [], ◌∷◌, ◌++◌, Some}
+use Rattle.std.proofs.Common.{refl, ap}
 use Rattle.std.specs.List.{AllByRecursion}
 use Rattle.ntx_syntax.specs.declared.tree.Var.{Var}
 use Rattle.ntx_syntax.specs.declared.tree.Var.TheVariants as var
@@ -11,17 +11,16 @@ use Rattle.ntx_syntax.specs.declared.tree.Exp.{Exp}
 use Rattle.ntx_parse.specs.declared.part.Part.{Part}
 use Rattle.ntx_parse.specs.declared.part.Part.TheVariants as part
 use Rattle.ntx_parse.specs.declared.place.Place.{Place}
-use Rattle.ntx_parse.specs.declared.precedence.Precedence.{Precedence}
 use Rattle.ntx_parse.specs.declared.precedence.Precedence.TheVariants as precedence
 use Rattle.ntx_parse.specs.declared.terminal.Terminal.{Terminal}
 use Rattle.ntx_parse.specs.declared.terminal.Terminal.TheVariants as terminal
 use Rattle.ntx_parse.specs.Words.{Word}
 use Rattle.ntx_parse.specs.Grammar.{Placed, Is, IsFine, within, with_suffix}
-use Rattle.ntx_parse.specs.Reading.{Answer, read, and_then, begins, readers, read_prefix, read_index, read_arguments, read_exps, joined, var_of, as_var}
-use Rattle.ntx_parse.proofs.BeginsLemmas.{plain, is_this, Follows, Starts, starts_follows, begins_here, is_other, not_begins, starts_begin, comes_taken, comes_expected}
+use Rattle.ntx_parse.specs.Reading.{Answer, read, begins, readers, read_prefix, read_index, read_arguments, read_exps, joined, as_var}
+use Rattle.ntx_parse.proofs.BeginsLemmas.{plain, is_this, Starts, starts_follows, begins_here, is_other, not_begins, starts_begin, comes_taken, comes_expected}
 use Rattle.ntx_parse.proofs.ComesLemmas.{Comes, comes_as, comes_then, comes_now, comes_if, comes_else, comes_read, over_exps, over_vars, over_suffixes}
 use Rattle.ntx_parse.proofs.FollowLemmas.{begins_exp}
-use Rattle.ntx_parse.proofs.CompleteForms.{Done, RestDone, ExpDone, ExpsDone, PrefixDone, VarDone, VarsDone, all_before, one_more}
+use Rattle.ntx_parse.proofs.CompleteForms.{Done, ExpDone, ExpsDone, PrefixDone, VarDone, VarsDone, one_more}
 use Rattle.ntx_parse.proofs.CompleteNames.{name_comes}
 
 -- ---- lists of expressions
@@ -36,7 +35,7 @@ one_exp_done {e = e} {rest = rest} d h = record {
   behind = plain rest;
   comes = d.comes;
   tail = λ before. exps_end (before ++ e ∷ []) h;
-  fine = d.fine
+  fine = d.fine;
 }
 
 pub more_exps_done : {p : Place} {c : Placed} {e : Exp} {es : List Exp} {words : List Word} {rest : List Placed} (middle : List Placed) → ExpDone p precedence.Or e words (c ∷ middle)
@@ -49,7 +48,7 @@ more_exps_done {c = c} {e = e} {es = es} {rest = rest} middle d is_comma more =
       comes = d.comes;
       tail = λ before. over_exps (comes_if _ (begins_here is_comma) (comes_taken _ is_comma d.fine.0 (comes_then _ others.comes
           (comes_as (others.tail (before ++ e ∷ [])) (one_more before e es (plain rest))))));
-      fine = others.fine
+      fine = others.fine;
     }
 
 -- explist
@@ -74,7 +73,7 @@ arguments_done words o fine start d c =
     record {
       comes = comes_expected _ o fine (comes_else _ (not_begins begins_exp terminal.RightParenthesis words refl (starts_follows begins_exp words start))
           (comes_then _ all.comes (comes_expected _ c all.fine.0 (comes_read _))));
-      fine = all.fine.1
+      fine = all.fine.1;
     }
 
 -- ---- suffixes
@@ -93,7 +92,7 @@ pub no_suffix_here : {p : Place} {t : Terminal} {o : Placed} {words : List Word}
 no_suffix_here o a b c = record {
   bracket = is_other terminal.LeftBracket o a;
   dot = is_other terminal.Dot o b;
-  parenthesis = is_other terminal.LeftParenthesis o c
+  parenthesis = is_other terminal.LeftParenthesis o c;
 }
 
 index_goes_on : {p : Place} {before : Part} {key : Exp} {rest : List Placed} {x : Answer Part} (middle : List Placed) → Starts (is_this terminal.LeftBracket) middle
@@ -128,7 +127,7 @@ name_prefix_done {n = n} {rest = rest} is_name fine = record {
   part = part.Name n.word.spelled;
   joins = refl;
   goes_on = λ h. name_goes_on rest is_name fine h;
-  fine = fine.1
+  fine = fine.1;
 }
 
 pub index_prefix_done : {p : Place} {prefix : Prefix} {key : Exp} {words : List Word} {rest : List Placed} (middle : List Placed) → Starts (is_this terminal.LeftBracket) middle
@@ -140,7 +139,7 @@ index_prefix_done {key = key} middle start before inside =
       part = part.Index (joined before.part) key;
       joins = ap (λ q. with_suffix q (suffix.Index key)) before.joins;
       goes_on = λ h. before.goes_on (index_goes_on middle start found h);
-      fine = found.fine
+      fine = found.fine;
     }
 
 pub field_prefix_done : {p : Place} {d n : Placed} {prefix : Prefix} {words : List Word} {rest : List Placed} → PrefixDone p prefix words (d ∷ n ∷ rest)
@@ -149,7 +148,7 @@ field_prefix_done {n = n} {rest = rest} before is_dot is_name = record {
   part = part.Field (joined before.part) n.word.spelled;
   joins = ap (λ q. with_suffix q (suffix.Field n.word.spelled)) before.joins;
   goes_on = λ h. before.goes_on (field_goes_on rest is_dot is_name before.fine h);
-  fine = before.fine.1.1
+  fine = before.fine.1.1;
 }
 
 pub call_prefix_done : {p : Place} {prefix : Prefix} {es : List Exp} {words : List Word} {rest : List Placed} (middle : List Placed) → Starts (is_this terminal.LeftParenthesis) middle
@@ -161,7 +160,7 @@ call_prefix_done {es = es} middle start before inside =
       part = part.Call (joined before.part) es;
       joins = ap (λ q. with_suffix q (suffix.Call es)) before.joins;
       goes_on = λ h. before.goes_on (call_goes_on middle start found h);
-      fine = found.fine
+      fine = found.fine;
     }
 
 pub parenthesized_done : {p : Place} {o c : Placed} {e : Exp} {words : List Word} {rest : List Placed} → Is (within p) terminal.LeftParenthesis o → IsFine o
@@ -171,7 +170,7 @@ parenthesized_done {e = e} o fine d c = record {
   part = part.Parenthesized e;
   joins = refl;
   goes_on = λ h. comes_if _ (begins_here o) (comes_then _ (comes_expected _ o fine (comes_then _ d.comes (comes_expected _ c d.fine.0 (comes_read _)))) h);
-  fine = d.fine.1
+  fine = d.fine.1;
 }
 
 -- ---- what is assigned to
@@ -182,7 +181,7 @@ name_var_done {n = n} {rest = rest} is_name fine = record {
   part = part.Name n.word.spelled;
   is_var = refl;
   goes_on = λ h. name_goes_on rest is_name fine h;
-  fine = fine.1
+  fine = fine.1;
 }
 
 pub index_var_done : {p : Place} {prefix : Prefix} {key : Exp} {words : List Word} {rest : List Placed} (middle : List Placed) → Starts (is_this terminal.LeftBracket) middle
@@ -194,7 +193,7 @@ index_var_done {key = key} middle start before inside =
       part = part.Index (joined before.part) key;
       is_var = ap (λ q. Some (var.Index q key)) before.joins;
       goes_on = λ h. before.goes_on (index_goes_on middle start found h);
-      fine = found.fine
+      fine = found.fine;
     }
 
 pub field_var_done : {p : Place} {d n : Placed} {prefix : Prefix} {words : List Word} {rest : List Placed} → PrefixDone p prefix words (d ∷ n ∷ rest)
@@ -203,7 +202,7 @@ field_var_done {n = n} {rest = rest} before is_dot is_name = record {
   part = part.Field (joined before.part) n.word.spelled;
   is_var = ap (λ q. Some (var.Field q n.word.spelled)) before.joins;
   goes_on = λ h. before.goes_on (field_goes_on rest is_dot is_name before.fine h);
-  fine = before.fine.1.1
+  fine = before.fine.1.1;
 }
 
 vars_end : {p : Place} {words : List Word} (before : List Var) → begins terminal.Comma words ≡ false → Comes (λ n. (readers n).vars p before words) (read before words)
@@ -218,7 +217,7 @@ one_var_done {v = v} {rest = rest} d ends h = record {
   behind = plain rest;
   comes = d.goes_on (suffixes_end d.part ends);
   tail = λ before. vars_end (before ++ v ∷ []) h;
-  fine = d.fine
+  fine = d.fine;
 }
 
 pub more_vars_done : {p : Place} {c : Placed} {v : Var} {vs : List Var} {words : List Word} {rest : List Placed} (middle : List Placed) → VarDone p v words (c ∷ middle)
@@ -233,6 +232,6 @@ more_vars_done {c = c} {v = v} {vs = vs} {rest = rest} middle d is_comma more =
       comes = d.goes_on (suffixes_end d.part (no_suffix_here is_comma refl refl refl));
       tail = λ before. over_vars (comes_if _ (begins_here is_comma) (comes_taken _ is_comma d.fine.0 (comes_then _ others.comes
           (comes_then _ (comes_now (ap (λ o. as_var o others.behind) others.is_var))
-              (comes_as (others.tail (before ++ v ∷ [])) (one_more before v vs (plain rest)))))));
-      fine = others.fine
+          (comes_as (others.tail (before ++ v ∷ [])) (one_more before v vs (plain rest)))))));
+      fine = others.fine;
     }

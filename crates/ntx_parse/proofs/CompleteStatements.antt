@@ -1,31 +1,21 @@
 -- Statements are read.
-use Rattle.std.specs.Prelude.{◌≡◌, ◌≤◌, ℕ, nat_eq, Bool, true, false, not, List, [], ◌∷◌, ◌++◌, Option, None, Some, if◌then◌else◌}
-use Rattle.std.proofs.Common.{refl, sym, ap, ◌∙◌, subst, true≢false}
+use Rattle.std.specs.Prelude.{◌≡◌, ℕ, true, false, List, [], ◌∷◌, ◌++◌, Option, None, Some}
+use Rattle.std.proofs.Common.{sym, ap, ◌∙◌}
 use Rattle.std.specs.List.{AllByRecursion}
-use Rattle.ntx_syntax.specs.declared.tree.Block.{Block, roll-Block}
-use Rattle.ntx_syntax.specs.declared.tree.Return.{Return}
-use Rattle.ntx_syntax.specs.declared.tree.Stat.{Stat}
-use Rattle.ntx_syntax.specs.declared.tree.StatKind.{StatKind}
+use Rattle.ntx_syntax.specs.declared.tree.Block.{Block}
 use Rattle.ntx_syntax.specs.declared.tree.StatKind.TheVariants as stat
 use Rattle.ntx_syntax.specs.declared.tree.IfArm.{IfArm, roll-IfArm}
 use Rattle.ntx_syntax.specs.declared.tree.FunctionBody.{FunctionBody}
 use Rattle.ntx_syntax.specs.declared.tree.LocalName.{LocalName}
-use Rattle.ntx_syntax.specs.declared.tree.Var.{Var}
-use Rattle.ntx_syntax.specs.declared.tree.Var.TheVariants as var
-use Rattle.ntx_syntax.specs.declared.tree.Call.{Call}
-use Rattle.ntx_syntax.specs.declared.tree.Prefix.{Prefix}
 use Rattle.ntx_syntax.specs.declared.tree.Exp.{Exp}
-use Rattle.ntx_parse.specs.declared.part.Part.{Part}
-use Rattle.ntx_parse.specs.declared.part.Part.TheVariants as part
 use Rattle.ntx_parse.specs.declared.place.Place.{Place}
-use Rattle.ntx_parse.specs.declared.precedence.Precedence.{Precedence}
 use Rattle.ntx_parse.specs.declared.precedence.Precedence.TheVariants as precedence
 use Rattle.ntx_parse.specs.declared.terminal.Terminal.{Terminal}
 use Rattle.ntx_parse.specs.declared.terminal.Terminal.TheVariants as terminal
 use Rattle.ntx_parse.specs.Words.{Word}
 use Rattle.ntx_parse.specs.Grammar.{Placed, Is, IsFine, within, within_loop, local_name}
-use Rattle.ntx_parse.specs.Reading.{Answer, read, and_then, begins, readers, read_body, block_to_end, loop_body, read_arm, else_behind, step_behind}
-use Rattle.ntx_parse.proofs.BeginsLemmas.{plain, is_this, Starts, starts_begin, begins_here, is_other, comes_taken, comes_expected}
+use Rattle.ntx_parse.specs.Reading.{read, begins, readers, read_body, block_to_end, loop_body, read_arm, else_behind, step_behind}
+use Rattle.ntx_parse.proofs.BeginsLemmas.{plain, is_this, Starts, starts_begin, begins_here, comes_taken, comes_expected}
 use Rattle.ntx_parse.proofs.ComesLemmas.{Comes, comes_as, comes_then, comes_now, comes_if, comes_else, comes_read, over_arms}
 use Rattle.ntx_parse.proofs.CompleteForms.{Done, ListDone, ExpDone, ExpsDone, NamesDone, BlockDone, all_before, one_more}
 use Rattle.ntx_parse.proofs.CompleteNames.{name_comes, local_name_comes, names_come}
@@ -41,7 +31,7 @@ stands_in_loop p o i fine = ap (λ q. q.in_loop) (sym i.place) ∙ fine.in_loop 
 pub break_done : {p : Place} {o : Placed} {rest : List Placed} → Is p terminal.Break o → AllByRecursion IsFine (o ∷ rest) → KindDone p stat.Break (o ∷ rest) rest
 break_done {p} {o} {rest} i fine = record {
   comes = kind_is (plain rest) i (comes_taken _ i fine.0 (comes_if _ (stands_in_loop p o i fine.0) (comes_read _)));
-  fine = fine.1
+  fine = fine.1;
 }
 
 -- ---- blocks and loops
@@ -58,7 +48,7 @@ pub do_done : {p : Place} {o e : Placed} {b : Block} {rest : List Placed} (words
     → BlockDone (within p) b (plain words) (e ∷ rest) → Is p terminal.End e → KindDone p (stat.Do b) (o ∷ words) rest
 do_done words o fine d e = record {
   comes = kind_is (plain words) o (comes_taken _ o fine (comes_then _ (to_end d e) (comes_read _)));
-  fine = d.fine.1
+  fine = d.fine.1;
 }
 
 pub while_done : {p : Place} {o d e : Placed} {condition : Exp} {b : Block} {rest : List Placed} (words middle : List Placed) → Is p terminal.While o → IsFine o
@@ -69,7 +59,7 @@ while_done words middle o fine first d more e =
     let inside = more first.fine.1 in
     record {
       comes = kind_is (plain words) o (comes_taken _ o fine (comes_then _ first.comes (comes_then _ (loop_comes d first.fine.0 inside e) (comes_read _))));
-      fine = inside.fine.1
+      fine = inside.fine.1;
     }
 
 pub repeat_done : {p : Place} {o u : Placed} {condition : Exp} {b : Block} {rest : List Placed} (words middle : List Placed) → Is p terminal.Repeat o → IsFine o
@@ -79,7 +69,7 @@ repeat_done words middle o fine inside u more =
     let last = more inside.fine.1 in
     record {
       comes = kind_is (plain words) o (comes_taken _ o fine (comes_then _ inside.comes (comes_expected _ u inside.fine.0 (comes_then _ last.comes (comes_read _)))));
-      fine = last.fine
+      fine = last.fine;
     }
 
 -- ---- if
@@ -94,7 +84,7 @@ arm_done words middle o fine d t more =
     let inside = more d.fine.1 in
     record {
       comes = comes_taken _ o fine (comes_then _ d.comes (comes_expected _ t d.fine.0 (comes_then _ inside.comes (comes_read _))));
-      fine = inside.fine
+      fine = inside.fine;
     }
 
 abbrev pub ArmsDone : Place → List IfArm → List Placed → List Placed → Type 0
@@ -110,7 +100,7 @@ more_arms_done {first = first} {arms = arms} {rest = rest} words middle start d 
     record {
       comes = λ before. over_arms (comes_if _ (starts_begin terminal.Elseif words start) (comes_then _ d.comes
           (comes_as (others.comes (before ++ first ∷ [])) (one_more before first arms (plain rest)))));
-      fine = others.fine
+      fine = others.fine;
     }
 
 abbrev pub ElseDone : Place → Option Block → List Placed → List Placed → Type 0
@@ -132,7 +122,7 @@ if_done {p} {first = first} words behind_first behind_arms start d second third 
     record {
       comes = kind_of_first p terminal.If words start (comes_then _ d.comes (comes_then _ (others.comes (first ∷ []))
           (comes_then _ last.comes (comes_expected _ e last.fine.0 (comes_read _)))));
-      fine = last.fine.1
+      fine = last.fine.1;
     }
 
 -- ---- for
@@ -162,7 +152,7 @@ numeric_for_done {n = n} {a = a} words behind_first behind_limit behind_step f i
       comes = kind_is (plain (n ∷ a ∷ words)) f (comes_taken _ f fine.0 (comes_then _ (local_name_comes is_name fine.1.0) (comes_if _ (begins_here is_assign)
           (comes_taken _ is_assign fine.1.1.0 (comes_then _ one.comes (comes_expected _ c one.fine.0 (comes_then _ two.comes (comes_then _ three.comes
           (comes_then _ (loop_comes d three.fine.0 four e) (comes_read _))))))))));
-      fine = four.fine.1
+      fine = four.fine.1;
     }
 
 pub generic_for_done : {p : Place} {f i d e : Placed} {names : List LocalName} {es : List Exp} {b : Block} {rest : List Placed} (words behind_names behind_values : List Placed)
@@ -176,7 +166,7 @@ generic_for_done words behind_names behind_values f fine one no_assign i second 
     record {
       comes = kind_is (plain words) f (comes_taken _ f fine (comes_then _ one.comes (comes_else _ no_assign (comes_then _ (one.tail []) (comes_expected _ i one.fine.0
           (comes_then _ (exps_come two).comes (comes_then _ (loop_comes d two.fine.0 three e) (comes_read _))))))));
-      fine = three.fine.1
+      fine = three.fine.1;
     }
 
 -- ---- functions and locals
@@ -192,7 +182,7 @@ function_stat_done {n = n} words middle f is_name fine path more =
     record {
       comes = kind_is (plain (n ∷ words)) f (comes_taken _ f fine.0 (comes_then _ (name_comes is_name fine.1.0) (comes_then _ (path.comes [])
           (comes_then _ inside.comes (comes_read _)))));
-      fine = inside.fine
+      fine = inside.fine;
     }
 
 pub local_function_done : {p : Place} {l f n : Placed} {b : FunctionBody} {rest : List Placed} (words : List Placed) → Is p terminal.Local l → Is p terminal.Function f
@@ -201,7 +191,7 @@ pub local_function_done : {p : Place} {l f n : Placed} {b : FunctionBody} {rest 
 local_function_done {f = f} {n = n} words l is_function is_name fine inside = record {
   comes = kind_is (plain (f ∷ n ∷ words)) l (comes_taken _ l fine.0 (comes_if _ (begins_here is_function) (comes_taken _ is_function fine.1.0
       (comes_then _ (local_name_comes is_name fine.1.1.0) (comes_then _ inside.comes (comes_read _))))));
-  fine = inside.fine
+  fine = inside.fine;
 }
 
 pub locals_done : {p : Place} {l : Placed} {names : List LocalName} {es : List Exp} {rest : List Placed} (words middle : List Placed) → Is p terminal.Local l → IsFine l
@@ -211,5 +201,5 @@ locals_done words middle l fine h d more =
     let last = more d.fine in
     record {
       comes = kind_is (plain words) l (comes_taken _ l fine (comes_else _ h (comes_then _ (names_come (plain words) d).comes (comes_then _ last.comes (comes_read _)))));
-      fine = last.fine
+      fine = last.fine;
     }

@@ -1,25 +1,21 @@
 -- Bodies of functions and fields of tables are read.
-use Rattle.std.specs.Prelude.{◌≡◌, ◌≤◌, ℕ, nat_eq, Bool, true, false, not, ◌||◌, ◌&&◌, List, [], ◌∷◌, ◌++◌, Option, None, Some, if◌then◌else◌}
-use Rattle.std.proofs.Common.{refl, sym, ap, ◌∙◌, subst, true≢false}
+use Rattle.std.specs.Prelude.{◌≡◌, nat_eq, Bool, true, false, ◌||◌, ◌&&◌, List, [], ◌∷◌, ◌++◌}
+use Rattle.std.proofs.Common.{refl, sym, true≢false}
 use Rattle.std.specs.List.{AllByRecursion}
 use Rattle.ntx_syntax.specs.declared.tree.Block.{Block}
-use Rattle.ntx_syntax.specs.declared.tree.FunctionBody.{FunctionBody, roll-FunctionBody}
+use Rattle.ntx_syntax.specs.declared.tree.FunctionBody.{roll-FunctionBody}
 use Rattle.ntx_syntax.specs.declared.tree.LocalName.{LocalName}
 use Rattle.ntx_syntax.specs.declared.tree.Exp.{Exp}
 use Rattle.ntx_syntax.specs.declared.tree.Field.{Field}
 use Rattle.ntx_syntax.specs.declared.tree.Field.TheVariants as field
-use Rattle.ntx_parse.specs.declared.part.Part.{Part}
-use Rattle.ntx_parse.specs.declared.part.Part.TheVariants as part
 use Rattle.ntx_parse.specs.declared.place.Place.{Place}
-use Rattle.ntx_parse.specs.declared.precedence.Precedence.{Precedence}
 use Rattle.ntx_parse.specs.declared.precedence.Precedence.TheVariants as precedence
-use Rattle.ntx_parse.specs.declared.terminal.Terminal.{Terminal}
 use Rattle.ntx_parse.specs.declared.terminal.Terminal.TheVariants as terminal
 use Rattle.ntx_parse.specs.Words.{Word}
 use Rattle.ntx_parse.specs.Grammar.{Placed, Is, IsFine, within, within_function, IsParameters, IsSeparator, comma, semicolon_separator}
-use Rattle.ntx_parse.specs.Reading.{Answer, read, and_then, number, begins, taken, readers, read_body, read_index, read_field, names_a_field}
-use Rattle.ntx_parse.proofs.BeginsLemmas.{plain, is_this, Follows, Starts, starts_begin, starts_follows, begins_here, taken_here, is_other, not_begins, passes, comes_taken, comes_expected}
-use Rattle.ntx_parse.proofs.ComesLemmas.{Comes, comes_as, comes_then, comes_now, comes_if, comes_else, comes_read, over_fields}
+use Rattle.ntx_parse.specs.Reading.{read, number, begins, taken, readers, read_body, read_index, read_field, names_a_field}
+use Rattle.ntx_parse.proofs.BeginsLemmas.{plain, is_this, Starts, starts_begin, starts_follows, begins_here, taken_here, is_other, not_begins, passes, comes_expected}
+use Rattle.ntx_parse.proofs.ComesLemmas.{comes_as, comes_then, comes_now, comes_if, comes_else, comes_read, over_fields}
 use Rattle.ntx_parse.proofs.FollowLemmas.{begins_exp, begins_field, ends_field}
 use Rattle.ntx_parse.proofs.CompleteForms.{Done, ListDone, ExpDone, BlockDone, all_before, one_more}
 use Rattle.ntx_parse.proofs.CompleteNames.{name_comes, parameters_done}
@@ -34,7 +30,7 @@ body_done words middle o names c fine more e =
     let all = more given.fine in
     record {
       comes = comes_then _ given.comes (comes_then _ all.comes (comes_expected _ e all.fine.0 (comes_read _)));
-      fine = all.fine.1
+      fine = all.fine.1;
     }
 
 -- ---- a field
@@ -49,7 +45,7 @@ keyed_done words middle start d a more =
     let found = more d.fine.1 in
     record {
       comes = comes_if _ (starts_begin terminal.LeftBracket words start) (comes_then _ d.comes (comes_expected _ a d.fine.0 (comes_then _ found.comes (comes_read _))));
-      fine = found.fine
+      fine = found.fine;
     }
 
 two_tests : (a b : Bool) → a ≡ true → b ≡ true → (a && b) ≡ true
@@ -61,14 +57,14 @@ pub named_done : {p : Place} {n a : Placed} {value : Exp} {rest : List Placed} (
 named_done words n a fine_n fine_a d = record {
   comes = comes_else _ (is_other terminal.LeftBracket n refl) (comes_if _ (two_tests _ _ (begins_here n) (begins_here a))
       (comes_then _ (name_comes n fine_n) (comes_expected _ a fine_a (comes_then _ d.comes (comes_read _)))));
-  fine = d.fine
+  fine = d.fine;
 }
 
 pub positional_done : {p : Place} {value : Exp} {rest : List Placed} (words : List Placed) → Starts begins_exp words → names_a_field (plain words) ≡ false
     → ExpDone p precedence.Or value (plain words) rest → FieldDone p (field.Positional value) words rest
 positional_done words start h d = record {
   comes = comes_else _ (not_begins begins_exp terminal.LeftBracket words refl (starts_follows begins_exp words start)) (comes_else _ h (comes_then _ d.comes (comes_read _)));
-  fine = d.fine
+  fine = d.fine;
 }
 
 -- ---- fields
@@ -79,7 +75,7 @@ FieldsDone p fields words rest = ListDone (λ n before. (readers n).fields p bef
 pub no_fields_done : {p : Place} (rest : List Placed) → Starts (is_this terminal.RightBrace) rest → AllByRecursion IsFine rest → FieldsDone p [] rest rest
 no_fields_done rest start fine = record {
   comes = λ before. over_fields (comes_if _ (starts_begin terminal.RightBrace rest start) (comes_now (all_before before (plain rest))));
-  fine = fine
+  fine = fine;
 }
 
 no_brace : (words : List Placed) → Starts begins_field words → begins terminal.RightBrace (plain words) ≡ false
@@ -104,8 +100,8 @@ last_field_done words rest start d ends =
     record {
       comes = λ before. over_fields (comes_else _ (no_brace words start) (comes_then _ d.comes
           (comes_else _ (neither _ _ (not_begins (is_this terminal.RightBrace) terminal.Comma rest refl follow) (not_begins (is_this terminal.RightBrace) terminal.Semicolon rest refl follow))
-              (comes_read _))));
-      fine = d.fine
+          (comes_read _))));
+      fine = d.fine;
     }
 
 separates : {p : Place} {s : Placed} → IsSeparator p s → (nat_eq (number s.word.is) (number terminal.Comma) || nat_eq (number s.word.is) (number terminal.Semicolon)) ≡ true
@@ -127,6 +123,6 @@ more_fields_done {f = f} {fields = fields} {rest = rest} words middle start d se
     record {
       comes = λ before. over_fields (comes_else _ (no_brace words start) (comes_then _ d.comes
           (comes_if _ (separates separator) (comes_then _ (comes_now (separator_taken (plain middle) separator d.fine.0))
-              (comes_as (others.comes (before ++ f ∷ [])) (one_more before f fields (plain rest)))))));
-      fine = others.fine
+          (comes_as (others.comes (before ++ f ∷ [])) (one_more before f fields (plain rest)))))));
+      fine = others.fine;
     }

@@ -1,20 +1,16 @@
 -- What can stand behind phrases, and what they begin with.
-use Rattle.std.specs.Prelude.{◌≡◌, ◌≤◌, ◌<◌, ℕ, zero, suc, nat_eq, nat_lt, Bool, true, false, not, ◌&&◌, List, [], ◌∷◌, Option, None, Some, if◌then◌else◌}
-use Rattle.std.proofs.Common.{refl, sym, ap, ◌∙◌, subst, arith, true≢false, lt-ltb, ltb-true, eq-eqb, eqb-true}
-use Rattle.std.proofs.lemmas.Bool.{cond-false, cond-true}
+use Rattle.std.specs.Prelude.{◌≡◌, nat_eq, nat_lt, Bool, true, false, not, ◌&&◌, Option, None, Some}
+use Rattle.std.proofs.Common.{refl}
 use Rattle.ntx_syntax.specs.declared.tree.BinaryOp.{BinaryOp}
-use Rattle.ntx_syntax.specs.declared.tree.BinaryOp.TheVariants as binary
 use Rattle.ntx_syntax.specs.declared.tree.UnaryOp.{UnaryOp}
 use Rattle.ntx_syntax.specs.declared.tree.UnaryOp.TheVariants as unary
 use Rattle.ntx_parse.specs.declared.precedence.Precedence.{Precedence}
 use Rattle.ntx_parse.specs.declared.precedence.Precedence.TheVariants as precedence
-use Rattle.ntx_parse.specs.declared.place.Place.{Place}
 use Rattle.ntx_parse.specs.declared.terminal.Terminal.{Terminal}
 use Rattle.ntx_parse.specs.declared.terminal.Terminal.TheVariants as terminal
-use Rattle.ntx_parse.specs.Words.{Word}
-use Rattle.ntx_parse.specs.Grammar.{Placed, Is, binary_precedence, binary_terminal, unary_terminal, tighter, associates_left}
-use Rattle.ntx_parse.specs.Reading.{number, begins_statement, binary_of, unary_of, rank, of_precedence, operator_at, sign_at, ends_return}
-use Rattle.ntx_parse.proofs.BeginsLemmas.{plain, is_this, implies, implied, Follows, Starts, follows_also}
+use Rattle.ntx_parse.specs.Grammar.{binary_precedence, unary_terminal}
+use Rattle.ntx_parse.specs.Reading.{number, begins_statement, binary_of, rank, ends_return}
+use Rattle.ntx_parse.proofs.BeginsLemmas.{is_this, implies}
 
 -- ---- what ends phrases
 

@@ -1,6 +1,6 @@
 -- Which words name a field: an expression in front of them is none that begins so.
-use Rattle.std.specs.Prelude.{◌≡◌, ℕ, nat_eq, Bool, true, false, ◌&&◌, List, [], ◌∷◌}
-use Rattle.std.proofs.Common.{refl, sym, ap, ◌∙◌, true≢false}
+use Rattle.std.specs.Prelude.{◌≡◌, nat_eq, Bool, true, false, ◌&&◌, List, ◌∷◌}
+use Rattle.std.proofs.Common.{refl, true≢false}
 use Rattle.ntx_syntax.specs.declared.tree.BinaryOp.{BinaryOp}
 use Rattle.ntx_syntax.specs.declared.tree.BinaryOp.TheVariants as binary
 use Rattle.ntx_syntax.specs.declared.tree.UnaryOp.{UnaryOp}
@@ -12,10 +12,9 @@ use Rattle.ntx_parse.specs.declared.place.Place.{Place}
 use Rattle.ntx_parse.specs.declared.precedence.Precedence.{Precedence}
 use Rattle.ntx_parse.specs.declared.terminal.Terminal.{Terminal}
 use Rattle.ntx_parse.specs.declared.terminal.Terminal.TheVariants as terminal
-use Rattle.ntx_parse.specs.Words.{Word}
-use Rattle.ntx_parse.specs.Grammar.{Placed, Is, binary_terminal, unary_terminal, IsPrefix, name_prefix, index_prefix, field_prefix, call_prefix, parenthesized, IsIndex, index, IsArguments, no_arguments, arguments, IsExp, operations, concatenation, no_concatenation, operator, simple, IsRun, first_operand, more_operands, IsSimple, nil, false_, true_, numeral, text, function_exp, prefix_exp, table}
+use Rattle.ntx_parse.specs.Grammar.{Placed, Is, binary_terminal, unary_terminal, IsPrefix, name_prefix, index_prefix, field_prefix, call_prefix, parenthesized, IsExp, operations, concatenation, no_concatenation, operator, simple, IsRun, first_operand, more_operands, IsSimple, nil, false_, true_, numeral, text, function_exp, prefix_exp, table}
 use Rattle.ntx_parse.specs.Reading.{number, begins, names_a_field}
-use Rattle.ntx_parse.proofs.BeginsLemmas.{plain, is_this, Starts, is_other, not_begins, starts_follows}
+use Rattle.ntx_parse.proofs.BeginsLemmas.{plain, is_this, is_other, not_begins, starts_follows}
 use Rattle.ntx_parse.proofs.StartLemmas.{index_starts, arguments_start}
 
 no_name : (b c : Bool) → b ≡ false → (b && c) ≡ false

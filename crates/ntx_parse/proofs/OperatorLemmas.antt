@@ -1,6 +1,6 @@
 -- Operators in front of words.
-use Rattle.std.specs.Prelude.{◌≡◌, ◌≤◌, ◌<◌, ℕ, zero, suc, nat_eq, nat_lt, Bool, true, false, not, ◌&&◌, List, [], ◌∷◌, Option, None, Some, if◌then◌else◌}
-use Rattle.std.proofs.Common.{refl, sym, ap, ◌∙◌, subst, arith, true≢false, lt-ltb, ltb-true, ltb-false, eq-eqb, eqb-true}
+use Rattle.std.specs.Prelude.{◌≡◌, ◌≤◌, ◌<◌, ℕ, nat_eq, nat_lt, Bool, true, false, not, ◌&&◌, List, [], ◌∷◌, Option, None, Some}
+use Rattle.std.proofs.Common.{refl, sym, ap, ◌∙◌, arith, true≢false, lt-ltb, ltb-true, ltb-false, eq-eqb, eqb-true}
 use Rattle.std.proofs.lemmas.Bool.{cond-false, cond-true}
 use Rattle.ntx_syntax.specs.declared.tree.BinaryOp.{BinaryOp}
 use Rattle.ntx_syntax.specs.declared.tree.BinaryOp.TheVariants as binary
@@ -12,10 +12,10 @@ use Rattle.ntx_parse.specs.declared.place.Place.{Place}
 use Rattle.ntx_parse.specs.declared.terminal.Terminal.{Terminal}
 use Rattle.ntx_parse.specs.declared.terminal.Terminal.TheVariants as terminal
 use Rattle.ntx_parse.specs.Words.{Word}
-use Rattle.ntx_parse.specs.Grammar.{Placed, Is, binary_precedence, binary_terminal, unary_terminal, tighter, associates_left}
-use Rattle.ntx_parse.specs.Reading.{number, begins_statement, binary_of, unary_of, rank, of_precedence, operator_at, sign_at, ends_return}
+use Rattle.ntx_parse.specs.Grammar.{Placed, Is, binary_precedence, binary_terminal, unary_terminal, tighter}
+use Rattle.ntx_parse.specs.Reading.{binary_of, unary_of, rank, of_precedence, operator_at, sign_at}
 use Rattle.ntx_parse.proofs.FollowLemmas.{ends_exp, binds_less, goes_on, begins_simple}
-use Rattle.ntx_parse.proofs.BeginsLemmas.{plain, implies, implied, Follows, Starts, follows_also}
+use Rattle.ntx_parse.proofs.BeginsLemmas.{plain, Follows, Starts}
 
 no_sign : (t : Terminal) → begins_simple t ≡ true → unary_of t ≡ None
 no_sign terminal.Not h = absurd (true≢false (sym h))
@@ -81,7 +81,7 @@ not_of_precedence : (at : Precedence) (o : Option BinaryOp) → binds_less at o 
 not_of_precedence at None h = refl
 not_of_precedence at (Some op) h = cond-false (nat_eq (rank (binary_precedence op)) (rank at)) (Some op) None
     (different (rank (binary_precedence op)) (rank at) (nat_eq (rank (binary_precedence op)) (rank at)) refl
-        (ltb-true (rank (binary_precedence op)) (rank at) h))
+    (ltb-true (rank (binary_precedence op)) (rank at) h))
 
 -- Behind an expression stands no operator of its precedence.
 pub no_operator_at : (at : Precedence) (words : List Placed) → Follows (ends_exp at) words → operator_at at (plain words) ≡ None

@@ -1,13 +1,12 @@
 -- What the words of a phrase begin with, and what can stand behind the phrase before it.
-use Rattle.std.specs.Prelude.{◌≡◌, ℕ, nat_eq, Bool, true, false, not, ◌&&◌, List, [], ◌∷◌, Option, None, Some}
-use Rattle.std.proofs.Common.{refl, sym, ap, ◌∙◌, subst, true≢false}
+use Rattle.std.specs.Prelude.{◌≡◌, Bool, true, false, List, Option}
+use Rattle.std.proofs.Common.{refl}
 use Rattle.ntx_syntax.specs.declared.tree.Block.{Block}
 use Rattle.ntx_syntax.specs.declared.tree.Return.{Return}
 use Rattle.ntx_syntax.specs.declared.tree.Stat.{Stat}
 use Rattle.ntx_syntax.specs.declared.tree.StatKind.{StatKind}
 use Rattle.ntx_syntax.specs.declared.tree.IfArm.{IfArm}
 use Rattle.ntx_syntax.specs.declared.tree.FunctionBody.{FunctionBody}
-use Rattle.ntx_syntax.specs.declared.tree.LocalName.{LocalName}
 use Rattle.ntx_syntax.specs.declared.tree.Var.{Var}
 use Rattle.ntx_syntax.specs.declared.tree.Call.{Call}
 use Rattle.ntx_syntax.specs.declared.tree.Prefix.{Prefix}
@@ -19,8 +18,8 @@ use Rattle.ntx_parse.specs.declared.precedence.Precedence.{Precedence}
 use Rattle.ntx_parse.specs.declared.precedence.Precedence.TheVariants as precedence
 use Rattle.ntx_parse.specs.declared.terminal.Terminal.{Terminal}
 use Rattle.ntx_parse.specs.declared.terminal.Terminal.TheVariants as terminal
-use Rattle.ntx_parse.specs.Grammar.{Placed, Is, IsSemicolon, no_semicolon, semicolon, IsPath, no_path, more_path, IsNames, one_name, more_names, IsParameters, no_parameters, parameters, IsSeparator, comma, semicolon_separator, IsStats, no_stats, more_stats, IsLast, no_return, last_return, IsReturned, returns_nothing, returns, IsStat, statement, IsKind, empty, assignment, called, break, do_end, while_do, repeat_until, if_then, numeric_for, generic_for, function, local_function, locals, IsArm, arm, IsArms, no_arms, more_arms, IsElse, no_else, else, IsStep, no_step, step, IsValues, no_values, values, IsExps, one_exp, more_exps, IsVars, one_var, more_vars, IsBody, body, IsVar, name_var, index_var, field_var, IsPrefix, name_prefix, index_prefix, field_prefix, call_prefix, parenthesized, IsIndex, index, IsCall, call, IsArguments, no_arguments, arguments, IsExp, operations, concatenation, no_concatenation, operator, simple, IsRun, first_operand, more_operands, IsSimple, nil, false_, true_, numeral, text, function_exp, prefix_exp, table, IsFields, no_fields, last_field, more_fields, IsField, keyed, named_field, positional}
-use Rattle.ntx_parse.specs.Reading.{number, begins, begins_statement, ends_return}
+use Rattle.ntx_parse.specs.Grammar.{Placed, IsSemicolon, no_semicolon, semicolon, IsStats, no_stats, more_stats, IsLast, no_return, last_return, IsStat, statement, IsKind, empty, assignment, called, break, do_end, while_do, repeat_until, if_then, numeric_for, generic_for, function, local_function, locals, IsArm, arm, IsArms, no_arms, more_arms, IsElse, no_else, else, IsStep, no_step, step, IsValues, no_values, values, IsExps, one_exp, more_exps, IsVars, one_var, more_vars, IsBody, body, IsVar, name_var, index_var, field_var, IsPrefix, name_prefix, index_prefix, field_prefix, call_prefix, parenthesized, IsIndex, index, IsCall, call, IsArguments, no_arguments, arguments, IsExp, operations, concatenation, no_concatenation, operator, simple, IsRun, first_operand, more_operands, IsSimple, nil, false_, true_, numeral, text, function_exp, prefix_exp, table, IsField, keyed, named_field, positional}
+use Rattle.ntx_parse.specs.Reading.{begins, begins_statement, ends_return}
 use Rattle.ntx_parse.proofs.BeginsLemmas.{plain, is_other, not_begins, is_this, Follows, Starts, follows_also, starts_also, starts_follows, passes}
 use Rattle.ntx_parse.proofs.FollowLemmas.{ends_block, ends_stats, ends_stat, ends_arms, ends_exp, arms_end_block, end_ends_arms, do_ends_exp, begins_prefix, begins_simple, begins_exp, begins_field, prefix_begins_simple, prefix_begins_statement, simple_begins_exp, exp_begins_field, bracket_begins_field, block_ends_return, unary_begins_exp, block_ends_stats, stats_end_stat, statement_ends_stat}
 
