@@ -13,4 +13,15 @@ pub mod CompleteTables
 pub mod FollowLemmas
 pub mod NamedLemmas
 pub mod OperatorLemmas
+pub mod Sound
+pub mod SoundAnswers
+pub mod SoundAssignments
+pub mod SoundBlocks
+pub mod SoundExpressions
+pub mod SoundLists
+pub mod SoundPhrases
+pub mod SoundPrefixes
+pub mod SoundStatements
+pub mod SoundTables
 pub mod StartLemmas
+pub mod TerminalLemmas
