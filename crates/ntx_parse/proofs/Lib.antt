@@ -10,6 +10,7 @@ pub mod CompletePhrases
 pub mod CompletePrefixes
 pub mod CompleteStatements
 pub mod CompleteTables
+pub mod Exact
 pub mod FollowLemmas
 pub mod NamedLemmas
 pub mod OperatorLemmas
