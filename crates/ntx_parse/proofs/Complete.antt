@@ -4,14 +4,13 @@
 --     answer_is            whatever the reading of them comes to is that
 --     stopped_is_none      words at which the reading stops are no script
 --     one_tree             words are a script in one way at most
-use Rattle.std.specs.Prelude.{◌≡◌, ◌≤◌, ℕ, max, List, [], ◌∷◌, Option, None, Some, Result, Ok, Err}
+use Rattle.std.specs.Prelude.{◌≡◌, ◌≤◌, ℕ, max, List, [], None, Some, Ok, Err}
 use Rattle.std.proofs.Common.{sym, ap, ◌∙◌, arith}
 use Rattle.ntx_syntax.specs.declared.tree.Chunk.{Chunk}
 use Rattle.ntx_syntax.specs.declared.tree.Block.{Block}
 use Rattle.ntx_parse.specs.Words.{Word}
 use Rattle.ntx_parse.specs.Grammar.{Accepts, outermost}
 use Rattle.ntx_parse.specs.Reading.{Answer, Stop, and_then, readers, ended, script_by}
-use Rattle.ntx_parse.proofs.ComesLemmas.{Comes}
 use Rattle.ntx_parse.proofs.CompletePhrases.{block_read}
 
 pub complete : (words : List Word) (chunk : Chunk) → Accepts words chunk
