@@ -1,42 +1,18 @@
 -- What words begin with.
-use Rattle.std.specs.Prelude.{◌≡◌, ◌≤◌, ℕ, zero, suc, nat_eq, nat_le, Bool, true, false, List, [], ◌∷◌, map, ⊤}
+use Rattle.std.specs.Prelude.{◌≡◌, ◌≤◌, ℕ, nat_eq, nat_le, Bool, true, false, List, [], ◌∷◌, map, ⊤}
 use Rattle.std.proofs.Common.{refl, sym, ap, ◌∙◌, subst, le-leb, true≢false}
-use Rattle.std.proofs.lemmas.Bool.{eqb-true, eq-eqb}
+use Rattle.std.proofs.lemmas.Bool.{eq-eqb}
 use Rattle.ntx_parse.specs.declared.place.Place.{Place}
 use Rattle.ntx_parse.specs.declared.terminal.Terminal.{Terminal}
-use Rattle.ntx_parse.specs.declared.terminal.Terminal.TheVariants as terminal
 use Rattle.ntx_parse.specs.Words.{Word}
 use Rattle.ntx_parse.specs.Grammar.{Placed, Is, IsFine, NotBefore, max_nesting}
 use Rattle.ntx_parse.specs.Reading.{Answer, read, number, begins, taken, expected, and_then}
+use Rattle.ntx_parse.proofs.TerminalLemmas.{same_terminal}
 use Rattle.ntx_parse.proofs.ComesLemmas.{Comes, comes_now, comes_then}
 
 -- the words without their places
 abbrev pub plain : List Placed → List Word
 plain placed = map (λ o. o.word) placed
-
--- the terminal of this number
-abbrev numbered : ℕ → List Terminal → Terminal
-numbered n [] = terminal.Name
-numbered zero (t ∷ terminals) = t
-numbered (suc n) (t ∷ terminals) = numbered n terminals
-
-abbrev terminals : List Terminal
-terminals =
-    terminal.Name ∷ terminal.Numeral ∷ terminal.Text ∷ terminal.And ∷ terminal.Break ∷ terminal.Do ∷ terminal.Else ∷ terminal.Elseif ∷ terminal.End
-    ∷ terminal.False ∷ terminal.For ∷ terminal.Function ∷ terminal.Goto ∷ terminal.If ∷ terminal.In ∷ terminal.Local ∷ terminal.Nil ∷ terminal.Not
-    ∷ terminal.Or ∷ terminal.Repeat ∷ terminal.Return ∷ terminal.Then ∷ terminal.True ∷ terminal.Until ∷ terminal.While ∷ terminal.Plus ∷ terminal.Minus
-    ∷ terminal.Star ∷ terminal.DoubleSlash ∷ terminal.Percent ∷ terminal.Ampersand ∷ terminal.Tilde ∷ terminal.Bar ∷ terminal.ShiftLeft
-    ∷ terminal.ShiftRight ∷ terminal.Hash ∷ terminal.Equal ∷ terminal.NotEqual ∷ terminal.LessEqual ∷ terminal.GreaterEqual ∷ terminal.Less
-    ∷ terminal.Greater ∷ terminal.Assign ∷ terminal.LeftParenthesis ∷ terminal.RightParenthesis ∷ terminal.LeftBrace ∷ terminal.RightBrace
-    ∷ terminal.LeftBracket ∷ terminal.RightBracket ∷ terminal.Semicolon ∷ terminal.Comma ∷ terminal.Dot ∷ terminal.DoubleDot ∷ []
-
-numbered-number : (t : Terminal) → numbered (number t) terminals ≡ t
-numbered-number terminal.Name = refl
-numbered-number _ = refl
-
--- Terminals of one number are one terminal.
-pub number_tells : (t u : Terminal) → nat_eq (number t) (number u) ≡ true → t ≡ u
-number_tells t u e = sym (numbered-number t) ∙ (ap (λ n. numbered n terminals) (eqb-true (number t) (number u) e) ∙ numbered-number u)
 
 -- ---- what can be behind a phrase
 
@@ -86,7 +62,7 @@ pub is_other : {p : Place} {t : Terminal} {o : Placed} (u : Terminal) → Is p t
 is_other u i e = ap (λ s. nat_eq (number s) (number u)) i.is ∙ e
 
 other_than : (q : Terminal → Bool) (t u : Terminal) (b : Bool) → nat_eq (number t) (number u) ≡ b → q t ≡ true → q u ≡ false → b ≡ false
-other_than q t u true e h other = absurd (true≢false (sym h ∙ (ap q (number_tells t u e) ∙ other)))
+other_than q t u true e h other = absurd (true≢false (sym h ∙ (ap q (same_terminal t u e) ∙ other)))
 other_than q t u false e h other = refl
 
 -- What passes a test is none of those that do not.
@@ -95,7 +71,7 @@ not_begins q u [] other h = refl
 not_begins q u (o ∷ words) other h = other_than q o.word.is u (nat_eq (number o.word.is) (number u)) refl h other
 
 not_this : (t u : Terminal) (b : Bool) → nat_eq (number t) (number u) ≡ b → (t ≡ u → ⊥) → b ≡ false
-not_this t u true e other = absurd (other (number_tells t u e))
+not_this t u true e other = absurd (other (same_terminal t u e))
 not_this t u false e other = refl
 
 pub not_before : (u : Terminal) (words : List Placed) → NotBefore u words → begins u (plain words) ≡ false

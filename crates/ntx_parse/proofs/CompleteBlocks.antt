@@ -1,6 +1,7 @@
 -- Blocks are read.
 use Rattle.std.specs.Prelude.{◌≡◌, Bool, true, false, not, List, [], ◌∷◌, ◌++◌, Option, None, Some}
-use Rattle.std.proofs.Common.{refl, sym}
+use Rattle.std.proofs.Common.{refl}
+use Rattle.std.proofs.lemmas.Bool.{not-true}
 use Rattle.std.specs.List.{AllByRecursion}
 use Rattle.ntx_syntax.specs.declared.tree.Block.{roll-Block}
 use Rattle.ntx_syntax.specs.declared.tree.Return.{Return}
@@ -32,13 +33,9 @@ no_statement : (t : Terminal) → implies (ends_stats t) (not (begins_statement 
 no_statement terminal.Name = refl
 no_statement _ = refl
 
-not_true : (b : Bool) → not b ≡ true → b ≡ false
-not_true true h = sym h
-not_true false h = refl
-
 stats_end : {p : Place} (before : List Stat) (rest : List Placed) → Follows ends_stats rest → Comes (λ n. (readers n).stats p before (plain rest)) (read before (plain rest))
 stats_end before [] h = over_stats (comes_read _)
-stats_end before (o ∷ words) h = over_stats (comes_else _ (not_true (begins_statement o.word.is) (implied (no_statement o.word.is) h)) (comes_read _))
+stats_end before (o ∷ words) h = over_stats (comes_else _ (not-true (begins_statement o.word.is) (implied (no_statement o.word.is) h)) (comes_read _))
 
 pub no_stats_done : {p : Place} (rest : List Placed) → Follows ends_stats rest → AllByRecursion IsFine rest → StatsDone p [] rest rest
 no_stats_done rest h fine = record { comes = λ before. comes_as (stats_end before rest h) (all_before before (plain rest)); fine = fine }
@@ -63,7 +60,7 @@ returns_nothing_done p rest h fine = record { comes = comes_if _ (ends_here rest
 
 goes_on_here : (words : List Placed) → Starts begins_exp words → ends_returned (plain words) ≡ false
 goes_on_here [] h = elim h [ ]
-goes_on_here (o ∷ words) h = not_true (ends_return o.word.is) (implied (exp_begins_returned o.word.is) h)
+goes_on_here (o ∷ words) h = not-true (ends_return o.word.is) (implied (exp_begins_returned o.word.is) h)
 
 pub returns_done : {p : Place} {es : List Exp} {rest : List Placed} (words : List Placed) → Starts begins_exp words → ExpsDone p es (plain words) rest → ReturnedDone p es words rest
 returns_done words start d = record { comes = comes_else _ (goes_on_here words start) (exps_come d).comes; fine = d.fine }

@@ -1,4 +1,4 @@
--- What it is that a phrase is read.
+-- What is proved of each phrase that derives: what the reading of it comes to, and that the words behind it are fine.
 use Rattle.std.specs.Prelude.{◌≡◌, ℕ, List, [], ◌∷◌, ◌++◌, Some}
 use Rattle.std.proofs.Common.{sym, ap, append_assoc, append-nil}
 use Rattle.std.specs.List.{AllByRecursion}

@@ -1,6 +1,7 @@
 -- Statements are told apart, and assignments, calls and what follows a name are read.
-use Rattle.std.specs.Prelude.{◌≡◌, true, false, List, [], ◌∷◌, Option, None, Some}
+use Rattle.std.specs.Prelude.{◌≡◌, true, false, List, [], ◌∷◌, None, Some}
 use Rattle.std.proofs.Common.{sym, ap, subst, true≢false}
+use Rattle.std.proofs.lemmas.Option.{none-some, same_Some}
 use Rattle.std.specs.List.{AllByRecursion}
 use Rattle.ntx_syntax.specs.declared.tree.StatKind.{StatKind}
 use Rattle.ntx_syntax.specs.declared.tree.StatKind.TheVariants as stat
@@ -16,7 +17,8 @@ use Rattle.ntx_parse.specs.declared.terminal.Terminal.TheVariants as terminal
 use Rattle.ntx_parse.specs.Words.{Word}
 use Rattle.ntx_parse.specs.Grammar.{Placed, Is, IsFine, within}
 use Rattle.ntx_parse.specs.Reading.{Answer, read, begins, Readers, readers, read_arguments, var_of, joined, assignment_to, statement_of, read_expression_statement, kind_at, values_behind}
-use Rattle.ntx_parse.proofs.BeginsLemmas.{plain, is_this, Starts, number_tells, begins_here, comes_taken, comes_expected}
+use Rattle.ntx_parse.proofs.TerminalLemmas.{same_terminal}
+use Rattle.ntx_parse.proofs.BeginsLemmas.{plain, is_this, Starts, begins_here, comes_taken, comes_expected}
 use Rattle.ntx_parse.proofs.ComesLemmas.{Comes, comes_then, comes_now, comes_if, comes_else, comes_read}
 use Rattle.ntx_parse.proofs.FollowLemmas.{begins_prefix}
 use Rattle.ntx_parse.proofs.CompleteForms.{Done, ExpsDone, PrefixDone, VarsDone}
@@ -37,7 +39,7 @@ kind_is {p} {t} {o} {x} words i c = subst (λ t. Comes (λ n. kind_at (readers n
 pub kind_of_first : {x : Answer StatKind} (p : Place) (u : Terminal) (words : List Placed) → Starts (is_this u) words → Comes (λ n. kind_at (readers n) p u (plain words)) x
     → Comes (λ n. kind_first (readers n) p (plain words)) x
 kind_of_first p u [] h c = elim h [ ]
-kind_of_first {x} p u (o ∷ words) h c = subst (λ t. Comes (λ n. kind_at (readers n) p t (plain (o ∷ words))) x) (sym (number_tells o.word.is u h)) c
+kind_of_first {x} p u (o ∷ words) h c = subst (λ t. Comes (λ n. kind_at (readers n) p t (plain (o ∷ words))) x) (sym (same_terminal o.word.is u h)) c
 
 expression_at : {x : Answer StatKind} (p : Place) (words : List Word) (t : Terminal) → begins_prefix t ≡ true
     → Comes (λ n. read_expression_statement (readers n) p words) x → Comes (λ n. kind_at (readers n) p t words) x
@@ -50,25 +52,17 @@ expression_first : {x : Answer StatKind} (p : Place) (words : List Placed) → S
 expression_first p [] h c = elim h [ ]
 expression_first p (o ∷ words) h c = expression_at p (plain (o ∷ words)) o.word.is h c
 
-none_some : (v : Var) → None ≡ Some v → ⊥
-none_some v e = cc
-
-the_var : Var → Option Var → Var
-the_var v None = v
-the_var v (Some w) = w
-
 assigned : {x : Answer StatKind} (p : Place) (words : List Word) (v w : Var) → Some v ≡ Some w → Comes (λ n. assignment_to (readers n) p w words) x
     → Comes (λ n. assignment_to (readers n) p v words) x
-unfolding the_var
-assigned {x} p words v w e c = let same : v ≡ w = ap (the_var v) e in subst (λ u. Comes (λ n. assignment_to (readers n) p u words) x) (sym same) c
+assigned {x} p words v w e c = let same : v ≡ w = same_Some v w e in subst (λ u. Comes (λ n. assignment_to (readers n) p u words) x) (sym same) c
 
 statement_of_var : {x : Answer StatKind} (p : Place) (words : List Word) (found : Part) (v : Var) → var_of found ≡ Some v → Comes (λ n. assignment_to (readers n) p v words) x
     → Comes (λ n. statement_of (readers n) p found words) x
 statement_of_var p words (part.Name name) v e c = assigned p words (var.Name name) v e c
-statement_of_var p words (part.Parenthesized inner) v e c = absurd (none_some v e)
+statement_of_var p words (part.Parenthesized inner) v e c = absurd (none-some v e)
 statement_of_var p words (part.Index before key) v e c = assigned p words (var.Index before key) v e c
 statement_of_var p words (part.Field before name) v e c = assigned p words (var.Field before name) v e c
-statement_of_var p words (part.Call before given) v e c = absurd (none_some v e)
+statement_of_var p words (part.Call before given) v e c = absurd (none-some v e)
 
 pub assignment_done : {p : Place} {o : Placed} {vs : List Var} {es : List Exp} {rest : List Placed} (words middle : List Placed) → Starts begins_prefix words
     → VarsDone p vs (plain words) (o ∷ middle) → Is p terminal.Assign o → (AllByRecursion IsFine middle → ExpsDone p es (plain middle) rest)

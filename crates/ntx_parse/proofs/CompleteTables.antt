@@ -1,6 +1,7 @@
 -- Bodies of functions and fields of tables are read.
-use Rattle.std.specs.Prelude.{◌≡◌, nat_eq, Bool, true, false, ◌||◌, ◌&&◌, List, [], ◌∷◌, ◌++◌}
-use Rattle.std.proofs.Common.{refl, sym, true≢false}
+use Rattle.std.specs.Prelude.{◌≡◌, nat_eq, true, false, ◌||◌, List, [], ◌∷◌, ◌++◌}
+use Rattle.std.proofs.Common.{refl}
+use Rattle.std.proofs.lemmas.Bool.{and_from, or_from, or_left, or_right}
 use Rattle.std.specs.List.{AllByRecursion}
 use Rattle.ntx_syntax.specs.declared.tree.Block.{Block}
 use Rattle.ntx_syntax.specs.declared.tree.FunctionBody.{roll-FunctionBody}
@@ -48,14 +49,10 @@ keyed_done words middle start d a more =
       fine = found.fine;
     }
 
-two_tests : (a b : Bool) → a ≡ true → b ≡ true → (a && b) ≡ true
-two_tests true b h k = k
-two_tests false b h k = h
-
 pub named_done : {p : Place} {n a : Placed} {value : Exp} {rest : List Placed} (words : List Placed) → Is p terminal.Name n → Is p terminal.Assign a → IsFine n → IsFine a
     → ExpDone p precedence.Or value (plain words) rest → FieldDone p (field.Named n.word.spelled value) (n ∷ a ∷ words) rest
 named_done words n a fine_n fine_a d = record {
-  comes = comes_else _ (is_other terminal.LeftBracket n refl) (comes_if _ (two_tests _ _ (begins_here n) (begins_here a))
+  comes = comes_else _ (is_other terminal.LeftBracket n refl) (comes_if _ (and_from _ _ (begins_here n) (begins_here a))
       (comes_then _ (name_comes n fine_n) (comes_expected _ a fine_a (comes_then _ d.comes (comes_read _)))));
   fine = d.fine;
 }
@@ -81,32 +78,20 @@ no_fields_done rest start fine = record {
 no_brace : (words : List Placed) → Starts begins_field words → begins terminal.RightBrace (plain words) ≡ false
 no_brace words start = not_begins begins_field terminal.RightBrace words refl (starts_follows begins_field words start)
 
-neither : (a b : Bool) → a ≡ false → b ≡ false → (a || b) ≡ false
-neither true b h k = h
-neither false b h k = k
-
-first_of_two : (a b : Bool) → a ≡ true → (a || b) ≡ true
-first_of_two true b h = refl
-first_of_two false b h = absurd (true≢false (sym h))
-
-second_of_two : (a b : Bool) → b ≡ true → (a || b) ≡ true
-second_of_two true b h = refl
-second_of_two false b h = h
-
 pub last_field_done : {p : Place} {f : Field} (words rest : List Placed) → Starts begins_field words → FieldDone p f words rest → Starts (is_this terminal.RightBrace) rest
     → FieldsDone p (f ∷ []) words rest
 last_field_done words rest start d ends =
     let follow = starts_follows (is_this terminal.RightBrace) rest ends in
     record {
       comes = λ before. over_fields (comes_else _ (no_brace words start) (comes_then _ d.comes
-          (comes_else _ (neither _ _ (not_begins (is_this terminal.RightBrace) terminal.Comma rest refl follow) (not_begins (is_this terminal.RightBrace) terminal.Semicolon rest refl follow))
+          (comes_else _ (or_from _ _ (not_begins (is_this terminal.RightBrace) terminal.Comma rest refl follow) (not_begins (is_this terminal.RightBrace) terminal.Semicolon rest refl follow))
           (comes_read _))));
       fine = d.fine;
     }
 
 separates : {p : Place} {s : Placed} → IsSeparator p s → (nat_eq (number s.word.is) (number terminal.Comma) || nat_eq (number s.word.is) (number terminal.Semicolon)) ≡ true
-separates (comma i) = first_of_two _ _ (begins_here i)
-separates (semicolon_separator i) = second_of_two _ _ (begins_here i)
+separates (comma i) = or_left _ _ (begins_here i)
+separates (semicolon_separator i) = or_right _ _ (begins_here i)
 
 separator_taken : {p : Place} {s : Placed} (words : List Word) → IsSeparator p s → IsFine s → taken p (s.word ∷ words) ≡ read s.word words
 separator_taken words (comma i) fine = taken_here words i fine

@@ -1,6 +1,7 @@
 -- Which words name a field: an expression in front of them is none that begins so.
-use Rattle.std.specs.Prelude.{◌≡◌, nat_eq, Bool, true, false, ◌&&◌, List, ◌∷◌}
-use Rattle.std.proofs.Common.{refl, true≢false}
+use Rattle.std.specs.Prelude.{◌≡◌, nat_eq, false, List, ◌∷◌}
+use Rattle.std.proofs.Common.{refl}
+use Rattle.std.proofs.lemmas.Bool.{and_left, and_right}
 use Rattle.ntx_syntax.specs.declared.tree.BinaryOp.{BinaryOp}
 use Rattle.ntx_syntax.specs.declared.tree.BinaryOp.TheVariants as binary
 use Rattle.ntx_syntax.specs.declared.tree.UnaryOp.{UnaryOp}
@@ -17,18 +18,10 @@ use Rattle.ntx_parse.specs.Reading.{number, begins, names_a_field}
 use Rattle.ntx_parse.proofs.BeginsLemmas.{plain, is_this, is_other, not_begins, starts_follows}
 use Rattle.ntx_parse.proofs.StartLemmas.{index_starts, arguments_start}
 
-no_name : (b c : Bool) → b ≡ false → (b && c) ≡ false
-no_name true c h = absurd (true≢false h)
-no_name false c h = refl
-
-no_equals : (b c : Bool) → c ≡ false → (b && c) ≡ false
-no_equals true c h = h
-no_equals false c h = refl
-
 -- What begins with another word names no field.
 begins_other : {p : Place} {t : Terminal} {o : Placed} (words : List Placed) → Is p t o → nat_eq (number t) (number terminal.Name) ≡ false
     → names_a_field (plain (o ∷ words)) ≡ false
-begins_other words i e = no_name _ _ (is_other terminal.Name i e)
+begins_other words i e = and_left _ _ (is_other terminal.Name i e)
 
 binary_no_equals : (op : BinaryOp) → nat_eq (number (binary_terminal op)) (number terminal.Assign) ≡ false
 binary_no_equals binary.Or = refl
@@ -40,7 +33,7 @@ unary_no_name _ = refl
 
 prefix_names_none : {p : Place} {prefix : Prefix} {words rest : List Placed} → IsPrefix p prefix words rest → begins terminal.Assign (plain rest) ≡ false
     → names_a_field (plain words) ≡ false
-prefix_names_none (name_prefix n) h = no_equals _ _ h
+prefix_names_none (name_prefix n) h = and_right _ _ h
 prefix_names_none (index_prefix before key) h =
     prefix_names_none before (not_begins (is_this terminal.LeftBracket) terminal.Assign _ refl (starts_follows _ _ (index_starts key)))
 prefix_names_none (field_prefix before d n) h = prefix_names_none before (is_other terminal.Assign d refl)

@@ -1,7 +1,7 @@
 -- Operators in front of words.
-use Rattle.std.specs.Prelude.{◌≡◌, ◌≤◌, ◌<◌, ℕ, nat_eq, nat_lt, Bool, true, false, not, ◌&&◌, List, [], ◌∷◌, Option, None, Some}
+use Rattle.std.specs.Prelude.{◌≡◌, ◌≤◌, ◌<◌, ℕ, nat_eq, nat_lt, Bool, true, false, not, List, [], ◌∷◌, Option, None, Some}
 use Rattle.std.proofs.Common.{refl, sym, ap, ◌∙◌, arith, true≢false, lt-ltb, ltb-true, ltb-false, eq-eqb, eqb-true}
-use Rattle.std.proofs.lemmas.Bool.{cond-false, cond-true}
+use Rattle.std.proofs.lemmas.Bool.{and_from, and_parts, cond-false, cond-true}
 use Rattle.ntx_syntax.specs.declared.tree.BinaryOp.{BinaryOp}
 use Rattle.ntx_syntax.specs.declared.tree.BinaryOp.TheVariants as binary
 use Rattle.ntx_syntax.specs.declared.tree.UnaryOp.{UnaryOp}
@@ -43,18 +43,6 @@ operator_ends_operand _ = refl
 pub operator_is_no : (u : Terminal) → binary_of u ≡ None → (op : BinaryOp) → binary_terminal op ≡ u → ⊥
 operator_is_no u e op i = let same : Some op ≡ None = sym (operator_of op) ∙ (ap binary_of i ∙ e) in cc
 
-and_left : (a b : Bool) → (a && b) ≡ true → a ≡ true
-and_left true b h = refl
-and_left false b h = h
-
-and_right : (a b : Bool) → (a && b) ≡ true → b ≡ true
-and_right true b h = h
-and_right false b h = absurd (true≢false (sym h))
-
-both : (a b : Bool) → a ≡ true → b ≡ true → (a && b) ≡ true
-both true b h k = k
-both false b h k = h
-
 rank_rises : (at : Precedence) → nat_lt (rank (tighter at)) (rank at) ≡ false
 rank_rises precedence.Or = refl
 rank_rises _ = refl
@@ -69,9 +57,9 @@ binds_less-tighter at (Some op) h =
 -- What ends an expression ends those of its operands too.
 pub ends_tighter : (at : Precedence) (words : List Placed) → Follows (ends_exp at) words → Follows (ends_exp (tighter at)) words
 ends_tighter at [] h = tt
-ends_tighter at (o ∷ words) h = both (not (goes_on o.word.is)) (binds_less (tighter at) (binary_of o.word.is))
-    (and_left (not (goes_on o.word.is)) (binds_less at (binary_of o.word.is)) h)
-    (binds_less-tighter at (binary_of o.word.is) (and_right (not (goes_on o.word.is)) (binds_less at (binary_of o.word.is)) h))
+ends_tighter at (o ∷ words) h = and_from (not (goes_on o.word.is)) (binds_less (tighter at) (binary_of o.word.is))
+    (and_parts (not (goes_on o.word.is)) (binds_less at (binary_of o.word.is)) h).0
+    (binds_less-tighter at (binary_of o.word.is) (and_parts (not (goes_on o.word.is)) (binds_less at (binary_of o.word.is)) h).1)
 
 different : (a b : ℕ) (t : Bool) → nat_eq a b ≡ t → a < b → t ≡ false
 different a b true e h = let same : a ≡ b = eqb-true a b e in absurd (omega arith)
@@ -87,7 +75,7 @@ not_of_precedence at (Some op) h = cond-false (nat_eq (rank (binary_precedence o
 pub no_operator_at : (at : Precedence) (words : List Placed) → Follows (ends_exp at) words → operator_at at (plain words) ≡ None
 no_operator_at at [] h = refl
 no_operator_at at (o ∷ words) h =
-    not_of_precedence at (binary_of o.word.is) (and_right (not (goes_on o.word.is)) (binds_less at (binary_of o.word.is)) h)
+    not_of_precedence at (binary_of o.word.is) (and_parts (not (goes_on o.word.is)) (binds_less at (binary_of o.word.is)) h).1
 
 pub operator_at_here : {p : Place} {o : Placed} (at : Precedence) (op : BinaryOp) (words : List Word)
     → Is p (binary_terminal op) o → binary_precedence op ≡ at → operator_at at (o.word ∷ words) ≡ Some op
