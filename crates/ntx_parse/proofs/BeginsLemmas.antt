@@ -1,14 +1,15 @@
 -- What words begin with.
-use Rattle.std.specs.Prelude.{◌≡◌, ◌≤◌, ℕ, nat_eq, nat_le, Bool, true, false, List, [], ◌∷◌, map, ⊤}
+use Rattle.std.specs.Prelude.{◌≡◌, ◌≤◌, ℕ, nat_eq, nat_le, Bool, true, false, List, [], ◌∷◌, map, ⊤, if◌then◌else◌}
 use Rattle.std.proofs.Common.{refl, sym, ap, ◌∙◌, subst, le-leb, true≢false}
 use Rattle.std.proofs.lemmas.Bool.{eq-eqb}
+use Rattle.ntx_syntax.specs.declared.fault.SyntaxWhy.TheVariants as why
 use Rattle.ntx_parse.specs.declared.place.Place.{Place}
 use Rattle.ntx_parse.specs.declared.terminal.Terminal.{Terminal}
 use Rattle.ntx_parse.specs.Words.{Word}
 use Rattle.ntx_parse.specs.Grammar.{Placed, Is, IsFine, NotBefore, max_nesting}
-use Rattle.ntx_parse.specs.Reading.{Answer, read, number, begins, taken, expected, and_then}
+use Rattle.ntx_parse.specs.Reading.{Answer, read, stopped, number, begins, taken, expected, and_then}
 use Rattle.ntx_parse.proofs.TerminalLemmas.{same_terminal}
-use Rattle.ntx_parse.proofs.ComesLemmas.{Comes, comes_now, comes_then}
+use Rattle.ntx_parse.proofs.ComesLemmas.{Fine, is_fine, is_bad, IsOrStops, told, stops, Comes, comes_at_once, comes_then}
 
 -- the words without their places
 abbrev pub plain : List Placed → List Word
@@ -84,20 +85,29 @@ deep_enough : (p q : Place) → q.nesting ≤ max_nesting → q ≡ p → nat_le
 deep_enough p q h e = le-leb p.nesting max_nesting (subst (λ place. place.nesting ≤ max_nesting) e h)
 
 -- A word that stands where it is taken is taken.
-pub taken_here : {p : Place} {t : Terminal} {o : Placed} (words : List Word) → Is p t o → IsFine o → taken p (o.word ∷ words) ≡ read o.word words
+taken_here : {p : Place} {t : Terminal} {o : Placed} (words : List Word) → Is p t o → IsFine o → taken p (o.word ∷ words) ≡ read o.word words
 taken_here {p} {t} {o} words i fine = rw (deep_enough p o.place fine.nesting i.place)
 
 pub begins_here : {p : Place} {t : Terminal} {o : Placed} → Is p t o → nat_eq (number o.word.is) (number t) ≡ true
 begins_here {p} {t} {o} i = eq-eqb (number o.word.is) (number t) (ap number i.is)
 
-pub expected_here : {p : Place} {t : Terminal} {o : Placed} (words : List Word) → Is p t o → IsFine o → expected p t (o.word ∷ words) ≡ read o.word words
-expected_here {p} {t} {o} words i fine = rw (begins_here i) (taken_here words i fine)
+taken_or : {Bad : Type 0} (bad : Bad) (o : Word) (words : List Word) (fits : Bool) → IsOrStops Bad (if fits then read o words else stopped why.Depth (o ∷ words)) (read o words)
+taken_or bad o words true = told refl
+taken_or bad o words false = stops bad (record { why = why.Depth; words = o ∷ words }) (λ e. absurd cc) refl
+
+pub taken_is : {Bad : Type 0} {p : Place} {t : Terminal} {o : Placed} (words : List Word) → Is p t o → Fine Bad o → IsOrStops Bad (taken p (o.word ∷ words)) (read o.word words)
+taken_is words i (is_fine fine) = told (taken_here words i fine)
+taken_is {p = p} {o = o} words i (is_bad bad) = taken_or bad o.word words (nat_le p.nesting max_nesting)
+
+expected_is : {Bad : Type 0} {p : Place} {t : Terminal} {o : Placed} (words : List Word) → Is p t o → Fine Bad o → IsOrStops Bad (expected p t (o.word ∷ words)) (read o.word words)
+expected_is {Bad} {p} {t} {o} words i fine =
+    subst (λ b. IsOrStops Bad (if b then taken p (o.word ∷ words) else stopped why.Expected (o.word ∷ words)) (read o.word words)) (sym (begins_here i)) (taken_is words i fine)
 
 -- A word that is there is taken, and what is behind it is read.
-pub comes_taken : {A : Type 0} {p : Place} {t : Terminal} {o : Placed} {words : List Word} {x : Answer A} (g : ℕ → Word → List Word → Answer A)
-    → Is p t o → IsFine o → Comes (λ n. g n o.word words) x → Comes (λ n. and_then (taken p (o.word ∷ words)) (g n)) x
-comes_taken g i fine c = comes_then g (comes_now (taken_here _ i fine)) c
+pub comes_taken : {Bad A : Type 0} {p : Place} {t : Terminal} {o : Placed} {words : List Word} {x : Answer A} (g : ℕ → Word → List Word → Answer A)
+    → Is p t o → Fine Bad o → Comes Bad (λ n. g n o.word words) x → Comes Bad (λ n. and_then (taken p (o.word ∷ words)) (g n)) x
+comes_taken g i fine c = comes_then g (comes_at_once (taken_is _ i fine)) c
 
-pub comes_expected : {A : Type 0} {p : Place} {t : Terminal} {o : Placed} {words : List Word} {x : Answer A} (g : ℕ → Word → List Word → Answer A)
-    → Is p t o → IsFine o → Comes (λ n. g n o.word words) x → Comes (λ n. and_then (expected p t (o.word ∷ words)) (g n)) x
-comes_expected g i fine c = comes_then g (comes_now (expected_here _ i fine)) c
+pub comes_expected : {Bad A : Type 0} {p : Place} {t : Terminal} {o : Placed} {words : List Word} {x : Answer A} (g : ℕ → Word → List Word → Answer A)
+    → Is p t o → Fine Bad o → Comes Bad (λ n. g n o.word words) x → Comes Bad (λ n. and_then (expected p t (o.word ∷ words)) (g n)) x
+comes_expected g i fine c = comes_then g (comes_at_once (expected_is _ i fine)) c

@@ -15,21 +15,21 @@ use Rattle.ntx_parse.specs.declared.precedence.Precedence.TheVariants as precede
 use Rattle.ntx_parse.specs.declared.terminal.Terminal.{Terminal}
 use Rattle.ntx_parse.specs.declared.terminal.Terminal.TheVariants as terminal
 use Rattle.ntx_parse.specs.Words.{Word}
-use Rattle.ntx_parse.specs.Grammar.{Placed, Is, IsFine, within, with_suffix}
+use Rattle.ntx_parse.specs.Grammar.{Placed, Is, within, with_suffix}
 use Rattle.ntx_parse.specs.Reading.{Answer, read, begins, readers, read_prefix, read_index, read_arguments, read_exps, joined, as_var}
 use Rattle.ntx_parse.proofs.BeginsLemmas.{plain, is_this, Starts, starts_follows, begins_here, is_other, not_begins, starts_begin, comes_taken, comes_expected}
-use Rattle.ntx_parse.proofs.ComesLemmas.{Comes, comes_as, comes_then, comes_now, comes_if, comes_else, comes_read, over_exps, over_vars, over_suffixes}
+use Rattle.ntx_parse.proofs.ComesLemmas.{Fine, Comes, comes_as, comes_then, comes_now, comes_if, comes_else, comes_read, over_exps, over_vars, over_suffixes}
 use Rattle.ntx_parse.proofs.FollowLemmas.{begins_exp}
 use Rattle.ntx_parse.proofs.CompleteForms.{Done, ExpDone, ExpsDone, PrefixDone, VarDone, VarsDone, one_more}
 use Rattle.ntx_parse.proofs.CompleteNames.{name_comes}
 
 -- ---- lists of expressions
 
-exps_end : {p : Place} {words : List Word} (before : List Exp) → begins terminal.Comma words ≡ false → Comes (λ n. (readers n).exps p before words) (read before words)
+exps_end : {Bad : Type 0} {p : Place} {words : List Word} (before : List Exp) → begins terminal.Comma words ≡ false → Comes Bad (λ n. (readers n).exps p before words) (read before words)
 exps_end before h = over_exps (comes_else _ h (comes_read _))
 
-pub one_exp_done : {p : Place} {e : Exp} {words : List Word} {rest : List Placed} → ExpDone p precedence.Or e words rest → begins terminal.Comma (plain rest) ≡ false
-    → ExpsDone p (e ∷ []) words rest
+pub one_exp_done : {Bad : Type 0} {p : Place} {e : Exp} {words : List Word} {rest : List Placed} → ExpDone Bad p precedence.Or e words rest → begins terminal.Comma (plain rest) ≡ false
+    → ExpsDone Bad p (e ∷ []) words rest
 one_exp_done {e = e} {rest = rest} d h = record {
   one = e;
   behind = plain rest;
@@ -38,8 +38,8 @@ one_exp_done {e = e} {rest = rest} d h = record {
   fine = d.fine;
 }
 
-pub more_exps_done : {p : Place} {c : Placed} {e : Exp} {es : List Exp} {words : List Word} {rest : List Placed} (middle : List Placed) → ExpDone p precedence.Or e words (c ∷ middle)
-    → Is p terminal.Comma c → (AllByRecursion IsFine middle → ExpsDone p es (plain middle) rest) → ExpsDone p (e ∷ es) words rest
+pub more_exps_done : {Bad : Type 0} {p : Place} {c : Placed} {e : Exp} {es : List Exp} {words : List Word} {rest : List Placed} (middle : List Placed) → ExpDone Bad p precedence.Or e words (c ∷ middle)
+    → Is p terminal.Comma c → (AllByRecursion (Fine Bad) middle → ExpsDone Bad p es (plain middle) rest) → ExpsDone Bad p (e ∷ es) words rest
 more_exps_done {c = c} {e = e} {es = es} {rest = rest} middle d is_comma more =
     let others = more d.fine.1 in
     record {
@@ -52,22 +52,22 @@ more_exps_done {c = c} {e = e} {es = es} {rest = rest} middle d is_comma more =
     }
 
 -- explist
-pub exps_come : {p : Place} {es : List Exp} {words : List Word} {rest : List Placed} → ExpsDone p es words rest → Done (λ n. read_exps (readers n) p words) es rest
+pub exps_come : {Bad : Type 0} {p : Place} {es : List Exp} {words : List Word} {rest : List Placed} → ExpsDone Bad p es words rest → Done Bad (λ n. read_exps (readers n) p words) es rest
 exps_come d = record { comes = comes_then _ d.comes (d.tail []); fine = d.fine }
 
 -- ---- parts in brackets
 
-pub index_done : {p : Place} {o c : Placed} {key : Exp} {words : List Word} {rest : List Placed} → Is p terminal.LeftBracket o → IsFine o
-    → ExpDone p precedence.Or key words (c ∷ rest) → Is p terminal.RightBracket c → Done (λ n. read_index (readers n) p (o.word ∷ words)) key rest
+pub index_done : {Bad : Type 0} {p : Place} {o c : Placed} {key : Exp} {words : List Word} {rest : List Placed} → Is p terminal.LeftBracket o → Fine Bad o
+    → ExpDone Bad p precedence.Or key words (c ∷ rest) → Is p terminal.RightBracket c → Done Bad (λ n. read_index (readers n) p (o.word ∷ words)) key rest
 index_done o fine d c = record { comes = comes_expected _ o fine (comes_then _ d.comes (comes_expected _ c d.fine.0 (comes_read _))); fine = d.fine.1 }
 
-pub no_arguments_done : {p : Place} {o c : Placed} {rest : List Placed} → Is p terminal.LeftParenthesis o → Is p terminal.RightParenthesis c
-    → AllByRecursion IsFine (o ∷ c ∷ rest) → Done (λ n. read_arguments (readers n) p (plain (o ∷ c ∷ rest))) [] rest
+pub no_arguments_done : {Bad : Type 0} {p : Place} {o c : Placed} {rest : List Placed} → Is p terminal.LeftParenthesis o → Is p terminal.RightParenthesis c
+    → AllByRecursion (Fine Bad) (o ∷ c ∷ rest) → Done Bad (λ n. read_arguments (readers n) p (plain (o ∷ c ∷ rest))) [] rest
 no_arguments_done o c fine = record { comes = comes_expected _ o fine.0 (comes_if _ (begins_here c) (comes_taken _ c fine.1.0 (comes_read _))); fine = fine.1.1 }
 
-pub arguments_done : {p : Place} {o c : Placed} {es : List Exp} {rest : List Placed} (words : List Placed) → Is p terminal.LeftParenthesis o → IsFine o
-    → Starts begins_exp words → ExpsDone p es (plain words) (c ∷ rest) → Is p terminal.RightParenthesis c
-    → Done (λ n. read_arguments (readers n) p (plain (o ∷ words))) es rest
+pub arguments_done : {Bad : Type 0} {p : Place} {o c : Placed} {es : List Exp} {rest : List Placed} (words : List Placed) → Is p terminal.LeftParenthesis o → Fine Bad o
+    → Starts begins_exp words → ExpsDone Bad p es (plain words) (c ∷ rest) → Is p terminal.RightParenthesis c
+    → Done Bad (λ n. read_arguments (readers n) p (plain (o ∷ words))) es rest
 arguments_done words o fine start d c =
     let all = exps_come d in
     record {
@@ -84,7 +84,7 @@ pub record NoSuffix (words : List Word) : Type 0 where
   pub dot : begins terminal.Dot words ≡ false
   pub parenthesis : begins terminal.LeftParenthesis words ≡ false
 
-pub suffixes_end : {p : Place} {words : List Word} (found : Part) → NoSuffix words → Comes (λ n. (readers n).suffixes p found words) (read found words)
+pub suffixes_end : {Bad : Type 0} {p : Place} {words : List Word} (found : Part) → NoSuffix words → Comes Bad (λ n. (readers n).suffixes p found words) (read found words)
 suffixes_end found h = over_suffixes (comes_else _ h.bracket (comes_else _ h.dot (comes_else _ h.parenthesis (comes_read _))))
 
 pub no_suffix_here : {p : Place} {t : Terminal} {o : Placed} {words : List Word} → Is p t o → is_this terminal.LeftBracket t ≡ false → is_this terminal.Dot t ≡ false
@@ -95,34 +95,34 @@ no_suffix_here o a b c = record {
   parenthesis = is_other terminal.LeftParenthesis o c;
 }
 
-index_goes_on : {p : Place} {before : Part} {key : Exp} {rest : List Placed} {x : Answer Part} (middle : List Placed) → Starts (is_this terminal.LeftBracket) middle
-    → Done (λ n. read_index (readers n) (within p) (plain middle)) key rest
-    → Comes (λ n. (readers n).suffixes p (part.Index (joined before) key) (plain rest)) x → Comes (λ n. (readers n).suffixes p before (plain middle)) x
+index_goes_on : {Bad : Type 0} {p : Place} {before : Part} {key : Exp} {rest : List Placed} {x : Answer Part} (middle : List Placed) → Starts (is_this terminal.LeftBracket) middle
+    → Done Bad (λ n. read_index (readers n) (within p) (plain middle)) key rest
+    → Comes Bad (λ n. (readers n).suffixes p (part.Index (joined before) key) (plain rest)) x → Comes Bad (λ n. (readers n).suffixes p before (plain middle)) x
 index_goes_on middle start d h = over_suffixes (comes_if _ (starts_begin terminal.LeftBracket middle start) (comes_then _ d.comes h))
 
-field_goes_on : {p : Place} {before : Part} {d n : Placed} {x : Answer Part} (rest : List Placed) → Is p terminal.Dot d → Is p terminal.Name n
-    → AllByRecursion IsFine (d ∷ n ∷ rest) → Comes (λ k. (readers k).suffixes p (part.Field (joined before) n.word.spelled) (plain rest)) x
-    → Comes (λ k. (readers k).suffixes p before (plain (d ∷ n ∷ rest))) x
+field_goes_on : {Bad : Type 0} {p : Place} {before : Part} {d n : Placed} {x : Answer Part} (rest : List Placed) → Is p terminal.Dot d → Is p terminal.Name n
+    → AllByRecursion (Fine Bad) (d ∷ n ∷ rest) → Comes Bad (λ k. (readers k).suffixes p (part.Field (joined before) n.word.spelled) (plain rest)) x
+    → Comes Bad (λ k. (readers k).suffixes p before (plain (d ∷ n ∷ rest))) x
 field_goes_on rest d n fine h = over_suffixes (comes_else _ (is_other terminal.LeftBracket d refl) (comes_if _ (begins_here d)
     (comes_taken _ d fine.0 (comes_then _ (name_comes n fine.1.0) h))))
 
-pub call_goes_on : {p : Place} {before : Part} {es : List Exp} {rest : List Placed} {x : Answer Part} (middle : List Placed) → Starts (is_this terminal.LeftParenthesis) middle
-    → Done (λ n. read_arguments (readers n) (within p) (plain middle)) es rest
-    → Comes (λ n. (readers n).suffixes p (part.Call (joined before) es) (plain rest)) x → Comes (λ n. (readers n).suffixes p before (plain middle)) x
+pub call_goes_on : {Bad : Type 0} {p : Place} {before : Part} {es : List Exp} {rest : List Placed} {x : Answer Part} (middle : List Placed) → Starts (is_this terminal.LeftParenthesis) middle
+    → Done Bad (λ n. read_arguments (readers n) (within p) (plain middle)) es rest
+    → Comes Bad (λ n. (readers n).suffixes p (part.Call (joined before) es) (plain rest)) x → Comes Bad (λ n. (readers n).suffixes p before (plain middle)) x
 call_goes_on middle start d h =
     let follow = starts_follows (is_this terminal.LeftParenthesis) middle start in
     over_suffixes (comes_else _ (not_begins (is_this terminal.LeftParenthesis) terminal.LeftBracket middle refl follow)
     (comes_else _ (not_begins (is_this terminal.LeftParenthesis) terminal.Dot middle refl follow)
     (comes_if _ (starts_begin terminal.LeftParenthesis middle start) (comes_then _ d.comes h))))
 
-name_goes_on : {p : Place} {n : Placed} {x : Answer Part} (rest : List Placed) → Is p terminal.Name n → AllByRecursion IsFine (n ∷ rest)
-    → Comes (λ k. (readers k).suffixes p (part.Name n.word.spelled) (plain rest)) x → Comes (λ k. read_prefix (readers k) p (plain (n ∷ rest))) x
+name_goes_on : {Bad : Type 0} {p : Place} {n : Placed} {x : Answer Part} (rest : List Placed) → Is p terminal.Name n → AllByRecursion (Fine Bad) (n ∷ rest)
+    → Comes Bad (λ k. (readers k).suffixes p (part.Name n.word.spelled) (plain rest)) x → Comes Bad (λ k. read_prefix (readers k) p (plain (n ∷ rest))) x
 name_goes_on rest n fine h = comes_else _ (is_other terminal.LeftParenthesis n refl) (comes_then _ (name_comes n fine.0) h)
 
 -- ---- prefixes
 
-pub name_prefix_done : {p : Place} {n : Placed} {rest : List Placed} → Is p terminal.Name n → AllByRecursion IsFine (n ∷ rest)
-    → PrefixDone p (record { head = head.Name n.word.spelled; suffixes = [] }) (plain (n ∷ rest)) rest
+pub name_prefix_done : {Bad : Type 0} {p : Place} {n : Placed} {rest : List Placed} → Is p terminal.Name n → AllByRecursion (Fine Bad) (n ∷ rest)
+    → PrefixDone Bad p (record { head = head.Name n.word.spelled; suffixes = [] }) (plain (n ∷ rest)) rest
 name_prefix_done {n = n} {rest = rest} is_name fine = record {
   part = part.Name n.word.spelled;
   joins = refl;
@@ -130,9 +130,9 @@ name_prefix_done {n = n} {rest = rest} is_name fine = record {
   fine = fine.1;
 }
 
-pub index_prefix_done : {p : Place} {prefix : Prefix} {key : Exp} {words : List Word} {rest : List Placed} (middle : List Placed) → Starts (is_this terminal.LeftBracket) middle
-    → PrefixDone p prefix words middle → (AllByRecursion IsFine middle → Done (λ n. read_index (readers n) (within p) (plain middle)) key rest)
-    → PrefixDone p (with_suffix prefix (suffix.Index key)) words rest
+pub index_prefix_done : {Bad : Type 0} {p : Place} {prefix : Prefix} {key : Exp} {words : List Word} {rest : List Placed} (middle : List Placed) → Starts (is_this terminal.LeftBracket) middle
+    → PrefixDone Bad p prefix words middle → (AllByRecursion (Fine Bad) middle → Done Bad (λ n. read_index (readers n) (within p) (plain middle)) key rest)
+    → PrefixDone Bad p (with_suffix prefix (suffix.Index key)) words rest
 index_prefix_done {key = key} middle start before inside =
     let found = inside before.fine in
     record {
@@ -142,8 +142,8 @@ index_prefix_done {key = key} middle start before inside =
       fine = found.fine;
     }
 
-pub field_prefix_done : {p : Place} {d n : Placed} {prefix : Prefix} {words : List Word} {rest : List Placed} → PrefixDone p prefix words (d ∷ n ∷ rest)
-    → Is p terminal.Dot d → Is p terminal.Name n → PrefixDone p (with_suffix prefix (suffix.Field n.word.spelled)) words rest
+pub field_prefix_done : {Bad : Type 0} {p : Place} {d n : Placed} {prefix : Prefix} {words : List Word} {rest : List Placed} → PrefixDone Bad p prefix words (d ∷ n ∷ rest)
+    → Is p terminal.Dot d → Is p terminal.Name n → PrefixDone Bad p (with_suffix prefix (suffix.Field n.word.spelled)) words rest
 field_prefix_done {n = n} {rest = rest} before is_dot is_name = record {
   part = part.Field (joined before.part) n.word.spelled;
   joins = ap (λ q. with_suffix q (suffix.Field n.word.spelled)) before.joins;
@@ -151,9 +151,9 @@ field_prefix_done {n = n} {rest = rest} before is_dot is_name = record {
   fine = before.fine.1.1;
 }
 
-pub call_prefix_done : {p : Place} {prefix : Prefix} {es : List Exp} {words : List Word} {rest : List Placed} (middle : List Placed) → Starts (is_this terminal.LeftParenthesis) middle
-    → PrefixDone p prefix words middle → (AllByRecursion IsFine middle → Done (λ n. read_arguments (readers n) (within p) (plain middle)) es rest)
-    → PrefixDone p (with_suffix prefix (suffix.Call es)) words rest
+pub call_prefix_done : {Bad : Type 0} {p : Place} {prefix : Prefix} {es : List Exp} {words : List Word} {rest : List Placed} (middle : List Placed) → Starts (is_this terminal.LeftParenthesis) middle
+    → PrefixDone Bad p prefix words middle → (AllByRecursion (Fine Bad) middle → Done Bad (λ n. read_arguments (readers n) (within p) (plain middle)) es rest)
+    → PrefixDone Bad p (with_suffix prefix (suffix.Call es)) words rest
 call_prefix_done {es = es} middle start before inside =
     let found = inside before.fine in
     record {
@@ -163,9 +163,9 @@ call_prefix_done {es = es} middle start before inside =
       fine = found.fine;
     }
 
-pub parenthesized_done : {p : Place} {o c : Placed} {e : Exp} {words : List Word} {rest : List Placed} → Is (within p) terminal.LeftParenthesis o → IsFine o
-    → ExpDone (within p) precedence.Or e words (c ∷ rest) → Is (within p) terminal.RightParenthesis c
-    → PrefixDone p (record { head = head.Parenthesized e; suffixes = [] }) (o.word ∷ words) rest
+pub parenthesized_done : {Bad : Type 0} {p : Place} {o c : Placed} {e : Exp} {words : List Word} {rest : List Placed} → Is (within p) terminal.LeftParenthesis o → Fine Bad o
+    → ExpDone Bad (within p) precedence.Or e words (c ∷ rest) → Is (within p) terminal.RightParenthesis c
+    → PrefixDone Bad p (record { head = head.Parenthesized e; suffixes = [] }) (o.word ∷ words) rest
 parenthesized_done {e = e} o fine d c = record {
   part = part.Parenthesized e;
   joins = refl;
@@ -175,8 +175,8 @@ parenthesized_done {e = e} o fine d c = record {
 
 -- ---- what is assigned to
 
-pub name_var_done : {p : Place} {n : Placed} {rest : List Placed} → Is p terminal.Name n → AllByRecursion IsFine (n ∷ rest)
-    → VarDone p (var.Name n.word.spelled) (plain (n ∷ rest)) rest
+pub name_var_done : {Bad : Type 0} {p : Place} {n : Placed} {rest : List Placed} → Is p terminal.Name n → AllByRecursion (Fine Bad) (n ∷ rest)
+    → VarDone Bad p (var.Name n.word.spelled) (plain (n ∷ rest)) rest
 name_var_done {n = n} {rest = rest} is_name fine = record {
   part = part.Name n.word.spelled;
   is_var = refl;
@@ -184,9 +184,9 @@ name_var_done {n = n} {rest = rest} is_name fine = record {
   fine = fine.1;
 }
 
-pub index_var_done : {p : Place} {prefix : Prefix} {key : Exp} {words : List Word} {rest : List Placed} (middle : List Placed) → Starts (is_this terminal.LeftBracket) middle
-    → PrefixDone p prefix words middle → (AllByRecursion IsFine middle → Done (λ n. read_index (readers n) (within p) (plain middle)) key rest)
-    → VarDone p (var.Index prefix key) words rest
+pub index_var_done : {Bad : Type 0} {p : Place} {prefix : Prefix} {key : Exp} {words : List Word} {rest : List Placed} (middle : List Placed) → Starts (is_this terminal.LeftBracket) middle
+    → PrefixDone Bad p prefix words middle → (AllByRecursion (Fine Bad) middle → Done Bad (λ n. read_index (readers n) (within p) (plain middle)) key rest)
+    → VarDone Bad p (var.Index prefix key) words rest
 index_var_done {key = key} middle start before inside =
     let found = inside before.fine in
     record {
@@ -196,8 +196,8 @@ index_var_done {key = key} middle start before inside =
       fine = found.fine;
     }
 
-pub field_var_done : {p : Place} {d n : Placed} {prefix : Prefix} {words : List Word} {rest : List Placed} → PrefixDone p prefix words (d ∷ n ∷ rest)
-    → Is p terminal.Dot d → Is p terminal.Name n → VarDone p (var.Field prefix n.word.spelled) words rest
+pub field_var_done : {Bad : Type 0} {p : Place} {d n : Placed} {prefix : Prefix} {words : List Word} {rest : List Placed} → PrefixDone Bad p prefix words (d ∷ n ∷ rest)
+    → Is p terminal.Dot d → Is p terminal.Name n → VarDone Bad p (var.Field prefix n.word.spelled) words rest
 field_var_done {n = n} {rest = rest} before is_dot is_name = record {
   part = part.Field (joined before.part) n.word.spelled;
   is_var = ap (λ q. Some (var.Field q n.word.spelled)) before.joins;
@@ -205,11 +205,11 @@ field_var_done {n = n} {rest = rest} before is_dot is_name = record {
   fine = before.fine.1.1;
 }
 
-vars_end : {p : Place} {words : List Word} (before : List Var) → begins terminal.Comma words ≡ false → Comes (λ n. (readers n).vars p before words) (read before words)
+vars_end : {Bad : Type 0} {p : Place} {words : List Word} (before : List Var) → begins terminal.Comma words ≡ false → Comes Bad (λ n. (readers n).vars p before words) (read before words)
 vars_end before h = over_vars (comes_else _ h (comes_read _))
 
-pub one_var_done : {p : Place} {v : Var} {words : List Word} {rest : List Placed} → VarDone p v words rest → NoSuffix (plain rest) → begins terminal.Comma (plain rest) ≡ false
-    → VarsDone p (v ∷ []) words rest
+pub one_var_done : {Bad : Type 0} {p : Place} {v : Var} {words : List Word} {rest : List Placed} → VarDone Bad p v words rest → NoSuffix (plain rest) → begins terminal.Comma (plain rest) ≡ false
+    → VarsDone Bad p (v ∷ []) words rest
 one_var_done {v = v} {rest = rest} d ends h = record {
   part = d.part;
   one = v;
@@ -220,8 +220,8 @@ one_var_done {v = v} {rest = rest} d ends h = record {
   fine = d.fine;
 }
 
-pub more_vars_done : {p : Place} {c : Placed} {v : Var} {vs : List Var} {words : List Word} {rest : List Placed} (middle : List Placed) → VarDone p v words (c ∷ middle)
-    → Is p terminal.Comma c → (AllByRecursion IsFine middle → VarsDone p vs (plain middle) rest) → VarsDone p (v ∷ vs) words rest
+pub more_vars_done : {Bad : Type 0} {p : Place} {c : Placed} {v : Var} {vs : List Var} {words : List Word} {rest : List Placed} (middle : List Placed) → VarDone Bad p v words (c ∷ middle)
+    → Is p terminal.Comma c → (AllByRecursion (Fine Bad) middle → VarsDone Bad p vs (plain middle) rest) → VarsDone Bad p (v ∷ vs) words rest
 more_vars_done {c = c} {v = v} {vs = vs} {rest = rest} middle d is_comma more =
     let others = more d.fine.1 in
     record {

@@ -1,4 +1,5 @@
 pub mod BeginsLemmas
+pub mod Cannot
 pub mod ComesLemmas
 pub mod Complete
 pub mod CompleteBlocks
