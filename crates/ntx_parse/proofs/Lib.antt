@@ -1,3 +1,4 @@
+pub mod AtEnd
 pub mod BeginsLemmas
 pub mod Cannot
 pub mod ComesLemmas

@@ -34,7 +34,7 @@ up_to those these = record {
   Alike = Same those these;
   shorter = λ h. omega arith;
   stops = λ h _. h;
-  deep = λ h e. absurd cc;
+  deep = λ same h e. absurd cc;
   begin = begin_up_to;
 }
 

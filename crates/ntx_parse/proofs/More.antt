@@ -22,7 +22,7 @@ all_words = record {
   Alike = λ words others. words ≡ others;
   shorter = λ h. h;
   stops = λ h. h;
-  deep = λ h. absurd h;
+  deep = λ same h. absurd h;
   begin = λ {words} same. subst (λ others. Begin (λ words. ⊥) (λ words others. words ≡ others) words others) same (begin_same words);
 }
 

@@ -28,7 +28,7 @@ go_nothing = record {
   exp = λ p at h. goes_nothing;
   operations = λ p at before h. goes_nothing;
   fields = λ p before h. goes_nothing;
-  named = λ p at o words e l. goes_nothing;
+  named = λ p at o words e others same l. goes_nothing;
 }
 
 pub go_over : {V : View} {r other : Readers} → Go V r other → Go V (over r) (over other)
@@ -44,7 +44,7 @@ go_over g = record {
   exp = λ p at h. goes_exp g p at h;
   operations = λ p at before h. goes_operations g p at before h;
   fields = λ p before h. goes_fields g p before h;
-  named = λ p at o words e l. lost_exp g o words e l p at;
+  named = λ p at o words e others same l. lost_exp g o words e others same l p at;
 }
 
 -- The first with calls of this depth go beside the others with calls as deep or deeper.

@@ -16,7 +16,8 @@ use Rattle.ntx_parse.specs.Words.{Word}
 use Rattle.ntx_parse.specs.Reading.{Readers, number, read_name, read_local_name, path_behind, names_behind, read_names, exps_behind, read_exps}
 use Rattle.ntx_parse.proofs.Views.{View, Situation, lost, At, Goes, goes_read, goes_then, goes_where, goes_taken, goes_expected}
 
--- Each reading of the first tells what that of the second tells. An expression that begins with a name takes it, or stops at it because it lies too deep.
+-- Each reading of the first tells what that of the second tells. An expression that begins with a name behind which nothing is looked at takes it, or
+-- stops at it because it lies too deep.
 pub record Go (V : View) (r other : Readers) : Type 0 where
   pub block : (p : Place) {s : Situation} {words others : List Word} → At V s words others → Goes V s (r.block p words) (other.block p others)
   pub stats : (p : Place) (before : List Stat) {s : Situation} {words others : List Word} → At V s words others → Goes V s (r.stats p before words) (other.stats p before others)
@@ -29,7 +30,7 @@ pub record Go (V : View) (r other : Readers) : Type 0 where
   pub exp : (p : Place) (at : Precedence) {s : Situation} {words others : List Word} → At V s words others → Goes V s (r.exp p at words) (other.exp p at others)
   pub operations : (p : Place) (at : Precedence) (before : List Operation) {s : Situation} {words others : List Word} → At V s words others → Goes V s (r.operations p at before words) (other.operations p at before others)
   pub fields : (p : Place) (before : List Field) {s : Situation} {words others : List Word} → At V s words others → Goes V s (r.fields p before words) (other.fields p before others)
-  pub named : (p : Place) (at : Precedence) (o : Word) (words : List Word) → nat_eq (number o.is) (number terminal.Name) ≡ true → V.Lost words → Goes V lost (r.exp p at (o ∷ words)) (other.exp p at (o ∷ words))
+  pub named : (p : Place) (at : Precedence) (o : Word) (words : List Word) → nat_eq (number o.is) (number terminal.Name) ≡ true → (others : List Word) → V.Alike (o ∷ words) others → V.Lost words → Goes V lost (r.exp p at (o ∷ words)) (other.exp p at (o ∷ words))
 
 module _ {V : View} {s : Situation} {words others : List Word} (p : Place) (h : At V s words others) where
   pub goes_name : Goes V s (read_name p words) (read_name p others)

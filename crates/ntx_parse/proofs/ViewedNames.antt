@@ -15,7 +15,7 @@ use Rattle.ntx_parse.proofs.ViewedLists.{Go}
 use Rattle.ntx_parse.proofs.ViewedTables.{lost_name}
 use Rattle.ntx_parse.proofs.ViewedExpressions.{goes_concat}
 
-module _ {V : View} {r other : Readers} (g : Go V r other) (o : Word) (words : List Word) (e : nat_eq (number o.is) (number terminal.Name) ≡ true) (l : V.Lost words) where
+module _ {V : View} {r other : Readers} (g : Go V r other) (o : Word) (words : List Word) (e : nat_eq (number o.is) (number terminal.Name) ≡ true) (others : List Word) (same : V.Alike (o ∷ words) others) (l : V.Lost words) where
   is_name : o.is ≡ terminal.Name
   is_name = same_terminal o.is terminal.Name e
 
@@ -25,7 +25,7 @@ module _ {V : View} {r other : Readers} (g : Go V r other) (o : Word) (words : L
           (cond test (and_then (read_parenthesized r (within p) (o ∷ words)) (λ e rest. r.suffixes p (part.Parenthesized e) rest)) (and_then (read_name p (o ∷ words)) (λ name rest. r.suffixes p (part.Name name) rest)))
           (cond test (and_then (read_parenthesized other (within p) (o ∷ words)) (λ e rest. other.suffixes p (part.Parenthesized e) rest)) (and_then (read_name p (o ∷ words)) (λ name rest. other.suffixes p (part.Name name) rest))))
       (sym (ap (λ t. nat_eq (number t) (number terminal.LeftParenthesis)) is_name))
-      (goes_then (lost_name p o words l e) (λ name _ _ _ h. g.suffixes p (part.Name name) h))
+      (goes_then (lost_name p o words l others same e) (λ name _ _ _ h. g.suffixes p (part.Name name) h))
 
   lost_simple : (p : Place) → Goes V lost (simple_at r p o.is (o ∷ words)) (simple_at other p o.is (o ∷ words))
   lost_simple p = subst (λ t. Goes V lost (simple_at r p t (o ∷ words)) (simple_at other p t (o ∷ words))) (sym is_name) (goes_then (lost_prefix p) (λ found _ _ _ h. goes_read h))
@@ -34,11 +34,11 @@ module _ {V : View} {r other : Readers} (g : Go V r other) (o : Word) (words : L
   lost_operand p = subst (λ found. Goes V lost (read_operand r p found (o ∷ words)) (read_operand other p found (o ∷ words))) (sym (ap unary_of is_name)) (lost_simple p)
 
   lost_run : (p : Place) (at : Precedence) → Goes V lost (read_run r p at (o ∷ words)) (read_run other p at (o ∷ words))
-  lost_run p at = goes_then (g.named p (tighter at) o words e l) (λ first _ _ _ h. goes_then (g.operations p at [] h) (λ all _ _ _ h. goes_read h))
+  lost_run p at = goes_then (g.named p (tighter at) o words e others same l) (λ first _ _ _ h. goes_then (g.operations p at [] h) (λ all _ _ _ h. goes_read h))
 
   pub lost_exp : (p : Place) (at : Precedence) → Goes V lost (exp_at r p at (o ∷ words)) (exp_at other p at (o ∷ words))
   lost_exp p precedence.Unary = lost_operand p
-  lost_exp p precedence.Concat = goes_then (g.named p (tighter precedence.Concat) o words e l) (λ left _ _ _ h. goes_concat g p left h)
+  lost_exp p precedence.Concat = goes_then (g.named p (tighter precedence.Concat) o words e others same l) (λ left _ _ _ h. goes_concat g p left h)
   lost_exp p precedence.Or = lost_run p precedence.Or
   lost_exp p precedence.And = lost_run p precedence.And
   lost_exp p precedence.Comparison = lost_run p precedence.Comparison

@@ -9,16 +9,16 @@ use Rattle.ntx_parse.specs.declared.terminal.Terminal.TheVariants as terminal
 use Rattle.ntx_parse.specs.Words.{Word}
 use Rattle.ntx_parse.specs.Grammar.{within, max_nesting}
 use Rattle.ntx_parse.specs.Reading.{Readers, Answer, read, stopped, and_then, begins, number, taken, expected, read_name, read_index, names_a_field, read_field, fields_behind, read_table}
-use Rattle.ntx_parse.proofs.Views.{View, Situation, lost, alike, At, at_lost, at_alike, Goes, goes_lost, goes_read, goes_stopped, goes_if, goes_then, goes_where, goes_taken, goes_expected, begins_same, Behind, behind_lost, behind_alike, Firsts, no_first, first, firsts}
+use Rattle.ntx_parse.proofs.Views.{View, Situation, lost, alike, At, at_lost, at_alike, Goes, goes_lost, goes_read, goes_stopped, goes_if, goes_then, goes_where, goes_taken, goes_expected, begins_same, Begin, both_end, then_lost, then_alike}
 use Rattle.ntx_parse.proofs.ViewedLists.{Go, goes_name}
 use Rattle.ntx_parse.proofs.ViewedPrefixes.{goes_index}
 
-module _ {V : View} (p : Place) (o : Word) (words : List Word) (h : V.Lost words) where
+module _ {V : View} (p : Place) (o : Word) (words : List Word) (h : V.Lost words) (others : List Word) (same : V.Alike (o ∷ words) others) where
   lost_if : {B : Type 0} (fits named : Bool) (next other : Word → List Word → Answer B) → named ≡ true → ((rest : List Word) → V.Lost rest → Goes V lost (next o rest) (other o rest))
       → Goes V lost (and_then (cond named (cond fits (read o words) (stopped why.Depth (o ∷ words))) (stopped why.Expected (o ∷ words))) next)
           (and_then (cond named (cond fits (read o words) (stopped why.Depth (o ∷ words))) (stopped why.Expected (o ∷ words))) other)
   lost_if true true next other e g = g words h
-  lost_if false true next other e g = record { tells = V.deep h }
+  lost_if false true next other e g = record { tells = V.deep same h }
   lost_if fits false next other e g = absurd cc
 
   -- A name in front of what is lost is taken, or it lies too deep.
@@ -61,24 +61,30 @@ module _ {V : View} {r other : Readers} (g : Go V r other) where
   goes_positional p h = goes_then (g.exp p precedence.Or h) (λ value _ _ _ h. goes_read h)
 
   -- Whether the name in front of what is lost is that of a field or begins a value, it is taken or lies too deep.
-  lost_field : (p : Place) (o : Word) (words : List Word) (test : Bool) {s : Situation} {c : Answer Field} → nat_eq (number o.is) (number terminal.Name) ≡ true → V.Lost words → Goes V s (cond test (named_by r p (o ∷ words)) (positional_by r p (o ∷ words))) c
-  lost_field p o words true e l = goes_lost (goes_then (lost_name p o words l e) (λ name _ _ _ h. named_value p name h))
-  lost_field p o words false e l = goes_lost (goes_then (g.named p precedence.Or o words e l) (λ value _ _ _ h. goes_read h))
+  lost_field : (p : Place) (o : Word) (words : List Word) (test : Bool) {s : Situation} {c : Answer Field} → nat_eq (number o.is) (number terminal.Name) ≡ true → (others : List Word) → V.Alike (o ∷ words) others → V.Lost words → Goes V s (cond test (named_by r p (o ∷ words)) (positional_by r p (o ∷ words))) c
+  lost_field p o words true e others same l = goes_lost (goes_then (lost_name p o words l others same e) (λ name _ _ _ h. named_value p name h))
+  lost_field p o words false e others same l = goes_lost (goes_then (g.named p precedence.Or o words e others same l) (λ value _ _ _ h. goes_read h))
 
-  field_by_name : (p : Place) {s : Situation} {o : Word} {words others : List Word} (is_name : Bool) → nat_eq (number o.is) (number terminal.Name) ≡ is_name → At V s (o ∷ words) (o ∷ others) → V.Lost words
-      → Goes V s (cond (is_name && begins terminal.Assign words) (named_by r p (o ∷ words)) (positional_by r p (o ∷ words))) (cond (is_name && begins terminal.Assign others) (named_by other p (o ∷ others)) (positional_by other p (o ∷ others)))
-  field_by_name p false e h l = goes_positional p h
-  field_by_name p {o = o} {words = words} true e h l = lost_field p o words (begins terminal.Assign words) e l
+  field_by_name : (p : Place) {o : Word} {words others : List Word} (is_name : Bool) → nat_eq (number o.is) (number terminal.Name) ≡ is_name → V.Alike (o ∷ words) (o ∷ others) → V.Lost words
+      → Goes V alike (cond (is_name && begins terminal.Assign words) (named_by r p (o ∷ words)) (positional_by r p (o ∷ words))) (cond (is_name && begins terminal.Assign others) (named_by other p (o ∷ others)) (positional_by other p (o ∷ others)))
+  field_by_name p false e same l = goes_positional p (at_alike same)
+  field_by_name p {o} {words} {others} true e same l = lost_field p o words (begins terminal.Assign words) e (o ∷ others) same l
 
-  field_first : (p : Place) {s : Situation} {words others : List Word} → At V s words others → Firsts V s words others
+  field_begins : (p : Place) {words others : List Word} → V.Alike words others → Begin V.Lost V.Alike words others
+      → Goes V alike (cond (names_a_field words) (named_by r p words) (positional_by r p words)) (cond (names_a_field others) (named_by other p others) (positional_by other p others))
+  field_begins p same both_end = goes_positional p (at_alike same)
+  field_begins p same (then_lost {o} l) = field_by_name p (nat_eq (number o.is) (number terminal.Name)) refl same l
+  field_begins p same (then_alike {o} {words} {others} behind) =
+      goes_if (names_a_field (o ∷ words)) (names_a_field (o ∷ others)) (ap (λ assigns. nat_eq (number o.is) (number terminal.Name) && assigns) (begins_same {V = V} {words = words} {others = others} terminal.Assign (at_alike behind)))
+      (goes_named p (at_alike same)) (goes_positional p (at_alike same))
+
+  field_at : (p : Place) {s : Situation} {words others : List Word} → At V s words others
       → Goes V s (cond (names_a_field words) (named_by r p words) (positional_by r p words)) (cond (names_a_field others) (named_by other p others) (positional_by other p others))
-  field_first p h no_first = goes_positional p h
-  field_first p h (first {o} (behind_lost l)) = field_by_name p (nat_eq (number o.is) (number terminal.Name)) refl h l
-  field_first p h (first {o} {words} {others} (behind_alike behind)) =
-      goes_if (names_a_field (o ∷ words)) (names_a_field (o ∷ others)) (ap (λ assigns. nat_eq (number o.is) (number terminal.Name) && assigns) (begins_same {V = V} {words = words} {others = others} terminal.Assign (at_alike behind))) (goes_named p h) (goes_positional p h)
+  field_at p (at_lost {words} l) = goes_if (names_a_field words) (names_a_field words) refl (goes_named p (at_lost l)) (goes_positional p (at_lost l))
+  field_at p (at_alike same) = field_begins p same (V.begin same)
 
   goes_field : (p : Place) {s : Situation} {words others : List Word} → At V s words others → Goes V s (read_field r p words) (read_field other p others)
-  goes_field p h = goes_where terminal.LeftBracket h (goes_keyed p h) (field_first p h (firsts h))
+  goes_field p h = goes_where terminal.LeftBracket h (goes_keyed p h) (field_at p h)
 
   -- ---- tables
 

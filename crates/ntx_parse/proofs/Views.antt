@@ -22,7 +22,7 @@ pub record View : Type 1 where
   pub Alike : List Word → List Word → Type 0
   pub shorter : {o : Word} {words : List Word} → Lost (o ∷ words) → Lost words
   pub stops : {reason : SyntaxWhy} {words : List Word} → Lost words → LostStop reason words
-  pub deep : {o : Word} {words : List Word} → Lost words → LostStop why.Depth (o ∷ words)
+  pub deep : {o : Word} {words others : List Word} → Alike (o ∷ words) others → Lost words → LostStop why.Depth (o ∷ words)
   pub begin : {words others : List Word} → Alike words others → Begin Lost Alike words others
 
 -- the words are beyond those that are looked at, or they are alike
