@@ -2,10 +2,9 @@
 --     IsAtEnd whole words    the words are the last of the whole
 --     stops_at_end           those at which the reading of a script stops
 use Rattle.std.proofs.Common.{◌≡◌, ℕ, List, [], ◌∷◌, ◌++◌, None, Some, Ok, Err, refl, sym, subst, ◌∙◌, append_assoc, arith}
-use Rattle.ntx_syntax.specs.declared.tree.Block.{Block}
 use Rattle.ntx_parse.specs.Words.{Word}
-use Rattle.ntx_parse.specs.Reading.{Answer, Stop, read, stopped, readers, script_by}
-use Rattle.ntx_parse.proofs.Views.{View, lost, at_lost, Tells, Goes}
+use Rattle.ntx_parse.specs.Reading.{Answer, Stop, read, readers, script_by}
+use Rattle.ntx_parse.proofs.Views.{View, lost, at_lost, Tells}
 use Rattle.ntx_parse.proofs.ViewedLists.{Go}
 use Rattle.ntx_parse.proofs.Viewed.{go_readers, goes_script}
 
@@ -36,7 +35,8 @@ stop_at_end whole None b stop h e = absurd cc
 stop_at_end whole (Some (Ok found)) b stop h e = absurd cc
 stop_at_end whole (Some (Err other)) b stop h e = let same : other.words ≡ stop.words = cc in subst (IsAtEnd whole) same h
 
-rest_at_end : {A : Type 0} (whole : List Word) (a b : Answer A) (t : A) (rest : List Word) → Tells (ends_of whole) lost a b → a ≡ read t rest → IsAtEnd whole rest
+rest_at_end : {A : Type 0} (whole : List Word) (a b : Answer A) (t : A) (rest : List Word) → Tells (ends_of whole) lost a b → a ≡ read t rest
+    → IsAtEnd whole rest
 unfolding ends_of
 rest_at_end whole None b t rest h e = absurd cc
 rest_at_end whole (Some (Ok found)) b t rest h e = let same : found.1 ≡ rest = cc in subst (IsAtEnd whole) same h

@@ -59,7 +59,8 @@ pub passes : {p : Place} {t : Terminal} {o : Placed} (q : Terminal → Bool) →
 passes q i e = ap q i.is ∙ e
 
 -- one that is not this
-pub is_other : {p : Place} {t : Terminal} {o : Placed} (u : Terminal) → Is p t o → nat_eq (number t) (number u) ≡ false → nat_eq (number o.word.is) (number u) ≡ false
+pub is_other : {p : Place} {t : Terminal} {o : Placed} (u : Terminal) → Is p t o → nat_eq (number t) (number u) ≡ false
+    → nat_eq (number o.word.is) (number u) ≡ false
 is_other u i e = ap (λ s. nat_eq (number s) (number u)) i.is ∙ e
 
 other_than : (q : Terminal → Bool) (t u : Terminal) (b : Bool) → nat_eq (number t) (number u) ≡ b → q t ≡ true → q u ≡ false → b ≡ false
@@ -91,15 +92,18 @@ taken_here {p} {t} {o} words i fine = rw (deep_enough p o.place fine.nesting i.p
 pub begins_here : {p : Place} {t : Terminal} {o : Placed} → Is p t o → nat_eq (number o.word.is) (number t) ≡ true
 begins_here {p} {t} {o} i = eq-eqb (number o.word.is) (number t) (ap number i.is)
 
-taken_or : {Bad : Type 0} (bad : Bad) (o : Word) (words : List Word) (fits : Bool) → IsOrStops Bad (if fits then read o words else stopped why.Depth (o ∷ words)) (read o words)
+taken_or : {Bad : Type 0} (bad : Bad) (o : Word) (words : List Word) (fits : Bool)
+    → IsOrStops Bad (if fits then read o words else stopped why.Depth (o ∷ words)) (read o words)
 taken_or bad o words true = told refl
 taken_or bad o words false = stops bad (record { why = why.Depth; words = o ∷ words }) (λ e. absurd cc) refl
 
-pub taken_is : {Bad : Type 0} {p : Place} {t : Terminal} {o : Placed} (words : List Word) → Is p t o → Fine Bad o → IsOrStops Bad (taken p (o.word ∷ words)) (read o.word words)
+pub taken_is : {Bad : Type 0} {p : Place} {t : Terminal} {o : Placed} (words : List Word) → Is p t o → Fine Bad o
+    → IsOrStops Bad (taken p (o.word ∷ words)) (read o.word words)
 taken_is words i (is_fine fine) = told (taken_here words i fine)
 taken_is {p = p} {o = o} words i (is_bad bad) = taken_or bad o.word words (nat_le p.nesting max_nesting)
 
-expected_is : {Bad : Type 0} {p : Place} {t : Terminal} {o : Placed} (words : List Word) → Is p t o → Fine Bad o → IsOrStops Bad (expected p t (o.word ∷ words)) (read o.word words)
+expected_is : {Bad : Type 0} {p : Place} {t : Terminal} {o : Placed} (words : List Word) → Is p t o → Fine Bad o
+    → IsOrStops Bad (expected p t (o.word ∷ words)) (read o.word words)
 expected_is {Bad} {p} {t} {o} words i fine =
     subst (λ b. IsOrStops Bad (if b then taken p (o.word ∷ words) else stopped why.Expected (o.word ∷ words)) (read o.word words)) (sym (begins_here i)) (taken_is words i fine)
 

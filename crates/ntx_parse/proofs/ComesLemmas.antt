@@ -1,7 +1,7 @@
 -- What readings come to, once the calls may lie deep enough. Where some words may be bad, since they lie too deep or are a `break` outside of any loop, a
 -- reading may stop there instead.
 use Rattle.std.specs.Prelude.{◌≡◌, ◌≤◌, ℕ, zero, suc, max, Bool, true, false, List, Some, Err, if◌then◌else◌}
-use Rattle.std.proofs.Common.{refl, sym, ap, ◌∙◌, subst, arith}
+use Rattle.std.proofs.Common.{refl, sym, ap, subst, arith}
 use Rattle.ntx_syntax.specs.declared.fault.SyntaxWhy.TheVariants as why
 use Rattle.ntx_syntax.specs.declared.tree.Block.{Block}
 use Rattle.ntx_syntax.specs.declared.tree.Stat.{Stat}
@@ -118,8 +118,10 @@ over_operations {p} {at} {before} {words} c = comes_over (λ r. r.operations p a
 
 -- ---- tests
 
-pub comes_if : {Bad A : Type 0} {b : Bool} {f : ℕ → Answer A} {x : Answer A} (g : ℕ → Answer A) → b ≡ true → Comes Bad f x → Comes Bad (λ n. if b then f n else g n) x
+pub comes_if : {Bad A : Type 0} {b : Bool} {f : ℕ → Answer A} {x : Answer A} (g : ℕ → Answer A) → b ≡ true → Comes Bad f x
+    → Comes Bad (λ n. if b then f n else g n) x
 comes_if {Bad} {f = f} {x = x} g e c = subst (λ b. Comes Bad (λ n. if b then f n else g n) x) (sym e) c
 
-pub comes_else : {Bad A : Type 0} {b : Bool} {g : ℕ → Answer A} {x : Answer A} (f : ℕ → Answer A) → b ≡ false → Comes Bad g x → Comes Bad (λ n. if b then f n else g n) x
+pub comes_else : {Bad A : Type 0} {b : Bool} {g : ℕ → Answer A} {x : Answer A} (f : ℕ → Answer A) → b ≡ false → Comes Bad g x
+    → Comes Bad (λ n. if b then f n else g n) x
 comes_else {Bad} {g = g} {x = x} f e c = subst (λ b. Comes Bad (λ n. if b then f n else g n) x) (sym e) c

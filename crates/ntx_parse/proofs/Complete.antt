@@ -29,7 +29,8 @@ without_bad : {A : Type 0} {a x : Answer A} → IsOrStops ⊥ a x → a ≡ x
 without_bad (told e) = e
 without_bad (stops bad stop other e) = absurd bad
 
-pub read_or_stopped : (placed : List Placed) (b : Block) → IsBlock outermost b placed [] → Comes (Unit {0}) (λ n. (readers n).block outermost (plain placed)) (read b [])
+pub read_or_stopped : (placed : List Placed) (b : Block) → IsBlock outermost b placed []
+    → Comes (Unit {0}) (λ n. (readers n).block outermost (plain placed)) (read b [])
 read_or_stopped placed b d = (block_read d (all_bad placed) tt).comes
 
 pub complete : (words : List Word) (chunk : Chunk) → Accepts words chunk
@@ -51,7 +52,8 @@ answer_is words chunk a found d =
     let right : d.0 ≤ n = omega arith in
     sym (d.1 n right) ∙ c.1 n left
 
-pub stopped_is_none : (words : List Word) (stop : Stop) → (N : ℕ) × ((n : ℕ) → N ≤ n → script_by n words ≡ Some (Err stop)) → (chunk : Chunk) → Accepts words chunk → ⊥
+pub stopped_is_none : (words : List Word) (stop : Stop) → (N : ℕ) × ((n : ℕ) → N ≤ n → script_by n words ≡ Some (Err stop)) → (chunk : Chunk)
+    → Accepts words chunk → ⊥
 stopped_is_none words stop d chunk a = let same = answer_is words chunk a (Some (Err stop)) d in cc
 
 block_of : Block → Answer Block → Block

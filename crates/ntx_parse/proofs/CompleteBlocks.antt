@@ -22,7 +22,8 @@ use Rattle.ntx_parse.proofs.CompleteKinds.{KindDone}
 
 -- ---- statements
 
-pub stat_done : {Bad : Type 0} {p : Place} {kind : StatKind} {rest : List Placed} (o : Placed) (words : List Placed) → begins_statement o.word.is ≡ true → KindDone Bad p kind (o ∷ words) rest
+pub stat_done : {Bad : Type 0} {p : Place} {kind : StatKind} {rest : List Placed} (o : Placed) (words : List Placed) → begins_statement o.word.is ≡ true
+    → KindDone Bad p kind (o ∷ words) rest
     → StatDone Bad p (record { line = o.word.line; kind = kind }) (plain (o ∷ words)) rest
 stat_done o words h d = record { goes_on = λ before c. over_stats (comes_if _ h (comes_then _ d.comes c)); fine = d.fine }
 
@@ -33,14 +34,16 @@ no_statement : (t : Terminal) → implies (ends_stats t) (not (begins_statement 
 no_statement terminal.Name = refl
 no_statement _ = refl
 
-stats_end : {Bad : Type 0} {p : Place} (before : List Stat) (rest : List Placed) → Follows ends_stats rest → Comes Bad (λ n. (readers n).stats p before (plain rest)) (read before (plain rest))
+stats_end : {Bad : Type 0} {p : Place} (before : List Stat) (rest : List Placed) → Follows ends_stats rest
+    → Comes Bad (λ n. (readers n).stats p before (plain rest)) (read before (plain rest))
 stats_end before [] h = over_stats (comes_read _)
 stats_end before (o ∷ words) h = over_stats (comes_else _ (not-true (begins_statement o.word.is) (implied (no_statement o.word.is) h)) (comes_read _))
 
 pub no_stats_done : {Bad : Type 0} {p : Place} (rest : List Placed) → Follows ends_stats rest → AllByRecursion (Fine Bad) rest → StatsDone Bad p [] rest rest
 no_stats_done rest h fine = record { comes = λ before. comes_as (stats_end before rest h) (all_before before (plain rest)); fine = fine }
 
-pub more_stats_done : {Bad : Type 0} {p : Place} {s : Stat} {ss : List Stat} {rest : List Placed} (words middle : List Placed) → StatDone Bad p s (plain words) middle
+pub more_stats_done : {Bad : Type 0} {p : Place} {s : Stat} {ss : List Stat} {rest : List Placed} (words middle : List Placed)
+    → StatDone Bad p s (plain words) middle
     → (AllByRecursion (Fine Bad) middle → StatsDone Bad p ss middle rest) → StatsDone Bad p (s ∷ ss) words rest
 more_stats_done {s = s} {ss = ss} {rest = rest} words middle d more =
     let others = more d.fine in
@@ -55,23 +58,27 @@ ends_here : (rest : List Placed) → Follows ends_return rest → ends_returned 
 ends_here [] h = refl
 ends_here (o ∷ words) h = h
 
-pub returns_nothing_done : {Bad : Type 0} (p : Place) (rest : List Placed) → Follows ends_return rest → AllByRecursion (Fine Bad) rest → ReturnedDone Bad p [] rest rest
+pub returns_nothing_done : {Bad : Type 0} (p : Place) (rest : List Placed) → Follows ends_return rest → AllByRecursion (Fine Bad) rest
+    → ReturnedDone Bad p [] rest rest
 returns_nothing_done p rest h fine = record { comes = comes_if _ (ends_here rest h) (comes_read _); fine = fine }
 
 goes_on_here : (words : List Placed) → Starts begins_exp words → ends_returned (plain words) ≡ false
 goes_on_here [] h = elim h [ ]
 goes_on_here (o ∷ words) h = not-true (ends_return o.word.is) (implied (exp_begins_returned o.word.is) h)
 
-pub returns_done : {Bad : Type 0} {p : Place} {es : List Exp} {rest : List Placed} (words : List Placed) → Starts begins_exp words → ExpsDone Bad p es (plain words) rest → ReturnedDone Bad p es words rest
+pub returns_done : {Bad : Type 0} {p : Place} {es : List Exp} {rest : List Placed} (words : List Placed) → Starts begins_exp words
+    → ExpsDone Bad p es (plain words) rest → ReturnedDone Bad p es words rest
 returns_done words start d = record { comes = comes_else _ (goes_on_here words start) (exps_come d).comes; fine = d.fine }
 
 abbrev pub LastDone : Type 0 → Place → Option Return → List Placed → List Placed → Type 0
 LastDone Bad p last words rest = Done Bad (λ n. last_behind (readers n) p (plain words)) last rest
 
-pub no_return_done : {Bad : Type 0} (p : Place) (rest : List Placed) → begins terminal.Return (plain rest) ≡ false → AllByRecursion (Fine Bad) rest → LastDone Bad p None rest rest
+pub no_return_done : {Bad : Type 0} (p : Place) (rest : List Placed) → begins terminal.Return (plain rest) ≡ false → AllByRecursion (Fine Bad) rest
+    → LastDone Bad p None rest rest
 no_return_done p rest h fine = record { comes = comes_else _ h (comes_read _); fine = fine }
 
-pub last_return_done : {Bad : Type 0} {p : Place} {o : Placed} {es : List Exp} {rest : List Placed} (words middle : List Placed) → Is p terminal.Return o → Fine Bad o → ReturnedDone Bad p es words middle
+pub last_return_done : {Bad : Type 0} {p : Place} {o : Placed} {es : List Exp} {rest : List Placed} (words middle : List Placed) → Is p terminal.Return o
+    → Fine Bad o → ReturnedDone Bad p es words middle
     → (AllByRecursion (Fine Bad) middle → (there : Bool) × Done Bad (λ n. semicolon_behind p (plain middle)) there rest)
     → LastDone Bad p (Some (record { line = o.word.line; values = es })) (o ∷ words) rest
 last_return_done words middle o fine d more =
@@ -83,7 +90,8 @@ last_return_done words middle o fine d more =
 
 -- ---- blocks
 
-pub block_done : {Bad : Type 0} {p : Place} {ss : List Stat} {last : Option Return} {rest : List Placed} (words middle : List Placed) → StatsDone Bad p ss words middle
+pub block_done : {Bad : Type 0} {p : Place} {ss : List Stat} {last : Option Return} {rest : List Placed} (words middle : List Placed)
+    → StatsDone Bad p ss words middle
     → (AllByRecursion (Fine Bad) middle → LastDone Bad p last middle rest) → BlockDone Bad p (roll-Block (record { stats = ss; last = last })) (plain words) rest
 block_done words middle d more =
     let found = more d.fine in

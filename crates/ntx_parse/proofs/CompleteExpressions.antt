@@ -32,20 +32,25 @@ SimpleDone Bad p e words rest = Done Bad (λ n. read_simple (readers n) p (plain
 
 -- ---- simple expressions
 
-simple_is : {Bad : Type 0} {p : Place} {t : Terminal} {o : Placed} {x : Answer Exp} (words : List Word) → Is p t o → Comes Bad (λ n. simple_at (readers n) p t (o.word ∷ words)) x
+simple_is : {Bad : Type 0} {p : Place} {t : Terminal} {o : Placed} {x : Answer Exp} (words : List Word) → Is p t o
+    → Comes Bad (λ n. simple_at (readers n) p t (o.word ∷ words)) x
     → Comes Bad (λ n. simple_at (readers n) p o.word.is (o.word ∷ words)) x
 simple_is {Bad} {p} {t} {o} {x} words i c = subst (λ t. Comes Bad (λ n. simple_at (readers n) p t (o.word ∷ words)) x) (sym i.is) c
 
-pub nil_done : {Bad : Type 0} {p : Place} {o : Placed} {rest : List Placed} → Is p terminal.Nil o → AllByRecursion (Fine Bad) (o ∷ rest) → SimpleDone Bad p exp.Nil (o ∷ rest) rest
+pub nil_done : {Bad : Type 0} {p : Place} {o : Placed} {rest : List Placed} → Is p terminal.Nil o → AllByRecursion (Fine Bad) (o ∷ rest)
+    → SimpleDone Bad p exp.Nil (o ∷ rest) rest
 nil_done {rest = rest} o fine = record { comes = simple_is (plain rest) o (comes_taken _ o fine.0 (comes_read _)); fine = fine.1 }
 
-pub false_done : {Bad : Type 0} {p : Place} {o : Placed} {rest : List Placed} → Is p terminal.False o → AllByRecursion (Fine Bad) (o ∷ rest) → SimpleDone Bad p exp.False (o ∷ rest) rest
+pub false_done : {Bad : Type 0} {p : Place} {o : Placed} {rest : List Placed} → Is p terminal.False o → AllByRecursion (Fine Bad) (o ∷ rest)
+    → SimpleDone Bad p exp.False (o ∷ rest) rest
 false_done {rest = rest} o fine = record { comes = simple_is (plain rest) o (comes_taken _ o fine.0 (comes_read _)); fine = fine.1 }
 
-pub true_done : {Bad : Type 0} {p : Place} {o : Placed} {rest : List Placed} → Is p terminal.True o → AllByRecursion (Fine Bad) (o ∷ rest) → SimpleDone Bad p exp.True (o ∷ rest) rest
+pub true_done : {Bad : Type 0} {p : Place} {o : Placed} {rest : List Placed} → Is p terminal.True o → AllByRecursion (Fine Bad) (o ∷ rest)
+    → SimpleDone Bad p exp.True (o ∷ rest) rest
 true_done {rest = rest} o fine = record { comes = simple_is (plain rest) o (comes_taken _ o fine.0 (comes_read _)); fine = fine.1 }
 
-pub numeral_done : {Bad : Type 0} {p : Place} {o : Placed} {value : ℤ} {rest : List Placed} → Is p terminal.Numeral o → numeral_value o.word.spelled ≡ Some value
+pub numeral_done : {Bad : Type 0} {p : Place} {o : Placed} {value : ℤ} {rest : List Placed} → Is p terminal.Numeral o
+    → numeral_value o.word.spelled ≡ Some value
     → AllByRecursion (Fine Bad) (o ∷ rest) → SimpleDone Bad p (exp.Numeral value) (o ∷ rest) rest
 numeral_done {o = o} {rest = rest} i e fine = record {
   comes = simple_is (plain rest) i (comes_taken _ i fine.0 (comes_now (ap (λ v. read_value exp.Numeral v (plain (o ∷ rest)) (plain rest)) e)));
@@ -59,7 +64,8 @@ text_done {o = o} {rest = rest} i e fine = record {
   fine = fine.1;
 }
 
-pub function_done : {Bad : Type 0} {p : Place} {f : Placed} {b : FunctionBody} {rest : List Placed} (words : List Placed) → Is p terminal.Function f → Fine Bad f
+pub function_done : {Bad : Type 0} {p : Place} {f : Placed} {b : FunctionBody} {rest : List Placed} (words : List Placed) → Is p terminal.Function f
+    → Fine Bad f
     → Done Bad (λ n. read_body (readers n) (within p) (plain words)) b rest → SimpleDone Bad p (exp.Function b) (f ∷ words) rest
 function_done words f fine d = record { comes = simple_is (plain words) f (comes_taken _ f fine (comes_then _ d.comes (comes_read _))); fine = d.fine }
 
@@ -75,14 +81,16 @@ prefix_first : {Bad : Type 0} {x : Answer Exp} (p : Place) (words : List Placed)
 prefix_first p [] h c = elim h [ ]
 prefix_first p (o ∷ words) h c = prefix_at p (plain (o ∷ words)) o.word.is h c
 
-pub prefix_exp_done : {Bad : Type 0} {p : Place} {prefix : Prefix} {rest : List Placed} (words : List Placed) → Starts begins_prefix words → PrefixDone Bad p prefix (plain words) rest
+pub prefix_exp_done : {Bad : Type 0} {p : Place} {prefix : Prefix} {rest : List Placed} (words : List Placed) → Starts begins_prefix words
+    → PrefixDone Bad p prefix (plain words) rest
     → NoSuffix (plain rest) → SimpleDone Bad p (exp.Prefix prefix) words rest
 prefix_exp_done {p = p} {rest = rest} words start d ends = record {
   comes = prefix_first p words start (comes_then _ (d.goes_on (suffixes_end d.part ends)) (comes_now (ap (λ q. read (exp.Prefix q) (plain rest)) d.joins)));
   fine = d.fine;
 }
 
-pub table_done : {Bad : Type 0} {o c : Placed} {fields : List Field} {rest : List Placed} (p : Place) (words : List Placed) → Is (within p) terminal.LeftBrace o → Fine Bad o
+pub table_done : {Bad : Type 0} {o c : Placed} {fields : List Field} {rest : List Placed} (p : Place) (words : List Placed) → Is (within p) terminal.LeftBrace o
+    → Fine Bad o
     → ListDone Bad (λ n before. (readers n).fields (within p) before (plain words)) fields (c ∷ rest) → Is (within p) terminal.RightBrace c
     → SimpleDone Bad p (exp.Table fields) (o ∷ words) rest
 table_done {Bad} {o} {c} {fields} {rest} p words o_is fine d c_is = record {
@@ -93,7 +101,8 @@ table_done {Bad} {o} {c} {fields} {rest} p words o_is fine d c_is = record {
 
 -- ---- operators before an operand
 
-operand_by : {Bad : Type 0} {x : Answer Exp} {s : Option UnaryOp} (p : Place) (words : List Word) (o : Option UnaryOp) → s ≡ o → Comes Bad (λ n. read_operand (readers n) p o words) x
+operand_by : {Bad : Type 0} {x : Answer Exp} {s : Option UnaryOp} (p : Place) (words : List Word) (o : Option UnaryOp) → s ≡ o
+    → Comes Bad (λ n. read_operand (readers n) p o words) x
     → Comes Bad (λ n. read_operand (readers n) p s words) x
 operand_by {Bad} {x} p words o e c = subst (λ s. Comes Bad (λ n. read_operand (readers n) p s words) x) (sym e) c
 
@@ -104,12 +113,14 @@ unary_done {p} {o} {op} {e} {words} i fine d = record {
   fine = d.fine;
 }
 
-pub operator_done : {Bad : Type 0} {p : Place} {at : Precedence} {o : Placed} {op : UnaryOp} {e : Exp} {words : List Word} {rest : List Placed} → at ≡ precedence.Unary
+pub operator_done : {Bad : Type 0} {p : Place} {at : Precedence} {o : Placed} {op : UnaryOp} {e : Exp} {words : List Word} {rest : List Placed}
+    → at ≡ precedence.Unary
     → Is p (unary_terminal op) o → Fine Bad o → ExpDone Bad (within p) at e words rest → ExpDone Bad p at (exp.Unary op e) (o.word ∷ words) rest
 operator_done {Bad} {p} {at} {o} {op} {e} {words} {rest} is i fine =
     subst (λ k. ExpDone Bad (within p) k e words rest → ExpDone Bad p k (exp.Unary op e) (o.word ∷ words) rest) (sym is) (λ d. unary_done i fine d)
 
-pub simple_done : {Bad : Type 0} {p : Place} {at : Precedence} {e : Exp} {rest : List Placed} (words : List Placed) → at ≡ precedence.Unary → Starts begins_simple words
+pub simple_done : {Bad : Type 0} {p : Place} {at : Precedence} {e : Exp} {rest : List Placed} (words : List Placed) → at ≡ precedence.Unary
+    → Starts begins_simple words
     → SimpleDone Bad p e words rest → ExpDone Bad p at e (plain words) rest
 simple_done {Bad} {p} {at} {e} {rest} words is start d =
     let there : ExpDone Bad p precedence.Unary e (plain words) rest = record { comes = over_exp (operand_by p (plain words) None (simple_has_no_sign words start) d.comes); fine = d.fine } in
@@ -128,30 +139,35 @@ concat_done middle d o second =
       fine = other.fine;
     }
 
-pub concatenation_done : {Bad : Type 0} {p : Place} {at : Precedence} {o : Placed} {left right : Exp} {words : List Word} {rest : List Placed} (middle : List Placed) → at ≡ precedence.Concat
+pub concatenation_done : {Bad : Type 0} {p : Place} {at : Precedence} {o : Placed} {left right : Exp} {words : List Word} {rest : List Placed} (middle : List Placed)
+    → at ≡ precedence.Concat
     → ExpDone Bad p (tighter at) left words (o ∷ middle) → Is p terminal.DoubleDot o → (AllByRecursion (Fine Bad) middle → ExpDone Bad (within p) at right (plain middle) rest)
     → ExpDone Bad p at (exp.Binary left (record { operator = binary.Concat; operand = right } ∷ [])) words rest
 concatenation_done {Bad} {p} {at} {o} {left} {right} {words} {rest} middle is =
     subst (λ k. ExpDone Bad p (tighter k) left words (o ∷ middle) → Is p terminal.DoubleDot o → (AllByRecursion (Fine Bad) middle → ExpDone Bad (within p) k right (plain middle) rest)
     → ExpDone Bad p k (exp.Binary left (record { operator = binary.Concat; operand = right } ∷ [])) words rest) (sym is) (λ d i second. concat_done middle d i second)
 
-no_concat_done : {Bad : Type 0} {p : Place} {e : Exp} {words : List Word} {rest : List Placed} → ExpDone Bad p (tighter precedence.Concat) e words rest → Follows (ends_exp precedence.Concat) rest
+no_concat_done : {Bad : Type 0} {p : Place} {e : Exp} {words : List Word} {rest : List Placed} → ExpDone Bad p (tighter precedence.Concat) e words rest
+    → Follows (ends_exp precedence.Concat) rest
     → ExpDone Bad p precedence.Concat e words rest
 no_concat_done {rest = rest} d h = record {
   comes = over_exp (comes_then _ d.comes (comes_else _ (not_begins (ends_exp precedence.Concat) terminal.DoubleDot rest refl h) (comes_read _)));
   fine = d.fine;
 }
 
-pub no_concatenation_done : {Bad : Type 0} {p : Place} {at : Precedence} {e : Exp} {words : List Word} {rest : List Placed} → at ≡ precedence.Concat → ExpDone Bad p (tighter at) e words rest
+pub no_concatenation_done : {Bad : Type 0} {p : Place} {at : Precedence} {e : Exp} {words : List Word} {rest : List Placed} → at ≡ precedence.Concat
+    → ExpDone Bad p (tighter at) e words rest
     → Follows (ends_exp at) rest → ExpDone Bad p at e words rest
 no_concatenation_done {Bad} {p} {at} {e} {words} {rest} is =
     subst (λ k. ExpDone Bad p (tighter k) e words rest → Follows (ends_exp k) rest → ExpDone Bad p k e words rest) (sym is) (λ d h. no_concat_done d h)
 
-pub first_operand_done : {Bad : Type 0} {p : Place} {at : Precedence} {first : Exp} {words : List Word} {rest : List Placed} → ExpDone Bad p (tighter at) first words rest
+pub first_operand_done : {Bad : Type 0} {p : Place} {at : Precedence} {first : Exp} {words : List Word} {rest : List Placed}
+    → ExpDone Bad p (tighter at) first words rest
     → RunDone Bad p at first [] words rest
 first_operand_done {rest = rest} d = record { behind = plain rest; comes = d.comes; goes_on = λ h. h; fine = d.fine }
 
-operations_are : {Bad : Type 0} {x : Answer (List Operation)} {s : Option BinaryOp} (p : Place) (at : Precedence) (before : List Operation) (words : List Word) (o : Option BinaryOp) → s ≡ o
+operations_are : {Bad : Type 0} {x : Answer (List Operation)} {s : Option BinaryOp} (p : Place) (at : Precedence) (before : List Operation) (words : List Word) (o : Option BinaryOp)
+    → s ≡ o
     → Comes Bad (λ n. operations_by (readers n) p at before o words) x → Comes Bad (λ n. operations_by (readers n) p at before s words) x
 operations_are {Bad} {x} p at before words o e c = subst (λ s. Comes Bad (λ n. operations_by (readers n) p at before s words) x) (sym e) c
 
@@ -168,13 +184,15 @@ more_operands_done {p} {at} {o} {others = others} op middle d e i second =
       fine = other.fine;
     }
 
-by_run : {Bad : Type 0} {p : Place} {words : List Word} {x : Answer Exp} (at : Precedence) → associates_left at ≡ true → Comes Bad (λ n. read_run (readers n) p at words) x
+by_run : {Bad : Type 0} {p : Place} {words : List Word} {x : Answer Exp} (at : Precedence) → associates_left at ≡ true
+    → Comes Bad (λ n. read_run (readers n) p at words) x
     → Comes Bad (λ n. exp_at (readers n) p at words) x
 by_run precedence.Unary h c = absurd (true≢false (sym h))
 by_run precedence.Concat h c = absurd (true≢false (sym h))
 by_run _ h c = c
 
-pub operations_done : {Bad : Type 0} {p : Place} {at : Precedence} {first : Exp} {others : List Operation} {words : List Word} {rest : List Placed} → associates_left at ≡ true
+pub operations_done : {Bad : Type 0} {p : Place} {at : Precedence} {first : Exp} {others : List Operation} {words : List Word} {rest : List Placed}
+    → associates_left at ≡ true
     → RunDone Bad p at first others words rest → Follows (ends_exp at) rest → ExpDone Bad p at (run_of first others) words rest
 operations_done {p} {at} {others = others} {rest = rest} left d h = record {
   comes = over_exp (by_run at left (comes_then _ d.comes (comes_then _ (d.goes_on (over_operations (operations_are p at others (plain rest) None (no_operator_at at rest h) (comes_read _)))) (comes_read _))));

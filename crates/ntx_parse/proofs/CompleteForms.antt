@@ -92,5 +92,6 @@ ExpsDone Bad p es words rest = RestDone Bad (λ n. (readers n).exp p precedence.
 pub all_before : {A : Type 0} (before : List A) (words : List Word) → read before words ≡ read (before ++ []) words
 all_before before words = ap (λ l. read l words) (sym (append-nil before))
 
-pub one_more : {A : Type 0} (before : List A) (one : A) (all : List A) (words : List Word) → read (before ++ one ∷ [] ++ all) words ≡ read (before ++ one ∷ all) words
+pub one_more : {A : Type 0} (before : List A) (one : A) (all : List A) (words : List Word)
+    → read (before ++ one ∷ [] ++ all) words ≡ read (before ++ one ∷ all) words
 one_more before one all words = ap (λ l. read l words) (append_assoc before (one ∷ []) all)

@@ -32,11 +32,13 @@ kind_first r p (o ∷ words) = kind_at r p o.is (o ∷ words)
 abbrev pub KindDone : Type 0 → Place → StatKind → List Placed → List Placed → Type 0
 KindDone Bad p kind words rest = Done Bad (λ n. kind_first (readers n) p (plain words)) kind rest
 
-pub kind_is : {Bad : Type 0} {p : Place} {t : Terminal} {o : Placed} {x : Answer StatKind} (words : List Word) → Is p t o → Comes Bad (λ n. kind_at (readers n) p t (o.word ∷ words)) x
+pub kind_is : {Bad : Type 0} {p : Place} {t : Terminal} {o : Placed} {x : Answer StatKind} (words : List Word) → Is p t o
+    → Comes Bad (λ n. kind_at (readers n) p t (o.word ∷ words)) x
     → Comes Bad (λ n. kind_at (readers n) p o.word.is (o.word ∷ words)) x
 kind_is {Bad} {p} {t} {o} {x} words i c = subst (λ t. Comes Bad (λ n. kind_at (readers n) p t (o.word ∷ words)) x) (sym i.is) c
 
-pub kind_of_first : {Bad : Type 0} {x : Answer StatKind} (p : Place) (u : Terminal) (words : List Placed) → Starts (is_this u) words → Comes Bad (λ n. kind_at (readers n) p u (plain words)) x
+pub kind_of_first : {Bad : Type 0} {x : Answer StatKind} (p : Place) (u : Terminal) (words : List Placed) → Starts (is_this u) words
+    → Comes Bad (λ n. kind_at (readers n) p u (plain words)) x
     → Comes Bad (λ n. kind_first (readers n) p (plain words)) x
 kind_of_first p u [] h c = elim h [ ]
 kind_of_first {Bad} {x} p u (o ∷ words) h c = subst (λ t. Comes Bad (λ n. kind_at (readers n) p t (plain (o ∷ words))) x) (sym (same_terminal o.word.is u h)) c
@@ -47,16 +49,19 @@ expression_at p words terminal.Name h c = c
 expression_at p words terminal.LeftParenthesis h c = c
 expression_at p words _ h c = absurd (true≢false (sym h))
 
-expression_first : {Bad : Type 0} {x : Answer StatKind} (p : Place) (words : List Placed) → Starts begins_prefix words → Comes Bad (λ n. read_expression_statement (readers n) p (plain words)) x
+expression_first : {Bad : Type 0} {x : Answer StatKind} (p : Place) (words : List Placed) → Starts begins_prefix words
+    → Comes Bad (λ n. read_expression_statement (readers n) p (plain words)) x
     → Comes Bad (λ n. kind_first (readers n) p (plain words)) x
 expression_first p [] h c = elim h [ ]
 expression_first p (o ∷ words) h c = expression_at p (plain (o ∷ words)) o.word.is h c
 
-assigned : {Bad : Type 0} {x : Answer StatKind} (p : Place) (words : List Word) (v w : Var) → Some v ≡ Some w → Comes Bad (λ n. assignment_to (readers n) p w words) x
+assigned : {Bad : Type 0} {x : Answer StatKind} (p : Place) (words : List Word) (v w : Var) → Some v ≡ Some w
+    → Comes Bad (λ n. assignment_to (readers n) p w words) x
     → Comes Bad (λ n. assignment_to (readers n) p v words) x
 assigned {Bad} {x} p words v w e c = let same : v ≡ w = same_Some v w e in subst (λ u. Comes Bad (λ n. assignment_to (readers n) p u words) x) (sym same) c
 
-statement_of_var : {Bad : Type 0} {x : Answer StatKind} (p : Place) (words : List Word) (found : Part) (v : Var) → var_of found ≡ Some v → Comes Bad (λ n. assignment_to (readers n) p v words) x
+statement_of_var : {Bad : Type 0} {x : Answer StatKind} (p : Place) (words : List Word) (found : Part) (v : Var) → var_of found ≡ Some v
+    → Comes Bad (λ n. assignment_to (readers n) p v words) x
     → Comes Bad (λ n. statement_of (readers n) p found words) x
 statement_of_var p words (part.Name name) v e c = assigned p words (var.Name name) v e c
 statement_of_var p words (part.Parenthesized inner) v e c = absurd (none-some v e)
@@ -64,7 +69,8 @@ statement_of_var p words (part.Index before key) v e c = assigned p words (var.I
 statement_of_var p words (part.Field before name) v e c = assigned p words (var.Field before name) v e c
 statement_of_var p words (part.Call before given) v e c = absurd (none-some v e)
 
-pub assignment_done : {Bad : Type 0} {p : Place} {o : Placed} {vs : List Var} {es : List Exp} {rest : List Placed} (words middle : List Placed) → Starts begins_prefix words
+pub assignment_done : {Bad : Type 0} {p : Place} {o : Placed} {vs : List Var} {es : List Exp} {rest : List Placed} (words middle : List Placed)
+    → Starts begins_prefix words
     → VarsDone Bad p vs (plain words) (o ∷ middle) → Is p terminal.Assign o → (AllByRecursion (Fine Bad) middle → ExpsDone Bad p es (plain middle) rest)
     → KindDone Bad p (stat.Assign vs es) words rest
 assignment_done {p} words middle start d o more =
@@ -76,7 +82,8 @@ assignment_done {p} words middle start d o more =
       fine = found.fine;
     }
 
-pub called_done : {Bad : Type 0} {p : Place} {prefix : Prefix} {es : List Exp} {rest : List Placed} (words middle : List Placed) → Starts begins_prefix words → PrefixDone Bad p prefix (plain words) middle
+pub called_done : {Bad : Type 0} {p : Place} {prefix : Prefix} {es : List Exp} {rest : List Placed} (words middle : List Placed) → Starts begins_prefix words
+    → PrefixDone Bad p prefix (plain words) middle
     → Starts (is_this terminal.LeftParenthesis) middle → (AllByRecursion (Fine Bad) middle → Done Bad (λ n. read_arguments (readers n) (within p) (plain middle)) es rest)
     → NoSuffix (plain rest) → KindDone Bad p (stat.Call (record { function = prefix; arguments = es })) words rest
 called_done {p} {es = es} {rest = rest} words middle start d opens more ends =
@@ -92,9 +99,11 @@ called_done {p} {es = es} {rest = rest} words middle start d opens more ends =
 abbrev pub ValuesDone : Type 0 → Place → List Exp → List Placed → List Placed → Type 0
 ValuesDone Bad p es words rest = Done Bad (λ n. values_behind (readers n) p (plain words)) es rest
 
-pub no_values_done : {Bad : Type 0} (p : Place) (rest : List Placed) → begins terminal.Assign (plain rest) ≡ false → AllByRecursion (Fine Bad) rest → ValuesDone Bad p [] rest rest
+pub no_values_done : {Bad : Type 0} (p : Place) (rest : List Placed) → begins terminal.Assign (plain rest) ≡ false → AllByRecursion (Fine Bad) rest
+    → ValuesDone Bad p [] rest rest
 no_values_done p rest h fine = record { comes = comes_else _ h (comes_read _); fine = fine }
 
-pub values_done : {Bad : Type 0} {p : Place} {a : Placed} {es : List Exp} {rest : List Placed} (words : List Placed) → Is p terminal.Assign a → Fine Bad a → ExpsDone Bad p es (plain words) rest
+pub values_done : {Bad : Type 0} {p : Place} {a : Placed} {es : List Exp} {rest : List Placed} (words : List Placed) → Is p terminal.Assign a → Fine Bad a
+    → ExpsDone Bad p es (plain words) rest
     → ValuesDone Bad p es (a ∷ words) rest
 values_done words a fine d = record { comes = comes_if _ (begins_here a) (comes_taken _ a fine (exps_come d).comes); fine = d.fine }

@@ -14,7 +14,8 @@ use Rattle.ntx_parse.proofs.BeginsLemmas.{plain, begins_here, is_other, comes_ta
 use Rattle.ntx_parse.proofs.ComesLemmas.{Fine, Comes, comes_as, comes_then, comes_now, comes_if, comes_else, comes_read, over_names, over_path}
 use Rattle.ntx_parse.proofs.CompleteForms.{Done, ListDone, NamesDone, all_before, one_more}
 
-pub name_comes : {Bad : Type 0} {p : Place} {o : Placed} {words : List Word} → Is p terminal.Name o → Fine Bad o → Comes Bad (λ n. read_name p (o.word ∷ words)) (read o.word.spelled words)
+pub name_comes : {Bad : Type 0} {p : Place} {o : Placed} {words : List Word} → Is p terminal.Name o → Fine Bad o
+    → Comes Bad (λ n. read_name p (o.word ∷ words)) (read o.word.spelled words)
 name_comes o fine = comes_expected _ o fine (comes_read _)
 
 pub local_name_comes : {Bad : Type 0} {p : Place} {o : Placed} {words : List Word} → Is p terminal.Name o → Fine Bad o
@@ -32,7 +33,8 @@ path_done (more_path {n = n} {fields = fields} {rest = rest} d is_name path) fin
       fine = others.fine;
     }
 
-names_end : {Bad : Type 0} {p : Place} {words : List Word} (before : List LocalName) → begins terminal.Comma words ≡ false → Comes Bad (λ n. (readers n).names p before words) (read before words)
+names_end : {Bad : Type 0} {p : Place} {words : List Word} (before : List LocalName) → begins terminal.Comma words ≡ false
+    → Comes Bad (λ n. (readers n).names p before words) (read before words)
 names_end before h = over_names (comes_else _ h (comes_read _))
 
 pub names_done : {Bad : Type 0} {p : Place} {names : List LocalName} {words rest : List Placed} → IsNames p names words rest → AllByRecursion (Fine Bad) words
@@ -63,7 +65,8 @@ unfolding names_done
 behind_first Bad u (one_name is_name) fine h other e = e
 behind_first Bad u (more_names is_name is_comma more) fine h other e = is_other u is_comma other
 
-pub names_start : {p : Place} {names : List LocalName} {words rest : List Placed} (u : Terminal) → IsNames p names words rest → nat_eq (number terminal.Name) (number u) ≡ false
+pub names_start : {p : Place} {names : List LocalName} {words rest : List Placed} (u : Terminal) → IsNames p names words rest
+    → nat_eq (number terminal.Name) (number u) ≡ false
     → begins u (plain words) ≡ false
 names_start u (one_name is_name) e = is_other u is_name e
 names_start u (more_names is_name is_comma more) e = is_other u is_name e
@@ -74,7 +77,8 @@ pub names_come : {Bad : Type 0} {p : Place} {names : List LocalName} {rest : Lis
 names_come words d = record { comes = comes_then _ d.comes (d.tail []); fine = d.fine }
 
 -- ( [namelist] )
-pub parameters_done : {Bad : Type 0} {p : Place} {o c : Placed} {names : List LocalName} {words rest : List Placed} → Is p terminal.LeftParenthesis o → IsParameters p names words (c ∷ rest)
+pub parameters_done : {Bad : Type 0} {p : Place} {o c : Placed} {names : List LocalName} {words rest : List Placed} → Is p terminal.LeftParenthesis o
+    → IsParameters p names words (c ∷ rest)
     → Is p terminal.RightParenthesis c → AllByRecursion (Fine Bad) (o ∷ words) → Done Bad (λ n. read_parameters (readers n) p (plain (o ∷ words))) names rest
 parameters_done o no_parameters c fine = record {
   comes = comes_expected _ o fine.0 (comes_if _ (begins_here c) (comes_taken _ c fine.1.0 (comes_read _)));
@@ -87,7 +91,8 @@ parameters_done {words = words} o (parameters names) c fine =
       fine = all.fine.1;
     }
 
-pub semicolon_done : {Bad : Type 0} {p : Place} {words rest : List Placed} → IsSemicolon p words rest → AllByRecursion (Fine Bad) words → begins terminal.Semicolon (plain rest) ≡ false
+pub semicolon_done : {Bad : Type 0} {p : Place} {words rest : List Placed} → IsSemicolon p words rest → AllByRecursion (Fine Bad) words
+    → begins terminal.Semicolon (plain rest) ≡ false
     → (there : Bool) × Done Bad (λ n. semicolon_behind p (plain words)) there rest
 semicolon_done no_semicolon fine h = (false, record { comes = comes_else _ h (comes_read _); fine = fine })
 semicolon_done (semicolon o) fine h = (true, record { comes = comes_if _ (begins_here o) (comes_taken _ o fine.0 (comes_read _)); fine = fine.1 })

@@ -43,7 +43,8 @@ concat_follows {p} {o} at is i = ap (λ k. ends_exp (tighter k) o.word.is) is �
 unary_follows : (at : Precedence) (rest : List Placed) → at ≡ precedence.Unary → Follows (ends_exp at) rest → Follows (ends_exp precedence.Unary) rest
 unary_follows at rest is h = subst (λ k. Follows (ends_exp k) rest) is h
 
-no_suffix_of : (q : Terminal → Bool) (rest : List Placed) → q terminal.LeftBracket ≡ false → q terminal.Dot ≡ false → Follows q rest → begins terminal.LeftParenthesis (plain rest) ≡ false
+no_suffix_of : (q : Terminal → Bool) (rest : List Placed) → q terminal.LeftBracket ≡ false → q terminal.Dot ≡ false → Follows q rest
+    → begins terminal.LeftParenthesis (plain rest) ≡ false
     → NoSuffix (plain rest)
 no_suffix_of q rest bracket dot h parenthesis = record {
   bracket = not_begins q terminal.LeftBracket rest bracket h;
@@ -57,31 +58,37 @@ field_no_equals rest h = not_begins ends_field terminal.Assign rest refl h
 -- ---- all together
 
 mutual
-  pub block_read : {Bad : Type 0} {p : Place} {b : Block} {words rest : List Placed} → IsBlock p b words rest → AllByRecursion (Fine Bad) words → Follows ends_block rest
+  pub block_read : {Bad : Type 0} {p : Place} {b : Block} {words rest : List Placed} → IsBlock p b words rest → AllByRecursion (Fine Bad) words
+      → Follows ends_block rest
       → BlockDone Bad p b (plain words) rest
   block_read (block {words = w} {middle = m} ss last) fine h = block_done w m (stats_read ss fine (last_follows last h)) (λ f. last_read last f h)
 
-  stats_read : {Bad : Type 0} {p : Place} {ss : List Stat} {words rest : List Placed} → IsStats p ss words rest → AllByRecursion (Fine Bad) words → Follows ends_stats rest
+  stats_read : {Bad : Type 0} {p : Place} {ss : List Stat} {words rest : List Placed} → IsStats p ss words rest → AllByRecursion (Fine Bad) words
+      → Follows ends_stats rest
       → StatsDone Bad p ss words rest
   stats_read (no_stats {rest = r}) fine h = no_stats_done r h fine
   stats_read (more_stats {words = w} {middle = m} s ss) fine h = more_stats_done w m (stat_read s fine (stats_follow ss h)) (λ f. stats_read ss f h)
 
-  stat_read : {Bad : Type 0} {p : Place} {s : Stat} {words rest : List Placed} → IsStat p s words rest → AllByRecursion (Fine Bad) words → Follows ends_stat rest
+  stat_read : {Bad : Type 0} {p : Place} {s : Stat} {words rest : List Placed} → IsStat p s words rest → AllByRecursion (Fine Bad) words
+      → Follows ends_stat rest
       → StatDone Bad p s (plain words) rest
   stat_read (statement {o = o} {words = w} kind) fine h = stat_done o w (kind_starts kind) (kind_read kind fine h)
 
-  last_read : {Bad : Type 0} {p : Place} {last : Option Return} {words rest : List Placed} → IsLast p last words rest → AllByRecursion (Fine Bad) words → Follows ends_block rest
+  last_read : {Bad : Type 0} {p : Place} {last : Option Return} {words rest : List Placed} → IsLast p last words rest → AllByRecursion (Fine Bad) words
+      → Follows ends_block rest
       → LastDone Bad p last words rest
   last_read (no_return {p = p} {rest = r}) fine h = no_return_done p r (not_begins ends_block terminal.Return r refl h) fine
   last_read (last_return {words = w} {middle = m} {rest = r} o es s) fine h =
       last_return_done w m o fine.0 (returned_read es fine.1 (semicolon_follows s h)) (λ f. semicolon_done s f (not_begins ends_block terminal.Semicolon r refl h))
 
-  returned_read : {Bad : Type 0} {p : Place} {es : List Exp} {words rest : List Placed} → IsReturned p es words rest → AllByRecursion (Fine Bad) words → Follows ends_return rest
+  returned_read : {Bad : Type 0} {p : Place} {es : List Exp} {words rest : List Placed} → IsReturned p es words rest → AllByRecursion (Fine Bad) words
+      → Follows ends_return rest
       → ReturnedDone Bad p es words rest
   returned_read (returns_nothing {p = p} {rest = r}) fine h = returns_nothing_done p r h fine
   returned_read (returns {words = w} {rest = r} es) fine h = returns_done w (exps_start es) (exps_read es fine (follows_also ends_return ends_exps return_ends_exps r h))
 
-  kind_read : {Bad : Type 0} {p : Place} {kind : StatKind} {words rest : List Placed} → IsKind p kind words rest → AllByRecursion (Fine Bad) words → Follows ends_stat rest
+  kind_read : {Bad : Type 0} {p : Place} {kind : StatKind} {words rest : List Placed} → IsKind p kind words rest → AllByRecursion (Fine Bad) words
+      → Follows ends_stat rest
       → KindDone Bad p kind words rest
   kind_read (empty o) fine h = empty_done o fine
   kind_read (assignment {words = w} {middle = m} {rest = r} vs o es) fine h =
@@ -111,40 +118,47 @@ mutual
   kind_read (locals {words = w} {middle = m} l names es) fine h =
       locals_done w m l fine.0 (names_start terminal.Function names refl) (names_done names fine.1 (values_no_comma es h)) (λ g. values_read es g h)
 
-  arm_read : {Bad : Type 0} {p : Place} {t : Terminal} {a : IfArm} {words rest : List Placed} → IsArm p t a words rest → AllByRecursion (Fine Bad) words → Follows ends_block rest
+  arm_read : {Bad : Type 0} {p : Place} {t : Terminal} {a : IfArm} {words rest : List Placed} → IsArm p t a words rest → AllByRecursion (Fine Bad) words
+      → Follows ends_block rest
       → ArmDone Bad p a words rest
   arm_read (arm {words = w} {middle = m} o condition t inside) fine h =
       arm_done w m o fine.0 (exp_read condition fine.1 (passes (ends_exp precedence.Or) t refl)) t (λ f. block_read inside f h)
 
-  arms_read : {Bad : Type 0} {p : Place} {arms : List IfArm} {words rest : List Placed} → IsArms p arms words rest → AllByRecursion (Fine Bad) words → Follows ends_arms rest
+  arms_read : {Bad : Type 0} {p : Place} {arms : List IfArm} {words rest : List Placed} → IsArms p arms words rest → AllByRecursion (Fine Bad) words
+      → Follows ends_arms rest
       → ArmsDone Bad p arms words rest
   arms_read (no_arms {rest = r}) fine h = no_arms_done r (not_begins ends_arms terminal.Elseif r refl h) fine
   arms_read (more_arms {words = w} {middle = m} first others) fine h =
       more_arms_done w m (arm_starts (is_this terminal.Elseif) refl first) (arm_read first fine (arms_follow others h)) (λ f. arms_read others f h)
 
-  else_read : {Bad : Type 0} {p : Place} {other : Option Block} {words rest : List Placed} → IsElse p other words rest → AllByRecursion (Fine Bad) words → Follows (is_this terminal.End) rest
+  else_read : {Bad : Type 0} {p : Place} {other : Option Block} {words rest : List Placed} → IsElse p other words rest → AllByRecursion (Fine Bad) words
+      → Follows (is_this terminal.End) rest
       → ElseDone Bad p other words rest
   else_read (no_else {p = p} {rest = r}) fine h = no_else_done p r (not_begins (is_this terminal.End) terminal.Else r refl h) fine
   else_read (else {words = w} {rest = r} o inside) fine h = else_done w o fine.0 (block_read inside fine.1 (follows_also (is_this terminal.End) ends_block end_ends_block r h))
 
-  step_read : {Bad : Type 0} {p : Place} {s : Option Exp} {words rest : List Placed} → IsStep p s words rest → AllByRecursion (Fine Bad) words → Follows (is_this terminal.Do) rest
+  step_read : {Bad : Type 0} {p : Place} {s : Option Exp} {words rest : List Placed} → IsStep p s words rest → AllByRecursion (Fine Bad) words
+      → Follows (is_this terminal.Do) rest
       → StepDone Bad p s words rest
   step_read (no_step {p = p} {rest = r}) fine h = no_step_done p r (not_begins (is_this terminal.Do) terminal.Comma r refl h) fine
   step_read (step {words = w} {rest = r} c value) fine h =
       step_done w c fine.0 (exp_read value fine.1 (follows_also (is_this terminal.Do) (ends_exp precedence.Or) do_ends_exp r h))
 
-  values_read : {Bad : Type 0} {p : Place} {es : List Exp} {words rest : List Placed} → IsValues p es words rest → AllByRecursion (Fine Bad) words → Follows ends_stat rest
+  values_read : {Bad : Type 0} {p : Place} {es : List Exp} {words rest : List Placed} → IsValues p es words rest → AllByRecursion (Fine Bad) words
+      → Follows ends_stat rest
       → ValuesDone Bad p es words rest
   values_read (no_values {p = p} {rest = r}) fine h = no_values_done p r (not_begins ends_stat terminal.Assign r refl h) fine
   values_read (values {words = w} {rest = r} a es) fine h = values_done w a fine.0 (exps_read es fine.1 (follows_also ends_stat ends_exps stat_ends_exps r h))
 
-  exps_read : {Bad : Type 0} {p : Place} {es : List Exp} {words rest : List Placed} → IsExps p es words rest → AllByRecursion (Fine Bad) words → Follows ends_exps rest
+  exps_read : {Bad : Type 0} {p : Place} {es : List Exp} {words rest : List Placed} → IsExps p es words rest → AllByRecursion (Fine Bad) words
+      → Follows ends_exps rest
       → ExpsDone Bad p es (plain words) rest
   exps_read (one_exp {rest = r} e) fine h =
       one_exp_done (exp_read e fine (follows_also ends_exps (ends_exp precedence.Or) exps_end_exp r h)) (not_begins ends_exps terminal.Comma r refl h)
   exps_read (more_exps {middle = m} e c es) fine h = more_exps_done m (exp_read e fine (passes (ends_exp precedence.Or) c refl)) c (λ f. exps_read es f h)
 
-  vars_read : {Bad : Type 0} {p : Place} {vs : List Var} {words rest : List Placed} → IsVars p vs words rest → AllByRecursion (Fine Bad) words → Follows (is_this terminal.Assign) rest
+  vars_read : {Bad : Type 0} {p : Place} {vs : List Var} {words rest : List Placed} → IsVars p vs words rest → AllByRecursion (Fine Bad) words
+      → Follows (is_this terminal.Assign) rest
       → VarsDone Bad p vs (plain words) rest
   vars_read (one_var {rest = r} v) fine h =
       one_var_done (var_read v fine)
@@ -152,10 +166,12 @@ mutual
       (not_begins (is_this terminal.Assign) terminal.Comma r refl h)
   vars_read (more_vars {middle = m} v c vs) fine h = more_vars_done m (var_read v fine) c (λ f. vars_read vs f h)
 
-  body_read : {Bad : Type 0} {p : Place} {b : FunctionBody} {words rest : List Placed} → IsBody p b words rest → AllByRecursion (Fine Bad) words → BodyDone Bad p b words rest
+  body_read : {Bad : Type 0} {p : Place} {b : FunctionBody} {words rest : List Placed} → IsBody p b words rest → AllByRecursion (Fine Bad) words
+      → BodyDone Bad p b words rest
   body_read (body {words = w} {middle = m} o names c inside e) fine = body_done w m o names c fine (λ f. block_read inside f (passes ends_block e refl)) e
 
-  var_read : {Bad : Type 0} {p : Place} {v : Var} {words rest : List Placed} → IsVar p v words rest → AllByRecursion (Fine Bad) words → VarDone Bad p v (plain words) rest
+  var_read : {Bad : Type 0} {p : Place} {v : Var} {words rest : List Placed} → IsVar p v words rest → AllByRecursion (Fine Bad) words
+      → VarDone Bad p v (plain words) rest
   var_read (name_var n) fine = name_var_done n fine
   var_read (index_var {middle = m} prefix key) fine = index_var_done m (index_starts key) (prefix_read prefix fine) (λ f. index_read key f)
   var_read (field_var prefix d n) fine = field_var_done (prefix_read prefix fine) d n
@@ -177,7 +193,8 @@ mutual
   arguments_read (no_arguments o c) fine = no_arguments_done o c fine
   arguments_read (arguments {words = w} o es c) fine = arguments_done w o fine.0 (exps_start es) (exps_read es fine.1 (passes ends_exps c refl)) c
 
-  exp_read : {Bad : Type 0} {p : Place} {at : Precedence} {e : Exp} {words rest : List Placed} → IsExp p at e words rest → AllByRecursion (Fine Bad) words → Follows (ends_exp at) rest
+  exp_read : {Bad : Type 0} {p : Place} {at : Precedence} {e : Exp} {words rest : List Placed} → IsExp p at e words rest → AllByRecursion (Fine Bad) words
+      → Follows (ends_exp at) rest
       → ExpDone Bad p at e (plain words) rest
   exp_read (operations {at = at} {rest = r} left run) fine h = operations_done left (run_read run fine (ends_tighter at r h)) h
   exp_read (concatenation {at = at} {middle = m} is left o right) fine h =
@@ -186,13 +203,15 @@ mutual
   exp_read (operator is o e) fine h = operator_done is o fine.0 (exp_read e fine.1 h)
   exp_read (simple {at = at} {words = w} {rest = r} is e) fine h = simple_done w is (simple_starts e) (simple_read e fine (unary_follows at r is h))
 
-  run_read : {Bad : Type 0} {p : Place} {at : Precedence} {first : Exp} {others : List Operation} {words rest : List Placed} → IsRun p at first others words rest → AllByRecursion (Fine Bad) words
+  run_read : {Bad : Type 0} {p : Place} {at : Precedence} {first : Exp} {others : List Operation} {words rest : List Placed}
+      → IsRun p at first others words rest → AllByRecursion (Fine Bad) words
       → Follows (ends_exp (tighter at)) rest → RunDone Bad p at first others (plain words) rest
   run_read (first_operand e) fine h = first_operand_done (exp_read e fine h)
   run_read (more_operands {at = at} op {middle = m} run same o operand) fine h =
       more_operands_done op m (run_read run fine (operator_follows at op o same)) same o (λ f. exp_read operand f h)
 
-  simple_read : {Bad : Type 0} {p : Place} {e : Exp} {words rest : List Placed} → IsSimple p e words rest → AllByRecursion (Fine Bad) words → Follows (ends_exp precedence.Unary) rest
+  simple_read : {Bad : Type 0} {p : Place} {e : Exp} {words rest : List Placed} → IsSimple p e words rest → AllByRecursion (Fine Bad) words
+      → Follows (ends_exp precedence.Unary) rest
       → SimpleDone Bad p e words rest
   simple_read (nil o) fine h = nil_done o fine
   simple_read (false_ o) fine h = false_done o fine
@@ -204,7 +223,8 @@ mutual
       prefix_exp_done w (prefix_starts prefix) (prefix_read prefix fine) (no_suffix_of (ends_exp precedence.Unary) r refl refl h (not_before terminal.LeftParenthesis r before))
   simple_read (table {p = p} {words = w} o all c) fine h = table_done p w o fine.0 (fields_read all fine.1 (passes (is_this terminal.RightBrace) c refl)) c
 
-  fields_read : {Bad : Type 0} {p : Place} {fields : List Field} {words rest : List Placed} → IsFields p fields words rest → AllByRecursion (Fine Bad) words → Starts (is_this terminal.RightBrace) rest
+  fields_read : {Bad : Type 0} {p : Place} {fields : List Field} {words rest : List Placed} → IsFields p fields words rest → AllByRecursion (Fine Bad) words
+      → Starts (is_this terminal.RightBrace) rest
       → FieldsDone Bad p fields words rest
   fields_read (no_fields {rest = r}) fine h = no_fields_done r h fine
   fields_read (last_field {words = w} {rest = r} f) fine h =
@@ -212,7 +232,8 @@ mutual
   fields_read (more_fields {words = w} {middle = m} f s others) fine h =
       more_fields_done w m (field_starts f) (field_read f fine (separator_ends_field s)) s (λ g. fields_read others g h)
 
-  field_read : {Bad : Type 0} {p : Place} {f : Field} {words rest : List Placed} → IsField p f words rest → AllByRecursion (Fine Bad) words → Follows ends_field rest
+  field_read : {Bad : Type 0} {p : Place} {f : Field} {words rest : List Placed} → IsField p f words rest → AllByRecursion (Fine Bad) words
+      → Follows ends_field rest
       → FieldDone Bad p f words rest
   field_read (keyed {words = w} {middle = m} {rest = r} key a value) fine h =
       keyed_done w m (index_starts key) (index_read key fine) a (λ g. exp_read value g (follows_also ends_field (ends_exp precedence.Or) field_ends_exp r h))

@@ -25,10 +25,12 @@ use Rattle.ntx_parse.proofs.CompleteNames.{name_comes}
 
 -- ---- lists of expressions
 
-exps_end : {Bad : Type 0} {p : Place} {words : List Word} (before : List Exp) → begins terminal.Comma words ≡ false → Comes Bad (λ n. (readers n).exps p before words) (read before words)
+exps_end : {Bad : Type 0} {p : Place} {words : List Word} (before : List Exp) → begins terminal.Comma words ≡ false
+    → Comes Bad (λ n. (readers n).exps p before words) (read before words)
 exps_end before h = over_exps (comes_else _ h (comes_read _))
 
-pub one_exp_done : {Bad : Type 0} {p : Place} {e : Exp} {words : List Word} {rest : List Placed} → ExpDone Bad p precedence.Or e words rest → begins terminal.Comma (plain rest) ≡ false
+pub one_exp_done : {Bad : Type 0} {p : Place} {e : Exp} {words : List Word} {rest : List Placed} → ExpDone Bad p precedence.Or e words rest
+    → begins terminal.Comma (plain rest) ≡ false
     → ExpsDone Bad p (e ∷ []) words rest
 one_exp_done {e = e} {rest = rest} d h = record {
   one = e;
@@ -38,7 +40,8 @@ one_exp_done {e = e} {rest = rest} d h = record {
   fine = d.fine;
 }
 
-pub more_exps_done : {Bad : Type 0} {p : Place} {c : Placed} {e : Exp} {es : List Exp} {words : List Word} {rest : List Placed} (middle : List Placed) → ExpDone Bad p precedence.Or e words (c ∷ middle)
+pub more_exps_done : {Bad : Type 0} {p : Place} {c : Placed} {e : Exp} {es : List Exp} {words : List Word} {rest : List Placed} (middle : List Placed)
+    → ExpDone Bad p precedence.Or e words (c ∷ middle)
     → Is p terminal.Comma c → (AllByRecursion (Fine Bad) middle → ExpsDone Bad p es (plain middle) rest) → ExpsDone Bad p (e ∷ es) words rest
 more_exps_done {c = c} {e = e} {es = es} {rest = rest} middle d is_comma more =
     let others = more d.fine.1 in
@@ -52,7 +55,8 @@ more_exps_done {c = c} {e = e} {es = es} {rest = rest} middle d is_comma more =
     }
 
 -- explist
-pub exps_come : {Bad : Type 0} {p : Place} {es : List Exp} {words : List Word} {rest : List Placed} → ExpsDone Bad p es words rest → Done Bad (λ n. read_exps (readers n) p words) es rest
+pub exps_come : {Bad : Type 0} {p : Place} {es : List Exp} {words : List Word} {rest : List Placed} → ExpsDone Bad p es words rest
+    → Done Bad (λ n. read_exps (readers n) p words) es rest
 exps_come d = record { comes = comes_then _ d.comes (d.tail []); fine = d.fine }
 
 -- ---- parts in brackets
@@ -65,7 +69,8 @@ pub no_arguments_done : {Bad : Type 0} {p : Place} {o c : Placed} {rest : List P
     → AllByRecursion (Fine Bad) (o ∷ c ∷ rest) → Done Bad (λ n. read_arguments (readers n) p (plain (o ∷ c ∷ rest))) [] rest
 no_arguments_done o c fine = record { comes = comes_expected _ o fine.0 (comes_if _ (begins_here c) (comes_taken _ c fine.1.0 (comes_read _))); fine = fine.1.1 }
 
-pub arguments_done : {Bad : Type 0} {p : Place} {o c : Placed} {es : List Exp} {rest : List Placed} (words : List Placed) → Is p terminal.LeftParenthesis o → Fine Bad o
+pub arguments_done : {Bad : Type 0} {p : Place} {o c : Placed} {es : List Exp} {rest : List Placed} (words : List Placed) → Is p terminal.LeftParenthesis o
+    → Fine Bad o
     → Starts begins_exp words → ExpsDone Bad p es (plain words) (c ∷ rest) → Is p terminal.RightParenthesis c
     → Done Bad (λ n. read_arguments (readers n) p (plain (o ∷ words))) es rest
 arguments_done words o fine start d c =
@@ -84,10 +89,12 @@ pub record NoSuffix (words : List Word) : Type 0 where
   pub dot : begins terminal.Dot words ≡ false
   pub parenthesis : begins terminal.LeftParenthesis words ≡ false
 
-pub suffixes_end : {Bad : Type 0} {p : Place} {words : List Word} (found : Part) → NoSuffix words → Comes Bad (λ n. (readers n).suffixes p found words) (read found words)
+pub suffixes_end : {Bad : Type 0} {p : Place} {words : List Word} (found : Part) → NoSuffix words
+    → Comes Bad (λ n. (readers n).suffixes p found words) (read found words)
 suffixes_end found h = over_suffixes (comes_else _ h.bracket (comes_else _ h.dot (comes_else _ h.parenthesis (comes_read _))))
 
-pub no_suffix_here : {p : Place} {t : Terminal} {o : Placed} {words : List Word} → Is p t o → is_this terminal.LeftBracket t ≡ false → is_this terminal.Dot t ≡ false
+pub no_suffix_here : {p : Place} {t : Terminal} {o : Placed} {words : List Word} → Is p t o → is_this terminal.LeftBracket t ≡ false
+    → is_this terminal.Dot t ≡ false
     → is_this terminal.LeftParenthesis t ≡ false → NoSuffix (o.word ∷ words)
 no_suffix_here o a b c = record {
   bracket = is_other terminal.LeftBracket o a;
@@ -95,7 +102,8 @@ no_suffix_here o a b c = record {
   parenthesis = is_other terminal.LeftParenthesis o c;
 }
 
-index_goes_on : {Bad : Type 0} {p : Place} {before : Part} {key : Exp} {rest : List Placed} {x : Answer Part} (middle : List Placed) → Starts (is_this terminal.LeftBracket) middle
+index_goes_on : {Bad : Type 0} {p : Place} {before : Part} {key : Exp} {rest : List Placed} {x : Answer Part} (middle : List Placed)
+    → Starts (is_this terminal.LeftBracket) middle
     → Done Bad (λ n. read_index (readers n) (within p) (plain middle)) key rest
     → Comes Bad (λ n. (readers n).suffixes p (part.Index (joined before) key) (plain rest)) x → Comes Bad (λ n. (readers n).suffixes p before (plain middle)) x
 index_goes_on middle start d h = over_suffixes (comes_if _ (starts_begin terminal.LeftBracket middle start) (comes_then _ d.comes h))
@@ -106,7 +114,8 @@ field_goes_on : {Bad : Type 0} {p : Place} {before : Part} {d n : Placed} {x : A
 field_goes_on rest d n fine h = over_suffixes (comes_else _ (is_other terminal.LeftBracket d refl) (comes_if _ (begins_here d)
     (comes_taken _ d fine.0 (comes_then _ (name_comes n fine.1.0) h))))
 
-pub call_goes_on : {Bad : Type 0} {p : Place} {before : Part} {es : List Exp} {rest : List Placed} {x : Answer Part} (middle : List Placed) → Starts (is_this terminal.LeftParenthesis) middle
+pub call_goes_on : {Bad : Type 0} {p : Place} {before : Part} {es : List Exp} {rest : List Placed} {x : Answer Part} (middle : List Placed)
+    → Starts (is_this terminal.LeftParenthesis) middle
     → Done Bad (λ n. read_arguments (readers n) (within p) (plain middle)) es rest
     → Comes Bad (λ n. (readers n).suffixes p (part.Call (joined before) es) (plain rest)) x → Comes Bad (λ n. (readers n).suffixes p before (plain middle)) x
 call_goes_on middle start d h =
@@ -130,7 +139,8 @@ name_prefix_done {n = n} {rest = rest} is_name fine = record {
   fine = fine.1;
 }
 
-pub index_prefix_done : {Bad : Type 0} {p : Place} {prefix : Prefix} {key : Exp} {words : List Word} {rest : List Placed} (middle : List Placed) → Starts (is_this terminal.LeftBracket) middle
+pub index_prefix_done : {Bad : Type 0} {p : Place} {prefix : Prefix} {key : Exp} {words : List Word} {rest : List Placed} (middle : List Placed)
+    → Starts (is_this terminal.LeftBracket) middle
     → PrefixDone Bad p prefix words middle → (AllByRecursion (Fine Bad) middle → Done Bad (λ n. read_index (readers n) (within p) (plain middle)) key rest)
     → PrefixDone Bad p (with_suffix prefix (suffix.Index key)) words rest
 index_prefix_done {key = key} middle start before inside =
@@ -142,7 +152,8 @@ index_prefix_done {key = key} middle start before inside =
       fine = found.fine;
     }
 
-pub field_prefix_done : {Bad : Type 0} {p : Place} {d n : Placed} {prefix : Prefix} {words : List Word} {rest : List Placed} → PrefixDone Bad p prefix words (d ∷ n ∷ rest)
+pub field_prefix_done : {Bad : Type 0} {p : Place} {d n : Placed} {prefix : Prefix} {words : List Word} {rest : List Placed}
+    → PrefixDone Bad p prefix words (d ∷ n ∷ rest)
     → Is p terminal.Dot d → Is p terminal.Name n → PrefixDone Bad p (with_suffix prefix (suffix.Field n.word.spelled)) words rest
 field_prefix_done {n = n} {rest = rest} before is_dot is_name = record {
   part = part.Field (joined before.part) n.word.spelled;
@@ -151,7 +162,8 @@ field_prefix_done {n = n} {rest = rest} before is_dot is_name = record {
   fine = before.fine.1.1;
 }
 
-pub call_prefix_done : {Bad : Type 0} {p : Place} {prefix : Prefix} {es : List Exp} {words : List Word} {rest : List Placed} (middle : List Placed) → Starts (is_this terminal.LeftParenthesis) middle
+pub call_prefix_done : {Bad : Type 0} {p : Place} {prefix : Prefix} {es : List Exp} {words : List Word} {rest : List Placed} (middle : List Placed)
+    → Starts (is_this terminal.LeftParenthesis) middle
     → PrefixDone Bad p prefix words middle → (AllByRecursion (Fine Bad) middle → Done Bad (λ n. read_arguments (readers n) (within p) (plain middle)) es rest)
     → PrefixDone Bad p (with_suffix prefix (suffix.Call es)) words rest
 call_prefix_done {es = es} middle start before inside =
@@ -163,7 +175,8 @@ call_prefix_done {es = es} middle start before inside =
       fine = found.fine;
     }
 
-pub parenthesized_done : {Bad : Type 0} {p : Place} {o c : Placed} {e : Exp} {words : List Word} {rest : List Placed} → Is (within p) terminal.LeftParenthesis o → Fine Bad o
+pub parenthesized_done : {Bad : Type 0} {p : Place} {o c : Placed} {e : Exp} {words : List Word} {rest : List Placed} → Is (within p) terminal.LeftParenthesis o
+    → Fine Bad o
     → ExpDone Bad (within p) precedence.Or e words (c ∷ rest) → Is (within p) terminal.RightParenthesis c
     → PrefixDone Bad p (record { head = head.Parenthesized e; suffixes = [] }) (o.word ∷ words) rest
 parenthesized_done {e = e} o fine d c = record {
@@ -184,7 +197,8 @@ name_var_done {n = n} {rest = rest} is_name fine = record {
   fine = fine.1;
 }
 
-pub index_var_done : {Bad : Type 0} {p : Place} {prefix : Prefix} {key : Exp} {words : List Word} {rest : List Placed} (middle : List Placed) → Starts (is_this terminal.LeftBracket) middle
+pub index_var_done : {Bad : Type 0} {p : Place} {prefix : Prefix} {key : Exp} {words : List Word} {rest : List Placed} (middle : List Placed)
+    → Starts (is_this terminal.LeftBracket) middle
     → PrefixDone Bad p prefix words middle → (AllByRecursion (Fine Bad) middle → Done Bad (λ n. read_index (readers n) (within p) (plain middle)) key rest)
     → VarDone Bad p (var.Index prefix key) words rest
 index_var_done {key = key} middle start before inside =
@@ -196,7 +210,8 @@ index_var_done {key = key} middle start before inside =
       fine = found.fine;
     }
 
-pub field_var_done : {Bad : Type 0} {p : Place} {d n : Placed} {prefix : Prefix} {words : List Word} {rest : List Placed} → PrefixDone Bad p prefix words (d ∷ n ∷ rest)
+pub field_var_done : {Bad : Type 0} {p : Place} {d n : Placed} {prefix : Prefix} {words : List Word} {rest : List Placed}
+    → PrefixDone Bad p prefix words (d ∷ n ∷ rest)
     → Is p terminal.Dot d → Is p terminal.Name n → VarDone Bad p (var.Field prefix n.word.spelled) words rest
 field_var_done {n = n} {rest = rest} before is_dot is_name = record {
   part = part.Field (joined before.part) n.word.spelled;
@@ -205,10 +220,12 @@ field_var_done {n = n} {rest = rest} before is_dot is_name = record {
   fine = before.fine.1.1;
 }
 
-vars_end : {Bad : Type 0} {p : Place} {words : List Word} (before : List Var) → begins terminal.Comma words ≡ false → Comes Bad (λ n. (readers n).vars p before words) (read before words)
+vars_end : {Bad : Type 0} {p : Place} {words : List Word} (before : List Var) → begins terminal.Comma words ≡ false
+    → Comes Bad (λ n. (readers n).vars p before words) (read before words)
 vars_end before h = over_vars (comes_else _ h (comes_read _))
 
-pub one_var_done : {Bad : Type 0} {p : Place} {v : Var} {words : List Word} {rest : List Placed} → VarDone Bad p v words rest → NoSuffix (plain rest) → begins terminal.Comma (plain rest) ≡ false
+pub one_var_done : {Bad : Type 0} {p : Place} {v : Var} {words : List Word} {rest : List Placed} → VarDone Bad p v words rest → NoSuffix (plain rest)
+    → begins terminal.Comma (plain rest) ≡ false
     → VarsDone Bad p (v ∷ []) words rest
 one_var_done {v = v} {rest = rest} d ends h = record {
   part = d.part;
@@ -220,7 +237,8 @@ one_var_done {v = v} {rest = rest} d ends h = record {
   fine = d.fine;
 }
 
-pub more_vars_done : {Bad : Type 0} {p : Place} {c : Placed} {v : Var} {vs : List Var} {words : List Word} {rest : List Placed} (middle : List Placed) → VarDone Bad p v words (c ∷ middle)
+pub more_vars_done : {Bad : Type 0} {p : Place} {c : Placed} {v : Var} {vs : List Var} {words : List Word} {rest : List Placed} (middle : List Placed)
+    → VarDone Bad p v words (c ∷ middle)
     → Is p terminal.Comma c → (AllByRecursion (Fine Bad) middle → VarsDone Bad p vs (plain middle) rest) → VarsDone Bad p (v ∷ vs) words rest
 more_vars_done {c = c} {v = v} {vs = vs} {rest = rest} middle d is_comma more =
     let others = more d.fine.1 in

@@ -23,13 +23,15 @@ use Rattle.ntx_parse.proofs.CompleteNames.{name_comes, local_name_comes, names_c
 use Rattle.ntx_parse.proofs.CompletePrefixes.{exps_come}
 use Rattle.ntx_parse.proofs.CompleteKinds.{KindDone, kind_is, kind_of_first, ValuesDone}
 
-pub empty_done : {Bad : Type 0} {p : Place} {o : Placed} {rest : List Placed} → Is p terminal.Semicolon o → AllByRecursion (Fine Bad) (o ∷ rest) → KindDone Bad p stat.Empty (o ∷ rest) rest
+pub empty_done : {Bad : Type 0} {p : Place} {o : Placed} {rest : List Placed} → Is p terminal.Semicolon o → AllByRecursion (Fine Bad) (o ∷ rest)
+    → KindDone Bad p stat.Empty (o ∷ rest) rest
 empty_done {rest = rest} o fine = record { comes = kind_is (plain rest) o (comes_taken _ o fine.0 (comes_read _)); fine = fine.1 }
 
 stands_in_loop : (p : Place) (o : Placed) → Is p terminal.Break o → IsFine o → p.in_loop ≡ true
 stands_in_loop p o i fine = ap (λ q. q.in_loop) (sym i.place) ∙ fine.in_loop i.is
 
-break_or : {Bad : Type 0} (bad : Bad) (words rest : List Word) (in_loop : Bool) → IsOrStops Bad (if in_loop then read stat.Break rest else stopped why.Break words) (read stat.Break rest)
+break_or : {Bad : Type 0} (bad : Bad) (words rest : List Word) (in_loop : Bool)
+    → IsOrStops Bad (if in_loop then read stat.Break rest else stopped why.Break words) (read stat.Break rest)
 break_or bad words rest true = told refl
 break_or bad words rest false = stops bad (record { why = why.Break; words = words }) (λ e. absurd cc) refl
 
@@ -38,7 +40,8 @@ break_is : {Bad : Type 0} (p : Place) (o : Placed) (words rest : List Word) → 
 break_is p o words rest i (is_fine fine) = rw (stands_in_loop p o i fine) (told refl)
 break_is p o words rest i (is_bad bad) = break_or bad words rest p.in_loop
 
-pub break_done : {Bad : Type 0} {p : Place} {o : Placed} {rest : List Placed} → Is p terminal.Break o → AllByRecursion (Fine Bad) (o ∷ rest) → KindDone Bad p stat.Break (o ∷ rest) rest
+pub break_done : {Bad : Type 0} {p : Place} {o : Placed} {rest : List Placed} → Is p terminal.Break o → AllByRecursion (Fine Bad) (o ∷ rest)
+    → KindDone Bad p stat.Break (o ∷ rest) rest
 break_done {p} {o} {rest} i fine = record {
   comes = kind_is (plain rest) i (comes_taken _ i fine.0 (comes_at_once (break_is p o (plain (o ∷ rest)) (plain rest) i fine.0)));
   fine = fine.1;
@@ -46,11 +49,13 @@ break_done {p} {o} {rest} i fine = record {
 
 -- ---- blocks and loops
 
-to_end : {Bad : Type 0} {p inside : Place} {e : Placed} {b : Block} {words : List Word} {rest : List Placed} → BlockDone Bad inside b words (e ∷ rest) → Is p terminal.End e
+to_end : {Bad : Type 0} {p inside : Place} {e : Placed} {b : Block} {words : List Word} {rest : List Placed} → BlockDone Bad inside b words (e ∷ rest)
+    → Is p terminal.End e
     → Comes Bad (λ n. block_to_end (readers n) p inside words) (read b (plain rest))
 to_end d e = comes_then _ d.comes (comes_expected _ e d.fine.0 (comes_read _))
 
-loop_comes : {Bad : Type 0} {p : Place} {o e : Placed} {b : Block} {words : List Word} {rest : List Placed} → Is p terminal.Do o → Fine Bad o → BlockDone Bad (within_loop p) b words (e ∷ rest)
+loop_comes : {Bad : Type 0} {p : Place} {o e : Placed} {b : Block} {words : List Word} {rest : List Placed} → Is p terminal.Do o → Fine Bad o
+    → BlockDone Bad (within_loop p) b words (e ∷ rest)
     → Is p terminal.End e → Comes Bad (λ n. loop_body (readers n) p (o.word ∷ words)) (read b (plain rest))
 loop_comes o fine d e = comes_expected _ o fine (to_end d e)
 
@@ -61,7 +66,8 @@ do_done words o fine d e = record {
   fine = d.fine.1;
 }
 
-pub while_done : {Bad : Type 0} {p : Place} {o d e : Placed} {condition : Exp} {b : Block} {rest : List Placed} (words middle : List Placed) → Is p terminal.While o → Fine Bad o
+pub while_done : {Bad : Type 0} {p : Place} {o d e : Placed} {condition : Exp} {b : Block} {rest : List Placed} (words middle : List Placed)
+    → Is p terminal.While o → Fine Bad o
     → ExpDone Bad p precedence.Or condition (plain words) (d ∷ middle) → Is p terminal.Do d
     → (AllByRecursion (Fine Bad) middle → BlockDone Bad (within_loop p) b (plain middle) (e ∷ rest)) → Is p terminal.End e
     → KindDone Bad p (stat.While condition b) (o ∷ words) rest
@@ -72,7 +78,8 @@ while_done words middle o fine first d more e =
       fine = inside.fine.1;
     }
 
-pub repeat_done : {Bad : Type 0} {p : Place} {o u : Placed} {condition : Exp} {b : Block} {rest : List Placed} (words middle : List Placed) → Is p terminal.Repeat o → Fine Bad o
+pub repeat_done : {Bad : Type 0} {p : Place} {o u : Placed} {condition : Exp} {b : Block} {rest : List Placed} (words middle : List Placed)
+    → Is p terminal.Repeat o → Fine Bad o
     → BlockDone Bad (within_loop p) b (plain words) (u ∷ middle) → Is p terminal.Until u
     → (AllByRecursion (Fine Bad) middle → ExpDone Bad p precedence.Or condition (plain middle) rest) → KindDone Bad p (stat.Repeat b condition) (o ∷ words) rest
 repeat_done words middle o fine inside u more =
@@ -87,7 +94,8 @@ repeat_done words middle o fine inside u more =
 abbrev pub ArmDone : Type 0 → Place → IfArm → List Placed → List Placed → Type 0
 ArmDone Bad p a words rest = Done Bad (λ n. read_arm (readers n) p (plain words)) a rest
 
-pub arm_done : {Bad : Type 0} {p : Place} {first : Terminal} {o t : Placed} {condition : Exp} {b : Block} {rest : List Placed} (words middle : List Placed) → Is p first o → Fine Bad o
+pub arm_done : {Bad : Type 0} {p : Place} {first : Terminal} {o t : Placed} {condition : Exp} {b : Block} {rest : List Placed} (words middle : List Placed)
+    → Is p first o → Fine Bad o
     → ExpDone Bad p precedence.Or condition (plain words) (t ∷ middle) → Is p terminal.Then t → (AllByRecursion (Fine Bad) middle → BlockDone Bad (within p) b (plain middle) rest)
     → ArmDone Bad p (roll-IfArm (record { condition = condition; block = b })) (o ∷ words) rest
 arm_done words middle o fine d t more =
@@ -100,10 +108,12 @@ arm_done words middle o fine d t more =
 abbrev pub ArmsDone : Type 0 → Place → List IfArm → List Placed → List Placed → Type 0
 ArmsDone Bad p arms words rest = ListDone Bad (λ n before. (readers n).arms p before (plain words)) arms rest
 
-pub no_arms_done : {Bad : Type 0} {p : Place} (rest : List Placed) → begins terminal.Elseif (plain rest) ≡ false → AllByRecursion (Fine Bad) rest → ArmsDone Bad p [] rest rest
+pub no_arms_done : {Bad : Type 0} {p : Place} (rest : List Placed) → begins terminal.Elseif (plain rest) ≡ false → AllByRecursion (Fine Bad) rest
+    → ArmsDone Bad p [] rest rest
 no_arms_done rest h fine = record { comes = λ before. over_arms (comes_else _ h (comes_now (all_before before (plain rest)))); fine = fine }
 
-pub more_arms_done : {Bad : Type 0} {p : Place} {first : IfArm} {arms : List IfArm} {rest : List Placed} (words middle : List Placed) → Starts (is_this terminal.Elseif) words
+pub more_arms_done : {Bad : Type 0} {p : Place} {first : IfArm} {arms : List IfArm} {rest : List Placed} (words middle : List Placed)
+    → Starts (is_this terminal.Elseif) words
     → ArmDone Bad p first words middle → (AllByRecursion (Fine Bad) middle → ArmsDone Bad p arms middle rest) → ArmsDone Bad p (first ∷ arms) words rest
 more_arms_done {first = first} {arms = arms} {rest = rest} words middle start d more =
     let others = more d.fine in
@@ -116,10 +126,12 @@ more_arms_done {first = first} {arms = arms} {rest = rest} words middle start d 
 abbrev pub ElseDone : Type 0 → Place → Option Block → List Placed → List Placed → Type 0
 ElseDone Bad p other words rest = Done Bad (λ n. else_behind (readers n) p (plain words)) other rest
 
-pub no_else_done : {Bad : Type 0} (p : Place) (rest : List Placed) → begins terminal.Else (plain rest) ≡ false → AllByRecursion (Fine Bad) rest → ElseDone Bad p None rest rest
+pub no_else_done : {Bad : Type 0} (p : Place) (rest : List Placed) → begins terminal.Else (plain rest) ≡ false → AllByRecursion (Fine Bad) rest
+    → ElseDone Bad p None rest rest
 no_else_done p rest h fine = record { comes = comes_else _ h (comes_read _); fine = fine }
 
-pub else_done : {Bad : Type 0} {p : Place} {o : Placed} {b : Block} {rest : List Placed} (words : List Placed) → Is p terminal.Else o → Fine Bad o → BlockDone Bad (within p) b (plain words) rest
+pub else_done : {Bad : Type 0} {p : Place} {o : Placed} {b : Block} {rest : List Placed} (words : List Placed) → Is p terminal.Else o → Fine Bad o
+    → BlockDone Bad (within p) b (plain words) rest
     → ElseDone Bad p (Some b) (o ∷ words) rest
 else_done words o fine d = record { comes = comes_if _ (begins_here o) (comes_taken _ o fine (comes_then _ d.comes (comes_read _))); fine = d.fine }
 
@@ -140,10 +152,12 @@ if_done {p} {first = first} words behind_first behind_arms start d second third 
 abbrev pub StepDone : Type 0 → Place → Option Exp → List Placed → List Placed → Type 0
 StepDone Bad p s words rest = Done Bad (λ n. step_behind (readers n) p (plain words)) s rest
 
-pub no_step_done : {Bad : Type 0} (p : Place) (rest : List Placed) → begins terminal.Comma (plain rest) ≡ false → AllByRecursion (Fine Bad) rest → StepDone Bad p None rest rest
+pub no_step_done : {Bad : Type 0} (p : Place) (rest : List Placed) → begins terminal.Comma (plain rest) ≡ false → AllByRecursion (Fine Bad) rest
+    → StepDone Bad p None rest rest
 no_step_done p rest h fine = record { comes = comes_else _ h (comes_read _); fine = fine }
 
-pub step_done : {Bad : Type 0} {p : Place} {c : Placed} {value : Exp} {rest : List Placed} (words : List Placed) → Is p terminal.Comma c → Fine Bad c → ExpDone Bad p precedence.Or value (plain words) rest
+pub step_done : {Bad : Type 0} {p : Place} {c : Placed} {value : Exp} {rest : List Placed} (words : List Placed) → Is p terminal.Comma c → Fine Bad c
+    → ExpDone Bad p precedence.Or value (plain words) rest
     → StepDone Bad p (Some value) (c ∷ words) rest
 step_done words c fine d = record { comes = comes_if _ (begins_here c) (comes_taken _ c fine (comes_then _ d.comes (comes_read _))); fine = d.fine }
 
@@ -184,7 +198,8 @@ generic_for_done words behind_names behind_values f fine one no_assign i second 
 abbrev pub BodyDone : Type 0 → Place → FunctionBody → List Placed → List Placed → Type 0
 BodyDone Bad p b words rest = Done Bad (λ n. read_body (readers n) p (plain words)) b rest
 
-pub function_stat_done : {Bad : Type 0} {p : Place} {f n : Placed} {fields : List (List ℕ)} {b : FunctionBody} {rest : List Placed} (words middle : List Placed) → Is p terminal.Function f
+pub function_stat_done : {Bad : Type 0} {p : Place} {f n : Placed} {fields : List (List ℕ)} {b : FunctionBody} {rest : List Placed} (words middle : List Placed)
+    → Is p terminal.Function f
     → Is p terminal.Name n → AllByRecursion (Fine Bad) (f ∷ n ∷ words) → ListDone Bad (λ k before. (readers k).path p before (plain words)) fields middle
     → (AllByRecursion (Fine Bad) middle → BodyDone Bad (within p) b middle rest) → KindDone Bad p (stat.Function n.word.spelled fields b) (f ∷ n ∷ words) rest
 function_stat_done {n = n} words middle f is_name fine path more =
@@ -195,7 +210,8 @@ function_stat_done {n = n} words middle f is_name fine path more =
       fine = inside.fine;
     }
 
-pub local_function_done : {Bad : Type 0} {p : Place} {l f n : Placed} {b : FunctionBody} {rest : List Placed} (words : List Placed) → Is p terminal.Local l → Is p terminal.Function f
+pub local_function_done : {Bad : Type 0} {p : Place} {l f n : Placed} {b : FunctionBody} {rest : List Placed} (words : List Placed) → Is p terminal.Local l
+    → Is p terminal.Function f
     → Is p terminal.Name n → AllByRecursion (Fine Bad) (l ∷ f ∷ n ∷ words) → BodyDone Bad (within p) b words rest
     → KindDone Bad p (stat.LocalFunction (local_name n) b) (l ∷ f ∷ n ∷ words) rest
 local_function_done {f = f} {n = n} words l is_function is_name fine inside = record {
@@ -204,7 +220,8 @@ local_function_done {f = f} {n = n} words l is_function is_name fine inside = re
   fine = inside.fine;
 }
 
-pub locals_done : {Bad : Type 0} {p : Place} {l : Placed} {names : List LocalName} {es : List Exp} {rest : List Placed} (words middle : List Placed) → Is p terminal.Local l → Fine Bad l
+pub locals_done : {Bad : Type 0} {p : Place} {l : Placed} {names : List LocalName} {es : List Exp} {rest : List Placed} (words middle : List Placed)
+    → Is p terminal.Local l → Fine Bad l
     → begins terminal.Function (plain words) ≡ false → NamesDone Bad p names (plain words) middle → (AllByRecursion (Fine Bad) middle → ValuesDone Bad p es middle rest)
     → KindDone Bad p (stat.Local names es) (l ∷ words) rest
 locals_done words middle l fine h d more =

@@ -39,7 +39,8 @@ body_done words middle o names c fine more e =
 abbrev pub FieldDone : Type 0 → Place → Field → List Placed → List Placed → Type 0
 FieldDone Bad p f words rest = Done Bad (λ n. read_field (readers n) p (plain words)) f rest
 
-pub keyed_done : {Bad : Type 0} {p : Place} {a : Placed} {key value : Exp} {rest : List Placed} (words middle : List Placed) → Starts (is_this terminal.LeftBracket) words
+pub keyed_done : {Bad : Type 0} {p : Place} {a : Placed} {key value : Exp} {rest : List Placed} (words middle : List Placed)
+    → Starts (is_this terminal.LeftBracket) words
     → Done Bad (λ n. read_index (readers n) (within p) (plain words)) key (a ∷ middle) → Is p terminal.Assign a
     → (AllByRecursion (Fine Bad) middle → ExpDone Bad p precedence.Or value (plain middle) rest) → FieldDone Bad p (field.Keyed key value) words rest
 keyed_done words middle start d a more =
@@ -49,7 +50,8 @@ keyed_done words middle start d a more =
       fine = found.fine;
     }
 
-pub named_done : {Bad : Type 0} {p : Place} {n a : Placed} {value : Exp} {rest : List Placed} (words : List Placed) → Is p terminal.Name n → Is p terminal.Assign a → Fine Bad n → Fine Bad a
+pub named_done : {Bad : Type 0} {p : Place} {n a : Placed} {value : Exp} {rest : List Placed} (words : List Placed) → Is p terminal.Name n
+    → Is p terminal.Assign a → Fine Bad n → Fine Bad a
     → ExpDone Bad p precedence.Or value (plain words) rest → FieldDone Bad p (field.Named n.word.spelled value) (n ∷ a ∷ words) rest
 named_done words n a fine_n fine_a d = record {
   comes = comes_else _ (is_other terminal.LeftBracket n refl) (comes_if _ (and_from _ _ (begins_here n) (begins_here a))
@@ -57,7 +59,8 @@ named_done words n a fine_n fine_a d = record {
   fine = d.fine;
 }
 
-pub positional_done : {Bad : Type 0} {p : Place} {value : Exp} {rest : List Placed} (words : List Placed) → Starts begins_exp words → names_a_field (plain words) ≡ false
+pub positional_done : {Bad : Type 0} {p : Place} {value : Exp} {rest : List Placed} (words : List Placed) → Starts begins_exp words
+    → names_a_field (plain words) ≡ false
     → ExpDone Bad p precedence.Or value (plain words) rest → FieldDone Bad p (field.Positional value) words rest
 positional_done words start h d = record {
   comes = comes_else _ (not_begins begins_exp terminal.LeftBracket words refl (starts_follows begins_exp words start)) (comes_else _ h (comes_then _ d.comes (comes_read _)));
@@ -69,7 +72,8 @@ positional_done words start h d = record {
 abbrev pub FieldsDone : Type 0 → Place → List Field → List Placed → List Placed → Type 0
 FieldsDone Bad p fields words rest = ListDone Bad (λ n before. (readers n).fields p before (plain words)) fields rest
 
-pub no_fields_done : {Bad : Type 0} {p : Place} (rest : List Placed) → Starts (is_this terminal.RightBrace) rest → AllByRecursion (Fine Bad) rest → FieldsDone Bad p [] rest rest
+pub no_fields_done : {Bad : Type 0} {p : Place} (rest : List Placed) → Starts (is_this terminal.RightBrace) rest → AllByRecursion (Fine Bad) rest
+    → FieldsDone Bad p [] rest rest
 no_fields_done rest start fine = record {
   comes = λ before. over_fields (comes_if _ (starts_begin terminal.RightBrace rest start) (comes_now (all_before before (plain rest))));
   fine = fine;
@@ -78,7 +82,8 @@ no_fields_done rest start fine = record {
 no_brace : (words : List Placed) → Starts begins_field words → begins terminal.RightBrace (plain words) ≡ false
 no_brace words start = not_begins begins_field terminal.RightBrace words refl (starts_follows begins_field words start)
 
-pub last_field_done : {Bad : Type 0} {p : Place} {f : Field} (words rest : List Placed) → Starts begins_field words → FieldDone Bad p f words rest → Starts (is_this terminal.RightBrace) rest
+pub last_field_done : {Bad : Type 0} {p : Place} {f : Field} (words rest : List Placed) → Starts begins_field words → FieldDone Bad p f words rest
+    → Starts (is_this terminal.RightBrace) rest
     → FieldsDone Bad p (f ∷ []) words rest
 last_field_done words rest start d ends =
     let follow = starts_follows (is_this terminal.RightBrace) rest ends in
@@ -89,11 +94,13 @@ last_field_done words rest start d ends =
       fine = d.fine;
     }
 
-separates : {p : Place} {s : Placed} → IsSeparator p s → (nat_eq (number s.word.is) (number terminal.Comma) || nat_eq (number s.word.is) (number terminal.Semicolon)) ≡ true
+separates : {p : Place} {s : Placed} → IsSeparator p s
+    → (nat_eq (number s.word.is) (number terminal.Comma) || nat_eq (number s.word.is) (number terminal.Semicolon)) ≡ true
 separates (comma i) = or_left _ _ (begins_here i)
 separates (semicolon_separator i) = or_right _ _ (begins_here i)
 
-separator_taken : {Bad : Type 0} {p : Place} {s : Placed} (words : List Word) → IsSeparator p s → Fine Bad s → IsOrStops Bad (taken p (s.word ∷ words)) (read s.word words)
+separator_taken : {Bad : Type 0} {p : Place} {s : Placed} (words : List Word) → IsSeparator p s → Fine Bad s
+    → IsOrStops Bad (taken p (s.word ∷ words)) (read s.word words)
 separator_taken words (comma i) fine = taken_is words i fine
 separator_taken words (semicolon_separator i) fine = taken_is words i fine
 
@@ -101,7 +108,8 @@ pub separator_ends_field : {p : Place} {s : Placed} → IsSeparator p s → ends
 separator_ends_field (comma i) = passes ends_field i refl
 separator_ends_field (semicolon_separator i) = passes ends_field i refl
 
-pub more_fields_done : {Bad : Type 0} {p : Place} {s : Placed} {f : Field} {fields : List Field} {rest : List Placed} (words middle : List Placed) → Starts begins_field words
+pub more_fields_done : {Bad : Type 0} {p : Place} {s : Placed} {f : Field} {fields : List Field} {rest : List Placed} (words middle : List Placed)
+    → Starts begins_field words
     → FieldDone Bad p f words (s ∷ middle) → IsSeparator p s → (AllByRecursion (Fine Bad) middle → FieldsDone Bad p fields middle rest) → FieldsDone Bad p (f ∷ fields) words rest
 more_fields_done {f = f} {fields = fields} {rest = rest} words middle start d separator more =
     let others = more d.fine.1 in

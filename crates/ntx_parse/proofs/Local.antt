@@ -2,13 +2,12 @@
 --     Same         words that are the same up to some word
 --     Readers r, and readings of them: up_to
 --     local_script a script in which the reading stops
-use Rattle.std.proofs.Common.{◌≡◌, ◌<◌, ◌≤◌, ℕ, List, [], ◌∷◌, ◌++◌, length, ◌⊎◌, inl, inr, None, Some, Ok, Err, refl, sym, ap, ◌∙◌, subst, arith}
+use Rattle.std.proofs.Common.{◌≡◌, ◌<◌, ◌≤◌, ℕ, List, [], ◌∷◌, ◌++◌, length, inl, inr, None, Some, Ok, Err, ap, ◌∙◌, subst, arith}
 use Rattle.ntx_syntax.specs.declared.fault.SyntaxWhy.{SyntaxWhy}
 use Rattle.ntx_syntax.specs.declared.fault.SyntaxWhy.TheVariants as why
-use Rattle.ntx_syntax.specs.declared.tree.Block.{Block}
 use Rattle.ntx_parse.specs.Words.{Word}
-use Rattle.ntx_parse.specs.Reading.{Answer, Stop, read, stopped, readers, script_by}
-use Rattle.ntx_parse.proofs.Views.{Begin, then_lost, then_alike, View, alike, at_alike, Tells, Goes}
+use Rattle.ntx_parse.specs.Reading.{Answer, Stop, stopped, script_by}
+use Rattle.ntx_parse.proofs.Views.{Begin, then_lost, then_alike, View, alike, at_alike, Tells}
 use Rattle.ntx_parse.proofs.Viewed.{goes_script}
 
 -- The words are the same up to some word, behind which they are those and these.
@@ -38,11 +37,13 @@ up_to those these = record {
   begin = begin_up_to;
 }
 
-stopped_words : {A : Type 0} {stop : Stop} {reason : SyntaxWhy} {words : List Word} → ◌≡◌ {A = Answer A} (Some (Err stop)) (stopped reason words) → stop.words ≡ words
+stopped_words : {A : Type 0} {stop : Stop} {reason : SyntaxWhy} {words : List Word} → ◌≡◌ {A = Answer A} (Some (Err stop)) (stopped reason words)
+    → stop.words ≡ words
 stopped_words e = cc
 
 -- What the second answer is where the first stops since something else is expected, before the words that are not looked at.
-stops_too : {A : Type 0} (those these words : List Word) (a b : Answer A) → Tells (up_to those these) alike a b → a ≡ stopped why.Expected words → length those < length words
+stops_too : {A : Type 0} (those these words : List Word) (a b : Answer A) → Tells (up_to those these) alike a b → a ≡ stopped why.Expected words
+    → length those < length words
     → (rest : List Word) × Same those these words rest × (b ≡ stopped why.Expected rest)
 unfolding up_to
 stops_too those these words None b h e before = absurd cc
@@ -57,7 +58,8 @@ stops_too those these words (Some (Err stop)) b (inr h) e before =
     let left = stopped_words e in
     (h.0, subst (λ w. Same those these w h.0) left h.1, h.2 ∙ ap (λ reason. stopped reason h.0) reason)
 
-pub local_script : (those these words others behind : List Word) (n : ℕ) → Same those these words others → script_by n words ≡ stopped why.Expected behind → length those < length behind
+pub local_script : (those these words others behind : List Word) (n : ℕ) → Same those these words others → script_by n words ≡ stopped why.Expected behind
+    → length those < length behind
     → (rest : List Word) × Same those these behind rest × (script_by n others ≡ stopped why.Expected rest)
 unfolding up_to
 local_script those these words others behind n same e before =

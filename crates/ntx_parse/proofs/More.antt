@@ -1,7 +1,8 @@
 -- Readings with deeper calls tell what those with calls that are less deep do.
 --     more_readers, same_answer    each reading
---     more_script                  whole scripts
-use Rattle.std.proofs.Common.{◌≡◌, ◌≤◌, ℕ, List, [], ◌∷◌, ◌⊎◌, inl, inr, None, Some, Result, Ok, Err, refl, sym, ap, ◌∙◌, subst}
+--     more_script, from_there_on   whole scripts
+--     one_answer                   a script is read in one way
+use Rattle.std.proofs.Common.{◌≡◌, ◌≤◌, ℕ, max, List, [], ◌∷◌, inl, inr, None, Some, Result, Ok, Err, refl, sym, ap, ◌∙◌, subst, arith}
 use Rattle.ntx_syntax.specs.declared.tree.Block.{Block}
 use Rattle.ntx_parse.specs.Words.{Word}
 use Rattle.ntx_parse.specs.Reading.{Answer, Stop, read, stopped, readers, script_by}
@@ -43,3 +44,17 @@ more_readers n m deeper = go_readers n m deeper
 pub more_script : (n m : ℕ) → n ≤ m → (words : List Word) (x : Result (Block × List Word) Stop) → script_by n words ≡ Some x → script_by m words ≡ Some x
 unfolding all_words
 more_script n m deeper words x e = same_answer (goes_script {V = all_words} n m deeper (at_alike refl)) x e
+
+pub from_there_on : (n : ℕ) (words : List Word) (x : Result (Block × List Word) Stop) → script_by n words ≡ Some x
+    → (N : ℕ) × ((m : ℕ) → N ≤ m → script_by m words ≡ Some x)
+from_there_on n words x e = (n, λ m deeper. more_script n m deeper words x e)
+
+told_once : {A : Type 0} {x y : A} → Some x ≡ Some y → x ≡ y
+told_once e = cc
+
+pub one_answer : (n m : ℕ) (words : List Word) (x y : Result (Block × List Word) Stop) → script_by n words ≡ Some x → script_by m words ≡ Some y → x ≡ y
+one_answer n m words x y e f =
+    let k : ℕ = max n m in
+    let left : n ≤ k = omega arith in
+    let right : m ≤ k = omega arith in
+    told_once (sym (more_script n k left words x e) ∙ more_script m k right words y f)

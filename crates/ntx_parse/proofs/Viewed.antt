@@ -1,7 +1,7 @@
 -- Two readings side by side, with calls that lie ever deeper.
 --     go_readers      those with calls of some depth, beside those with calls as deep or deeper
 --     goes_script     the same of whole scripts
-use Rattle.std.proofs.Common.{◌≤◌, ℕ, zero, suc, List, [], ◌∷◌, arith}
+use Rattle.std.proofs.Common.{◌≤◌, ℕ, zero, suc, List, arith}
 use Rattle.ntx_syntax.specs.declared.tree.Block.{Block}
 use Rattle.ntx_parse.specs.Words.{Word}
 use Rattle.ntx_parse.specs.Grammar.{outermost}
@@ -53,9 +53,11 @@ go_readers zero m h = go_nothing
 go_readers (suc n) zero h = absurd (omega arith)
 go_readers (suc n) (suc m) h = go_over (go_readers n m (omega arith))
 
-ended_first : {V : View} (block : Block) {s : Situation} {words others : List Word} → At V s words others → Firsts V s words others → Goes V s (ended block words) (ended block others)
+ended_first : {V : View} (block : Block) {s : Situation} {words others : List Word} → At V s words others → Firsts V s words others
+    → Goes V s (ended block words) (ended block others)
 ended_first block h no_first = goes_read h
 ended_first block h (first behind) = goes_stopped h
 
-pub goes_script : {V : View} {s : Situation} {words others : List Word} (n m : ℕ) → n ≤ m → At V s words others → Goes V s (script_by n words) (script_by m others)
+pub goes_script : {V : View} {s : Situation} {words others : List Word} (n m : ℕ) → n ≤ m → At V s words others
+    → Goes V s (script_by n words) (script_by m others)
 goes_script n m deeper h = goes_then ((go_readers n m deeper).block outermost h) (λ block _ _ _ h. ended_first block h (firsts h))

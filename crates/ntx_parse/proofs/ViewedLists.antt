@@ -20,17 +20,27 @@ use Rattle.ntx_parse.proofs.Views.{View, Situation, lost, At, Goes, goes_read, g
 -- stops at it because it lies too deep.
 pub record Go (V : View) (r other : Readers) : Type 0 where
   pub block : (p : Place) {s : Situation} {words others : List Word} → At V s words others → Goes V s (r.block p words) (other.block p others)
-  pub stats : (p : Place) (before : List Stat) {s : Situation} {words others : List Word} → At V s words others → Goes V s (r.stats p before words) (other.stats p before others)
-  pub arms : (p : Place) (before : List IfArm) {s : Situation} {words others : List Word} → At V s words others → Goes V s (r.arms p before words) (other.arms p before others)
-  pub path : (p : Place) (before : List (List ℕ)) {s : Situation} {words others : List Word} → At V s words others → Goes V s (r.path p before words) (other.path p before others)
-  pub names : (p : Place) (before : List LocalName) {s : Situation} {words others : List Word} → At V s words others → Goes V s (r.names p before words) (other.names p before others)
-  pub exps : (p : Place) (before : List Exp) {s : Situation} {words others : List Word} → At V s words others → Goes V s (r.exps p before words) (other.exps p before others)
-  pub vars : (p : Place) (before : List Var) {s : Situation} {words others : List Word} → At V s words others → Goes V s (r.vars p before words) (other.vars p before others)
-  pub suffixes : (p : Place) (before : Part) {s : Situation} {words others : List Word} → At V s words others → Goes V s (r.suffixes p before words) (other.suffixes p before others)
+  pub stats : (p : Place) (before : List Stat) {s : Situation} {words others : List Word} → At V s words others
+      → Goes V s (r.stats p before words) (other.stats p before others)
+  pub arms : (p : Place) (before : List IfArm) {s : Situation} {words others : List Word} → At V s words others
+      → Goes V s (r.arms p before words) (other.arms p before others)
+  pub path : (p : Place) (before : List (List ℕ)) {s : Situation} {words others : List Word} → At V s words others
+      → Goes V s (r.path p before words) (other.path p before others)
+  pub names : (p : Place) (before : List LocalName) {s : Situation} {words others : List Word} → At V s words others
+      → Goes V s (r.names p before words) (other.names p before others)
+  pub exps : (p : Place) (before : List Exp) {s : Situation} {words others : List Word} → At V s words others
+      → Goes V s (r.exps p before words) (other.exps p before others)
+  pub vars : (p : Place) (before : List Var) {s : Situation} {words others : List Word} → At V s words others
+      → Goes V s (r.vars p before words) (other.vars p before others)
+  pub suffixes : (p : Place) (before : Part) {s : Situation} {words others : List Word} → At V s words others
+      → Goes V s (r.suffixes p before words) (other.suffixes p before others)
   pub exp : (p : Place) (at : Precedence) {s : Situation} {words others : List Word} → At V s words others → Goes V s (r.exp p at words) (other.exp p at others)
-  pub operations : (p : Place) (at : Precedence) (before : List Operation) {s : Situation} {words others : List Word} → At V s words others → Goes V s (r.operations p at before words) (other.operations p at before others)
-  pub fields : (p : Place) (before : List Field) {s : Situation} {words others : List Word} → At V s words others → Goes V s (r.fields p before words) (other.fields p before others)
-  pub named : (p : Place) (at : Precedence) (o : Word) (words : List Word) → nat_eq (number o.is) (number terminal.Name) ≡ true → (others : List Word) → V.Alike (o ∷ words) others → V.Lost words → Goes V lost (r.exp p at (o ∷ words)) (other.exp p at (o ∷ words))
+  pub operations : (p : Place) (at : Precedence) (before : List Operation) {s : Situation} {words others : List Word} → At V s words others
+      → Goes V s (r.operations p at before words) (other.operations p at before others)
+  pub fields : (p : Place) (before : List Field) {s : Situation} {words others : List Word} → At V s words others
+      → Goes V s (r.fields p before words) (other.fields p before others)
+  pub named : (p : Place) (at : Precedence) (o : Word) (words : List Word) → nat_eq (number o.is) (number terminal.Name) ≡ true → (others : List Word)
+      → V.Alike (o ∷ words) others → V.Lost words → Goes V lost (r.exp p at (o ∷ words)) (other.exp p at (o ∷ words))
 
 module _ {V : View} {s : Situation} {words others : List Word} (p : Place) (h : At V s words others) where
   pub goes_name : Goes V s (read_name p words) (read_name p others)

@@ -1,14 +1,13 @@
 -- Two readings side by side: expressions that begin with a name behind which nothing is looked at.
-use Rattle.std.proofs.Common.{◌≡◌, true, false, nat_eq, cond, List, [], ◌∷◌, None, refl, sym, ap, ◌∙◌, subst}
+use Rattle.std.proofs.Common.{◌≡◌, true, nat_eq, cond, List, [], ◌∷◌, sym, ap, subst}
 use Rattle.ntx_parse.specs.declared.part.Part.TheVariants as part
 use Rattle.ntx_parse.specs.declared.place.Place.{Place}
 use Rattle.ntx_parse.specs.declared.precedence.Precedence.{Precedence}
 use Rattle.ntx_parse.specs.declared.precedence.Precedence.TheVariants as precedence
-use Rattle.ntx_parse.specs.declared.terminal.Terminal.{Terminal}
 use Rattle.ntx_parse.specs.declared.terminal.Terminal.TheVariants as terminal
 use Rattle.ntx_parse.specs.Words.{Word}
 use Rattle.ntx_parse.specs.Grammar.{within, tighter}
-use Rattle.ntx_parse.specs.Reading.{Readers, number, begins, and_then, read_name, read_parenthesized, read_prefix, unary_of, simple_at, read_operand, read_run, exp_at}
+use Rattle.ntx_parse.specs.Reading.{Readers, number, and_then, read_name, read_parenthesized, read_prefix, unary_of, simple_at, read_operand, read_run, exp_at}
 use Rattle.ntx_parse.proofs.TerminalLemmas.{same_terminal}
 use Rattle.ntx_parse.proofs.Views.{View, lost, Goes, goes_read, goes_then}
 use Rattle.ntx_parse.proofs.ViewedLists.{Go}
@@ -22,8 +21,8 @@ module _ {V : View} {r other : Readers} (g : Go V r other) (o : Word) (words : L
   lost_prefix : (p : Place) → Goes V lost (read_prefix r p (o ∷ words)) (read_prefix other p (o ∷ words))
   lost_prefix p =
       subst (λ test. Goes V lost
-          (cond test (and_then (read_parenthesized r (within p) (o ∷ words)) (λ e rest. r.suffixes p (part.Parenthesized e) rest)) (and_then (read_name p (o ∷ words)) (λ name rest. r.suffixes p (part.Name name) rest)))
-          (cond test (and_then (read_parenthesized other (within p) (o ∷ words)) (λ e rest. other.suffixes p (part.Parenthesized e) rest)) (and_then (read_name p (o ∷ words)) (λ name rest. other.suffixes p (part.Name name) rest))))
+      (cond test (and_then (read_parenthesized r (within p) (o ∷ words)) (λ e rest. r.suffixes p (part.Parenthesized e) rest)) (and_then (read_name p (o ∷ words)) (λ name rest. r.suffixes p (part.Name name) rest)))
+      (cond test (and_then (read_parenthesized other (within p) (o ∷ words)) (λ e rest. other.suffixes p (part.Parenthesized e) rest)) (and_then (read_name p (o ∷ words)) (λ name rest. other.suffixes p (part.Name name) rest))))
       (sym (ap (λ t. nat_eq (number t) (number terminal.LeftParenthesis)) is_name))
       (goes_then (lost_name p o words l others same e) (λ name _ _ _ h. g.suffixes p (part.Name name) h))
 

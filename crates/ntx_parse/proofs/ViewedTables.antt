@@ -8,15 +8,16 @@ use Rattle.ntx_parse.specs.declared.precedence.Precedence.TheVariants as precede
 use Rattle.ntx_parse.specs.declared.terminal.Terminal.TheVariants as terminal
 use Rattle.ntx_parse.specs.Words.{Word}
 use Rattle.ntx_parse.specs.Grammar.{within, max_nesting}
-use Rattle.ntx_parse.specs.Reading.{Readers, Answer, read, stopped, and_then, begins, number, taken, expected, read_name, read_index, names_a_field, read_field, fields_behind, read_table}
-use Rattle.ntx_parse.proofs.Views.{View, Situation, lost, alike, At, at_lost, at_alike, Goes, goes_lost, goes_read, goes_stopped, goes_if, goes_then, goes_where, goes_taken, goes_expected, begins_same, Begin, both_end, then_lost, then_alike}
+use Rattle.ntx_parse.specs.Reading.{Readers, Answer, read, stopped, and_then, begins, number, expected, read_name, read_index, names_a_field, read_field, fields_behind, read_table}
+use Rattle.ntx_parse.proofs.Views.{View, Situation, lost, alike, At, at_lost, at_alike, Goes, goes_lost, goes_read, goes_if, goes_then, goes_where, goes_taken, goes_expected, begins_same, Begin, both_end, then_lost, then_alike}
 use Rattle.ntx_parse.proofs.ViewedLists.{Go, goes_name}
 use Rattle.ntx_parse.proofs.ViewedPrefixes.{goes_index}
 
 module _ {V : View} (p : Place) (o : Word) (words : List Word) (h : V.Lost words) (others : List Word) (same : V.Alike (o ∷ words) others) where
-  lost_if : {B : Type 0} (fits named : Bool) (next other : Word → List Word → Answer B) → named ≡ true → ((rest : List Word) → V.Lost rest → Goes V lost (next o rest) (other o rest))
+  lost_if : {B : Type 0} (fits named : Bool) (next other : Word → List Word → Answer B) → named ≡ true
+      → ((rest : List Word) → V.Lost rest → Goes V lost (next o rest) (other o rest))
       → Goes V lost (and_then (cond named (cond fits (read o words) (stopped why.Depth (o ∷ words))) (stopped why.Expected (o ∷ words))) next)
-          (and_then (cond named (cond fits (read o words) (stopped why.Depth (o ∷ words))) (stopped why.Expected (o ∷ words))) other)
+      (and_then (cond named (cond fits (read o words) (stopped why.Depth (o ∷ words))) (stopped why.Expected (o ∷ words))) other)
   lost_if true true next other e g = g words h
   lost_if false true next other e g = record { tells = V.deep same h }
   lost_if fits false next other e g = absurd cc
@@ -51,21 +52,25 @@ module _ {V : View} {r other : Readers} (g : Go V r other) where
       goes_then (goes_expected p terminal.Assign h) (λ _ _ _ _ h.
       goes_then (g.exp p precedence.Or h) (λ value _ _ _ h. goes_read h)))
 
-  named_value : (p : Place) (name : List ℕ) {s : Situation} {words others : List Word} → At V s words others → Goes V s (and_then (expected p terminal.Assign words) (λ _ second. and_then (r.exp p precedence.Or second) (λ value rest. read (field.Named name value) rest))) (and_then (expected p terminal.Assign others) (λ _ second. and_then (other.exp p precedence.Or second) (λ value rest. read (field.Named name value) rest)))
+  named_value : (p : Place) (name : List ℕ) {s : Situation} {words others : List Word} → At V s words others
+      → Goes V s (and_then (expected p terminal.Assign words) (λ _ second. and_then (r.exp p precedence.Or second) (λ value rest. read (field.Named name value) rest))) (and_then (expected p terminal.Assign others) (λ _ second. and_then (other.exp p precedence.Or second) (λ value rest. read (field.Named name value) rest)))
   named_value p name h = goes_then (goes_expected p terminal.Assign h) (λ _ _ _ _ h. goes_then (g.exp p precedence.Or h) (λ value _ _ _ h. goes_read h))
 
   goes_named : (p : Place) {s : Situation} {words others : List Word} → At V s words others → Goes V s (named_by r p words) (named_by other p others)
   goes_named p h = goes_then (goes_name p h) (λ name _ _ _ h. named_value p name h)
 
-  goes_positional : (p : Place) {s : Situation} {words others : List Word} → At V s words others → Goes V s (positional_by r p words) (positional_by other p others)
+  goes_positional : (p : Place) {s : Situation} {words others : List Word} → At V s words others
+      → Goes V s (positional_by r p words) (positional_by other p others)
   goes_positional p h = goes_then (g.exp p precedence.Or h) (λ value _ _ _ h. goes_read h)
 
   -- Whether the name in front of what is lost is that of a field or begins a value, it is taken or lies too deep.
-  lost_field : (p : Place) (o : Word) (words : List Word) (test : Bool) {s : Situation} {c : Answer Field} → nat_eq (number o.is) (number terminal.Name) ≡ true → (others : List Word) → V.Alike (o ∷ words) others → V.Lost words → Goes V s (cond test (named_by r p (o ∷ words)) (positional_by r p (o ∷ words))) c
+  lost_field : (p : Place) (o : Word) (words : List Word) (test : Bool) {s : Situation} {c : Answer Field} → nat_eq (number o.is) (number terminal.Name) ≡ true
+      → (others : List Word) → V.Alike (o ∷ words) others → V.Lost words → Goes V s (cond test (named_by r p (o ∷ words)) (positional_by r p (o ∷ words))) c
   lost_field p o words true e others same l = goes_lost (goes_then (lost_name p o words l others same e) (λ name _ _ _ h. named_value p name h))
   lost_field p o words false e others same l = goes_lost (goes_then (g.named p precedence.Or o words e others same l) (λ value _ _ _ h. goes_read h))
 
-  field_by_name : (p : Place) {o : Word} {words others : List Word} (is_name : Bool) → nat_eq (number o.is) (number terminal.Name) ≡ is_name → V.Alike (o ∷ words) (o ∷ others) → V.Lost words
+  field_by_name : (p : Place) {o : Word} {words others : List Word} (is_name : Bool) → nat_eq (number o.is) (number terminal.Name) ≡ is_name
+      → V.Alike (o ∷ words) (o ∷ others) → V.Lost words
       → Goes V alike (cond (is_name && begins terminal.Assign words) (named_by r p (o ∷ words)) (positional_by r p (o ∷ words))) (cond (is_name && begins terminal.Assign others) (named_by other p (o ∷ others)) (positional_by other p (o ∷ others)))
   field_by_name p false e same l = goes_positional p (at_alike same)
   field_by_name p {o} {words} {others} true e same l = lost_field p o words (begins terminal.Assign words) e (o ∷ others) same l
@@ -88,7 +93,8 @@ module _ {V : View} {r other : Readers} (g : Go V r other) where
 
   -- ---- tables
 
-  pub goes_fields : (p : Place) (before : List Field) {s : Situation} {words others : List Word} → At V s words others → Goes V s (fields_behind r p before words) (fields_behind other p before others)
+  pub goes_fields : (p : Place) (before : List Field) {s : Situation} {words others : List Word} → At V s words others
+      → Goes V s (fields_behind r p before words) (fields_behind other p before others)
   goes_fields p before h =
       goes_where terminal.RightBrace h (goes_read h)
       (goes_then (goes_field p h) (λ f _ _ _ h.

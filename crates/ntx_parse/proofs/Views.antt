@@ -8,7 +8,7 @@ use Rattle.ntx_parse.specs.declared.place.Place.{Place}
 use Rattle.ntx_parse.specs.declared.terminal.Terminal.{Terminal}
 use Rattle.ntx_parse.specs.Words.{Word}
 use Rattle.ntx_parse.specs.Grammar.{max_nesting}
-use Rattle.ntx_parse.specs.Reading.{Answer, Stop, read, stopped, and_then, begins, taken, expected}
+use Rattle.ntx_parse.specs.Reading.{Answer, read, stopped, and_then, begins, taken, expected}
 
 -- Words that begin alike: both are none, or they have the same first word, behind which they are lost or alike.
 pub data Begin (Lost : List Word → Type 0) (Alike : List Word → List Word → Type 0) : List Word → List Word → Type 0 where
@@ -61,11 +61,13 @@ module _ {A : Type 0} {V : View} where
   goes_read (at_lost h) = record { tells = h }
   goes_read (at_alike h) = record { tells = inr (_, h, refl) }
 
-  pub goes_stopped : {s : Situation} {words others : List Word} {reason : SyntaxWhy} → At V s words others → Goes {A = A} V s (stopped reason words) (stopped reason others)
+  pub goes_stopped : {s : Situation} {words others : List Word} {reason : SyntaxWhy} → At V s words others
+      → Goes {A = A} V s (stopped reason words) (stopped reason others)
   goes_stopped (at_lost h) = record { tells = V.stops h }
   goes_stopped (at_alike h) = record { tells = inr (_, h, refl) }
 
-  pub goes_if : {s : Situation} {a b c d : Answer A} (test other : Bool) → test ≡ other → Goes V s a b → Goes V s c d → Goes V s (cond test a c) (cond other b d)
+  pub goes_if : {s : Situation} {a b c d : Answer A} (test other : Bool) → test ≡ other → Goes V s a b → Goes V s c d
+      → Goes V s (cond test a c) (cond other b d)
   goes_if true true e h g = h
   goes_if false false e h g = g
   goes_if true false e h g = absurd cc
@@ -106,7 +108,9 @@ pub goes_where : {A : Type 0} {V : View} {s : Situation} {words others : List Wo
 goes_where {words = words} {others = others} t h one other = goes_if (begins t words) (begins t others) (begins_same t h) one other
 
 module _ {V : View} (p : Place) where
-  take_if : {s : Situation} {words others : List Word} {o : Word} (fits : Bool) → Goes {A = Word} V s (read o words) (read o others) → Goes {A = Word} V s (stopped why.Depth (o ∷ words)) (stopped why.Depth (o ∷ others)) → Goes {A = Word} V s (cond fits (read o words) (stopped why.Depth (o ∷ words))) (cond fits (read o others) (stopped why.Depth (o ∷ others)))
+  take_if : {s : Situation} {words others : List Word} {o : Word} (fits : Bool) → Goes {A = Word} V s (read o words) (read o others)
+      → Goes {A = Word} V s (stopped why.Depth (o ∷ words)) (stopped why.Depth (o ∷ others))
+      → Goes {A = Word} V s (cond fits (read o words) (stopped why.Depth (o ∷ words))) (cond fits (read o others) (stopped why.Depth (o ∷ others)))
   take_if true h g = h
   take_if false h g = g
 
@@ -132,7 +136,8 @@ pub data Behind (V : View) : Situation → List Word → List Word → Type 0 wh
   behind_lost : {s : Situation} {words others : List Word} → V.Lost words → Behind V s words others
   behind_alike : {words others : List Word} → V.Alike words others → Behind V alike words others
 
-pub goes_read_behind : {A : Type 0} {V : View} {s : Situation} {words others : List Word} {t : A} → Behind V s words others → Goes V s (read t words) (read t others)
+pub goes_read_behind : {A : Type 0} {V : View} {s : Situation} {words others : List Word} {t : A} → Behind V s words others
+    → Goes V s (read t words) (read t others)
 goes_read_behind {s = lost} (behind_lost h) = record { tells = h }
 goes_read_behind {s = alike} (behind_lost h) = record { tells = inl h }
 goes_read_behind (behind_alike h) = goes_read (at_alike h)
@@ -156,15 +161,20 @@ firsts (at_lost h) = firsts_lost _ h
 firsts {V} (at_alike h) = firsts_alike V (V.begin h)
 
 module _ {B : Type 0} {V : View} {s : Situation} where
-  taking_if : {o : Word} {words others : List Word} (next other : Word → List Word → Answer B) (fits : Bool) → At V s (o ∷ words) (o ∷ others) → Goes V s (next o words) (other o others)
+  taking_if : {o : Word} {words others : List Word} (next other : Word → List Word → Answer B) (fits : Bool) → At V s (o ∷ words) (o ∷ others)
+      → Goes V s (next o words) (other o others)
       → Goes V s (and_then (cond fits (read o words) (stopped why.Depth (o ∷ words))) next) (and_then (cond fits (read o others) (stopped why.Depth (o ∷ others))) other)
   taking_if next other true h g = g
   taking_if next other false h g = goes_stopped h
 
-  taking_first : {words others : List Word} {next other : Word → List Word → Answer B} (p : Place) → At V s words others → Firsts V s words others → ((o : Word) (words others : List Word) → Behind V s words others → Goes V s (next o words) (other o others)) → Goes V s (and_then (taken p words) next) (and_then (taken p others) other)
+  taking_first : {words others : List Word} {next other : Word → List Word → Answer B} (p : Place) → At V s words others → Firsts V s words others
+      → ((o : Word) (words others : List Word) → Behind V s words others → Goes V s (next o words) (other o others))
+      → Goes V s (and_then (taken p words) next) (and_then (taken p others) other)
   taking_first p h no_first g = goes_stopped h
   taking_first {next = next} {other = other} p h (first {o} {words} {others} behind) g = taking_if next other (nat_le p.nesting max_nesting) h (g o words others behind)
 
   -- a word is taken, and what comes behind it may stop at it
-  pub goes_taking : {words others : List Word} {next other : Word → List Word → Answer B} (p : Place) → At V s words others → ((o : Word) (words others : List Word) → Behind V s words others → Goes V s (next o words) (other o others)) → Goes V s (and_then (taken p words) next) (and_then (taken p others) other)
+  pub goes_taking : {words others : List Word} {next other : Word → List Word → Answer B} (p : Place) → At V s words others
+      → ((o : Word) (words others : List Word) → Behind V s words others → Goes V s (next o words) (other o others))
+      → Goes V s (and_then (taken p words) next) (and_then (taken p others) other)
   goes_taking p h g = taking_first p h (firsts h) g
