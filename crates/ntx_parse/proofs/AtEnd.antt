@@ -1,12 +1,12 @@
--- What a reading leaves, and where it stops, is behind some of the words that it is given.
---     IsAtEnd whole words    the words are the last of the whole
---     stops_at_end           those at which the reading of a script stops
+-- What a reading leaves, and what lies before it where it stops, are the last of the words that it is given.
+--     IsAtEnd whole words             the words are the last of the whole
+--     rest_at_end, stop_at_end        each reading, by `ends_of`
+--     stops_at_end                    whole scripts
 use Rattle.std.proofs.Common.{◌≡◌, ℕ, List, [], ◌∷◌, ◌++◌, None, Some, Ok, Err, refl, sym, subst, ◌∙◌, append_assoc, arith}
 use Rattle.ntx_parse.specs.Words.{Word}
-use Rattle.ntx_parse.specs.Reading.{Answer, Stop, read, readers, script_by}
+use Rattle.ntx_parse.specs.Reading.{Answer, Stop, read, script_by}
 use Rattle.ntx_parse.proofs.Views.{View, lost, at_lost, Tells}
-use Rattle.ntx_parse.proofs.ViewedLists.{Go}
-use Rattle.ntx_parse.proofs.Viewed.{go_readers, goes_script}
+use Rattle.ntx_parse.proofs.Viewed.{goes_script}
 
 pub record IsAtEnd (whole words : List Word) : Type 0 where
   pub front : List Word
@@ -29,23 +29,20 @@ ends_of whole = record {
 whole_at_end : (whole : List Word) → IsAtEnd whole whole
 whole_at_end whole = record { front = []; is = refl }
 
-stop_at_end : {A : Type 0} (whole : List Word) (a b : Answer A) (stop : Stop) → Tells (ends_of whole) lost a b → a ≡ Some (Err stop) → IsAtEnd whole stop.words
+pub stop_at_end : {A : Type 0} (whole : List Word) (a b : Answer A) (stop : Stop) → Tells (ends_of whole) lost a b → a ≡ Some (Err stop) → IsAtEnd whole stop.words
 unfolding ends_of
 stop_at_end whole None b stop h e = absurd cc
 stop_at_end whole (Some (Ok found)) b stop h e = absurd cc
 stop_at_end whole (Some (Err other)) b stop h e = let same : other.words ≡ stop.words = cc in subst (IsAtEnd whole) same h
 
-rest_at_end : {A : Type 0} (whole : List Word) (a b : Answer A) (t : A) (rest : List Word) → Tells (ends_of whole) lost a b → a ≡ read t rest
+pub rest_at_end : {A : Type 0} (whole : List Word) (a b : Answer A) (t : A) (rest : List Word) → Tells (ends_of whole) lost a b → a ≡ read t rest
     → IsAtEnd whole rest
 unfolding ends_of
 rest_at_end whole None b t rest h e = absurd cc
 rest_at_end whole (Some (Ok found)) b t rest h e = let same : found.1 ≡ rest = cc in subst (IsAtEnd whole) same h
 rest_at_end whole (Some (Err other)) b t rest h e = absurd cc
 
--- each reading, of words at the end of the whole
-pub readers_to_end : (whole : List Word) (n : ℕ) → Go (ends_of whole) (readers n) (readers n)
-readers_to_end whole n = go_readers n n (omega arith)
-
 pub stops_at_end : (n : ℕ) (words : List Word) (stop : Stop) → script_by n words ≡ Some (Err stop) → IsAtEnd words stop.words
 unfolding ends_of
-stops_at_end n words stop e = stop_at_end words (script_by n words) (script_by n words) stop (goes_script {V = ends_of words} n n (omega arith) (at_lost (whole_at_end words))).tells e
+stops_at_end n words stop e =
+    stop_at_end words (script_by n words) (script_by n words) stop (goes_script {V = ends_of words} n n (omega arith) (at_lost (whole_at_end words))).tells e

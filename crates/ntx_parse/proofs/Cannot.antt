@@ -1,6 +1,6 @@
--- Where the reading of a script stops since something else is expected, nothing that begins with these words and the one where it stops is a script.
---     no_script    where it stops so, the words are no script, wherever it stops
---     cannot       where it stops so before these words, they cannot stand there
+-- Where the reading of a script stops since something else is expected, no script begins with the words up to the one where it stops, that one too.
+--     no_script    such words are no script
+--     cannot       what is wrong with the first of the words before which it stops
 use Rattle.std.proofs.Common.{◌≡◌, ◌≤◌, ℕ, max, List, [], ◌∷◌, ◌++◌, Some, Err, sym, ap, ◌∙◌, append_assoc, append-nil, arith}
 use Rattle.std.proofs.lemmas.List.{map-append}
 use Rattle.ntx_syntax.specs.declared.fault.SyntaxWhy.TheVariants as why
@@ -37,14 +37,15 @@ no_script n words behind e placed chunk same derives =
     more_script n m deeper (plain placed) _ (ap (script_by n) same ∙ e) in
     not_expected ((readers m).block outermost (plain placed)) chunk.block behind (comes.is m enough) stops_there
 
--- ---- words that are alike up to where it stops
+-- ---- the words up to where it stops
 
 cannot_follow : (n : ℕ) (front : List Word) (o : Word) (others : List Word) → script_by n (front ++ o ∷ others) ≡ stopped why.Expected (o ∷ others)
     → CannotStand (front ++ o ∷ [])
 cannot_follow n front o others e given same begin =
     let words_are : plain (given ++ begin.0) ≡ front ++ o ∷ plain begin.0 =
     map-append (λ (w : Placed). w.word) given begin.0 ∙ ap (λ w. w ++ plain begin.0) same ∙ append_assoc front (o ∷ []) (plain begin.0) in
-    let stops_too = local_script others (plain begin.0) (front ++ o ∷ others) (front ++ o ∷ plain begin.0) (o ∷ others) n (same_behind others (plain begin.0) front o) e (omega arith) in
+    let stops_too =
+    local_script others (plain begin.0) (front ++ o ∷ others) (front ++ o ∷ plain begin.0) (o ∷ others) n (same_behind others (plain begin.0) front o) e (omega arith) in
     no_script n (front ++ o ∷ plain begin.0) stops_too.0 stops_too.2 (given ++ begin.0) begin.1 words_are begin.2
 
 pub cannot : (n : ℕ) (words front behind : List Word) (placed : List Placed) → words ≡ front ++ behind → script_by n words ≡ stopped why.Expected behind

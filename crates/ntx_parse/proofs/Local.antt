@@ -1,7 +1,7 @@
--- A reading that stops where something else is expected hangs on the words up to there alone.
---     Same         words that are the same up to some word
---     Readers r, and readings of them: up_to
---     local_script a script in which the reading stops
+-- That a reading stops before a word since something else is expected hangs on the words up to that one alone.
+--     Same those these words others    the words are the same up to some word, behind which they are those and these
+--     up_to, stops_too                 each reading
+--     local_script                     whole scripts
 use Rattle.std.proofs.Common.{◌≡◌, ◌<◌, ◌≤◌, ℕ, List, [], ◌∷◌, ◌++◌, length, inl, inr, None, Some, Ok, Err, ap, ◌∙◌, subst, arith}
 use Rattle.ntx_syntax.specs.declared.fault.SyntaxWhy.{SyntaxWhy}
 use Rattle.ntx_syntax.specs.declared.fault.SyntaxWhy.TheVariants as why
@@ -10,7 +10,6 @@ use Rattle.ntx_parse.specs.Reading.{Answer, Stop, stopped, script_by}
 use Rattle.ntx_parse.proofs.Views.{Begin, then_lost, then_alike, View, alike, at_alike, Tells}
 use Rattle.ntx_parse.proofs.Viewed.{goes_script}
 
--- The words are the same up to some word, behind which they are those and these.
 pub data Same (those these : List Word) : List Word → List Word → Type 0 where
   last_same : {o : Word} → Same those these (o ∷ those) (o ∷ these)
   same_before : {o : Word} {words others : List Word} → Same those these words others → Same those these (o ∷ words) (o ∷ others)
@@ -41,8 +40,8 @@ stopped_words : {A : Type 0} {stop : Stop} {reason : SyntaxWhy} {words : List Wo
     → stop.words ≡ words
 stopped_words e = cc
 
--- What the second answer is where the first stops since something else is expected, before the words that are not looked at.
-stops_too : {A : Type 0} (those these words : List Word) (a b : Answer A) → Tells (up_to those these) alike a b → a ≡ stopped why.Expected words
+-- Where the first reading stops since something else is expected, and behind the word where it stops come all of those, the second stops too.
+pub stops_too : {A : Type 0} (those these words : List Word) (a b : Answer A) → Tells (up_to those these) alike a b → a ≡ stopped why.Expected words
     → length those < length words
     → (rest : List Word) × Same those these words rest × (b ≡ stopped why.Expected rest)
 unfolding up_to

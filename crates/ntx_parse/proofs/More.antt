@@ -1,7 +1,7 @@
--- Readings with deeper calls tell what those with calls that are less deep do.
---     more_readers, same_answer    each reading
---     more_script, from_there_on   whole scripts
---     one_answer                   a script is read in one way
+-- What a reading tells, it tells too if the calls may lie deeper.
+--     more_readers, same_answer     each reading
+--     more_script, from_there_on    whole scripts
+--     one_answer                    whatever depths tell something of a script, they tell the same
 use Rattle.std.proofs.Common.{◌≡◌, ◌≤◌, ℕ, max, List, [], ◌∷◌, inl, inr, None, Some, Result, Ok, Err, refl, sym, ap, ◌∙◌, subst, arith}
 use Rattle.ntx_syntax.specs.declared.tree.Block.{Block}
 use Rattle.ntx_parse.specs.Words.{Word}

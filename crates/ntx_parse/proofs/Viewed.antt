@@ -1,4 +1,4 @@
--- Two readings side by side, with calls that lie ever deeper.
+-- Two readings side by side: all of them together.
 --     go_readers      those with calls of some depth, beside those with calls as deep or deeper
 --     goes_script     the same of whole scripts
 use Rattle.std.proofs.Common.{◌≤◌, ℕ, zero, suc, List, arith}

@@ -59,7 +59,9 @@ module _ {V : View} {r other : Readers} (g : Go V r other) where
 
   goes_unary : (p : Place) {s : Situation} {words others : List Word} → At V s words others
       → Goes V s (read_operand r p (sign_at words) words) (read_operand other p (sign_at others) others)
-  goes_unary p {s} {words} {others} h = subst (λ found. Goes V s (read_operand r p (sign_at words) words) (read_operand other p found others)) (sign_first (firsts h)) (goes_operand p (sign_at words) h)
+  goes_unary p {s} {words} {others} h =
+      subst (λ found. Goes V s (read_operand r p (sign_at words) words) (read_operand other p found others)) (sign_first (firsts h))
+      (goes_operand p (sign_at words) h)
 
   pub goes_concat : (p : Place) (left : Exp) {s : Situation} {words others : List Word} → At V s words others
       → Goes V s (concat_behind r p left words) (concat_behind other p left others)

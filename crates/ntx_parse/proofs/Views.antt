@@ -1,6 +1,7 @@
--- Two readings side by side, of words that are alike up to some word. What a reading tells is lost where it lies beyond the words that are looked at.
---     View             which words are alike, and which are beyond
---     Goes V s a b     what the first answer tells, the second tells of words that are alike, or it is lost
+-- Two readings side by side. They stand before words that are alike, until the first comes to words that are of no interest: what it tells is lost then.
+--     View                     which words are alike, and which are lost
+--     At V s words others      these words are in this situation: they are lost, or alike
+--     Goes V s a b             the second answer is the same as the first, before words that are alike, or what the first tells is lost
 use Rattle.std.proofs.Common.{◌≡◌, Bool, true, false, List, [], ◌∷◌, ◌⊎◌, inl, inr, None, Some, Ok, Err, cond, nat_le, refl, sym, ap, subst}
 use Rattle.ntx_syntax.specs.declared.fault.SyntaxWhy.{SyntaxWhy}
 use Rattle.ntx_syntax.specs.declared.fault.SyntaxWhy.TheVariants as why
@@ -16,6 +17,8 @@ pub data Begin (Lost : List Word → Type 0) (Alike : List Word → List Word �
   then_lost : {o : Word} {words others : List Word} → Lost words → Begin Lost Alike (o ∷ words) (o ∷ others)
   then_alike : {o : Word} {words others : List Word} → Alike words others → Begin Lost Alike (o ∷ words) (o ∷ others)
 
+-- `Lost words`: what is told before these words is of no interest. `LostStop reason words`: nor is it that a reading stops before these words for this reason.
+-- `Alike words others`: one of the readings stands before these words, and the other before those.
 pub record View : Type 1 where
   pub Lost : List Word → Type 0
   pub LostStop : SyntaxWhy → List Word → Type 0
@@ -34,6 +37,7 @@ pub data At (V : View) : Situation → List Word → List Word → Type 0 where
   at_lost : {words : List Word} → V.Lost words → At V lost words words
   at_alike : {words others : List Word} → V.Alike words others → At V alike words others
 
+-- In this situation the first answer is lost, or the second is the same, before words that are alike.
 abbrev pub Tells : {A : Type 0} → View → Situation → Answer A → Answer A → Type 0
 Tells V s None b = Unit {0}
 Tells V lost (Some (Ok found)) b = V.Lost found.1
