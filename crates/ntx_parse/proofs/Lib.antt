@@ -18,6 +18,7 @@ pub mod Local
 pub mod More
 pub mod NamedLemmas
 pub mod OperatorLemmas
+pub mod Refused
 pub mod Sound
 pub mod SoundAnswers
 pub mod SoundAssignments
