@@ -1,0 +1,117 @@
+-- What words begin with.
+use Rattle.std.specs.Prelude.{◌≡◌, ◌≤◌, ℕ, nat_eq, nat_le, Bool, true, false, List, [], ◌∷◌, map, ⊤, if◌then◌else◌}
+use Rattle.std.proofs.Common.{refl, sym, ap, ◌∙◌, subst, le-leb, true≢false}
+use Rattle.std.proofs.lemmas.Bool.{eq-eqb}
+use Rattle.ntx_syntax.specs.declared.fault.SyntaxWhy.TheVariants as why
+use Rattle.ntx_parse.specs.declared.place.Place.{Place}
+use Rattle.ntx_parse.specs.declared.terminal.Terminal.{Terminal}
+use Rattle.ntx_parse.specs.Words.{Word}
+use Rattle.ntx_parse.specs.Grammar.{Placed, Is, IsFine, NotBefore, max_nesting}
+use Rattle.ntx_parse.specs.Reading.{Answer, read, stopped, number, begins, taken, expected, and_then}
+use Rattle.ntx_parse.proofs.TerminalLemmas.{same_terminal}
+use Rattle.ntx_parse.proofs.ComesLemmas.{Fine, is_fine, is_bad, IsOrStops, told, stops, Comes, comes_at_once, comes_then}
+
+-- the words without their places
+abbrev pub plain : List Placed → List Word
+plain placed = map (λ o. o.word) placed
+
+-- ---- what can be behind a phrase
+
+abbrev pub is_this : Terminal → Terminal → Bool
+is_this u t = nat_eq (number t) (number u)
+
+-- The words have no first, or one that passes this test.
+abbrev pub Follows : (Terminal → Bool) → List Placed → Type 0
+Follows q [] = ⊤
+Follows q (o ∷ words) = q o.word.is ≡ true
+
+-- The words have a first, and it passes this test.
+abbrev pub Starts : (Terminal → Bool) → List Placed → Type 0
+Starts q [] = ⊥
+Starts q (o ∷ words) = q o.word.is ≡ true
+
+abbrev pub implies : Bool → Bool → Bool
+implies false b = true
+implies true b = b
+
+pub implied : {a b : Bool} → implies a b ≡ true → a ≡ true → b ≡ true
+implied {a = false} {b} e h = absurd (true≢false (sym h))
+implied {a = true} {b} e h = e
+
+pub follows_also : (q r : Terminal → Bool) → ((t : Terminal) → implies (q t) (r t) ≡ true) → (words : List Placed) → Follows q words → Follows r words
+follows_also q r table [] h = tt
+follows_also q r table (o ∷ words) h = implied (table o.word.is) h
+
+pub starts_also : (q r : Terminal → Bool) → ((t : Terminal) → implies (q t) (r t) ≡ true) → (words : List Placed) → Starts q words → Starts r words
+starts_also q r table [] h = elim h [ ]
+starts_also q r table (o ∷ words) h = implied (table o.word.is) h
+
+pub starts_follows : (q : Terminal → Bool) (words : List Placed) → Starts q words → Follows q words
+starts_follows q [] h = elim h [ ]
+starts_follows q (o ∷ words) h = h
+
+pub starts_begin : (u : Terminal) (words : List Placed) → Starts (is_this u) words → begins u (plain words) ≡ true
+starts_begin u [] h = elim h [ ]
+starts_begin u (o ∷ words) h = h
+
+-- A word that is this passes the tests that this passes.
+pub passes : {p : Place} {t : Terminal} {o : Placed} (q : Terminal → Bool) → Is p t o → q t ≡ true → q o.word.is ≡ true
+passes q i e = ap q i.is ∙ e
+
+-- one that is not this
+pub is_other : {p : Place} {t : Terminal} {o : Placed} (u : Terminal) → Is p t o → nat_eq (number t) (number u) ≡ false
+    → nat_eq (number o.word.is) (number u) ≡ false
+is_other u i e = ap (λ s. nat_eq (number s) (number u)) i.is ∙ e
+
+other_than : (q : Terminal → Bool) (t u : Terminal) (b : Bool) → nat_eq (number t) (number u) ≡ b → q t ≡ true → q u ≡ false → b ≡ false
+other_than q t u true e h other = absurd (true≢false (sym h ∙ (ap q (same_terminal t u e) ∙ other)))
+other_than q t u false e h other = refl
+
+-- What passes a test is none of those that do not.
+pub not_begins : (q : Terminal → Bool) (u : Terminal) (words : List Placed) → q u ≡ false → Follows q words → begins u (plain words) ≡ false
+not_begins q u [] other h = refl
+not_begins q u (o ∷ words) other h = other_than q o.word.is u (nat_eq (number o.word.is) (number u)) refl h other
+
+not_this : (t u : Terminal) (b : Bool) → nat_eq (number t) (number u) ≡ b → (t ≡ u → ⊥) → b ≡ false
+not_this t u true e other = absurd (other (same_terminal t u e))
+not_this t u false e other = refl
+
+pub not_before : (u : Terminal) (words : List Placed) → NotBefore u words → begins u (plain words) ≡ false
+not_before u [] other = refl
+not_before u (o ∷ words) other = not_this o.word.is u (nat_eq (number o.word.is) (number u)) refl (other o words refl)
+
+-- ---- one word
+
+deep_enough : (p q : Place) → q.nesting ≤ max_nesting → q ≡ p → nat_le p.nesting max_nesting ≡ true
+deep_enough p q h e = le-leb p.nesting max_nesting (subst (λ place. place.nesting ≤ max_nesting) e h)
+
+-- A word that stands where it is taken is taken.
+taken_here : {p : Place} {t : Terminal} {o : Placed} (words : List Word) → Is p t o → IsFine o → taken p (o.word ∷ words) ≡ read o.word words
+taken_here {p} {t} {o} words i fine = rw (deep_enough p o.place fine.nesting i.place)
+
+pub begins_here : {p : Place} {t : Terminal} {o : Placed} → Is p t o → nat_eq (number o.word.is) (number t) ≡ true
+begins_here {p} {t} {o} i = eq-eqb (number o.word.is) (number t) (ap number i.is)
+
+taken_or : {Bad : Type 0} (bad : Bad) (o : Word) (words : List Word) (fits : Bool)
+    → IsOrStops Bad (if fits then read o words else stopped why.Depth (o ∷ words)) (read o words)
+taken_or bad o words true = told refl
+taken_or bad o words false = stops bad (record { why = why.Depth; words = o ∷ words }) (λ e. absurd cc) refl
+
+pub taken_is : {Bad : Type 0} {p : Place} {t : Terminal} {o : Placed} (words : List Word) → Is p t o → Fine Bad o
+    → IsOrStops Bad (taken p (o.word ∷ words)) (read o.word words)
+taken_is words i (is_fine fine) = told (taken_here words i fine)
+taken_is {p = p} {o = o} words i (is_bad bad) = taken_or bad o.word words (nat_le p.nesting max_nesting)
+
+expected_is : {Bad : Type 0} {p : Place} {t : Terminal} {o : Placed} (words : List Word) → Is p t o → Fine Bad o
+    → IsOrStops Bad (expected p t (o.word ∷ words)) (read o.word words)
+expected_is {Bad} {p} {t} {o} words i fine =
+    subst (λ b. IsOrStops Bad (if b then taken p (o.word ∷ words) else stopped why.Expected (o.word ∷ words)) (read o.word words)) (sym (begins_here i)) (taken_is words i fine)
+
+-- A word that is there is taken, and what is behind it is read.
+pub comes_taken : {Bad A : Type 0} {p : Place} {t : Terminal} {o : Placed} {words : List Word} {x : Answer A} (g : ℕ → Word → List Word → Answer A)
+    → Is p t o → Fine Bad o → Comes Bad (λ n. g n o.word words) x → Comes Bad (λ n. and_then (taken p (o.word ∷ words)) (g n)) x
+comes_taken g i fine c = comes_then g (comes_at_once (taken_is _ i fine)) c
+
+pub comes_expected : {Bad A : Type 0} {p : Place} {t : Terminal} {o : Placed} {words : List Word} {x : Answer A} (g : ℕ → Word → List Word → Answer A)
+    → Is p t o → Fine Bad o → Comes Bad (λ n. g n o.word words) x → Comes Bad (λ n. and_then (expected p t (o.word ∷ words)) (g n)) x
+comes_expected g i fine c = comes_then g (comes_at_once (expected_is _ i fine)) c

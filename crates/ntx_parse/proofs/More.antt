@@ -1,0 +1,60 @@
+-- What a reading tells, it tells too if the calls may lie deeper.
+--     more_readers, same_answer     each reading
+--     more_script, from_there_on    whole scripts
+--     one_answer                    whatever depths tell something of a script, they tell the same
+use Rattle.std.proofs.Common.{◌≡◌, ◌≤◌, ℕ, max, List, [], ◌∷◌, inl, inr, None, Some, Result, Ok, Err, refl, sym, ap, ◌∙◌, subst, arith}
+use Rattle.ntx_syntax.specs.declared.tree.Block.{Block}
+use Rattle.ntx_parse.specs.Words.{Word}
+use Rattle.ntx_parse.specs.Reading.{Answer, Stop, read, stopped, readers, script_by}
+use Rattle.ntx_parse.proofs.Views.{Begin, both_end, then_alike, View, alike, at_alike, Tells, Goes}
+use Rattle.ntx_parse.proofs.ViewedLists.{Go}
+use Rattle.ntx_parse.proofs.Viewed.{go_readers, goes_script}
+
+-- ---- all words, which are the same
+
+begin_same : (words : List Word) → Begin (λ words. ⊥) (λ words others. words ≡ others) words words
+begin_same [] = both_end
+begin_same (o ∷ words) = then_alike refl
+
+pub all_words : View
+all_words = record {
+  Lost = λ words. ⊥;
+  LostStop = λ reason words. ⊥;
+  Alike = λ words others. words ≡ others;
+  shorter = λ h. h;
+  stops = λ h. h;
+  deep = λ same h. absurd h;
+  begin = λ {words} same. subst (λ others. Begin (λ words. ⊥) (λ words others. words ≡ others) words others) same (begin_same words);
+}
+
+told : {A : Type 0} (a b : Answer A) → Tells all_words alike a b → (x : Result (A × List Word) Stop) → a ≡ Some x → b ≡ Some x
+unfolding all_words
+told None b h x e = absurd cc
+told (Some (Ok found)) b (inl h) x e = absurd h
+told (Some (Ok found)) b (inr h) x e = h.2 ∙ ap (read found.0) (sym h.1) ∙ e
+told (Some (Err stop)) b (inl h) x e = absurd h
+told (Some (Err stop)) b (inr h) x e = h.2 ∙ ap (stopped stop.why) (sym h.1) ∙ e
+
+pub same_answer : {A : Type 0} {a b : Answer A} → Goes all_words alike a b → (x : Result (A × List Word) Stop) → a ≡ Some x → b ≡ Some x
+same_answer {a = a} {b = b} h x e = told a b h.tells x e
+
+pub more_readers : (n m : ℕ) → n ≤ m → Go all_words (readers n) (readers m)
+more_readers n m deeper = go_readers n m deeper
+
+pub more_script : (n m : ℕ) → n ≤ m → (words : List Word) (x : Result (Block × List Word) Stop) → script_by n words ≡ Some x → script_by m words ≡ Some x
+unfolding all_words
+more_script n m deeper words x e = same_answer (goes_script {V = all_words} n m deeper (at_alike refl)) x e
+
+pub from_there_on : (n : ℕ) (words : List Word) (x : Result (Block × List Word) Stop) → script_by n words ≡ Some x
+    → (N : ℕ) × ((m : ℕ) → N ≤ m → script_by m words ≡ Some x)
+from_there_on n words x e = (n, λ m deeper. more_script n m deeper words x e)
+
+told_once : {A : Type 0} {x y : A} → Some x ≡ Some y → x ≡ y
+told_once e = cc
+
+pub one_answer : (n m : ℕ) (words : List Word) (x y : Result (Block × List Word) Stop) → script_by n words ≡ Some x → script_by m words ≡ Some y → x ≡ y
+one_answer n m words x y e f =
+    let k : ℕ = max n m in
+    let left : n ≤ k = omega arith in
+    let right : m ≤ k = omega arith in
+    told_once (sym (more_script n k left words x e) ∙ more_script m k right words y f)

@@ -1,0 +1,120 @@
+-- Two readings side by side: tables, and a name behind which nothing is looked at.
+use Rattle.std.proofs.Common.{◌≡◌, ℕ, Bool, true, false, ◌||◌, ◌&&◌, nat_eq, nat_le, cond, List, [], ◌∷◌, ◌++◌, refl, ap, ap₂}
+use Rattle.ntx_syntax.specs.declared.fault.SyntaxWhy.TheVariants as why
+use Rattle.ntx_syntax.specs.declared.tree.Field.{Field}
+use Rattle.ntx_syntax.specs.declared.tree.Field.TheVariants as field
+use Rattle.ntx_parse.specs.declared.place.Place.{Place}
+use Rattle.ntx_parse.specs.declared.precedence.Precedence.TheVariants as precedence
+use Rattle.ntx_parse.specs.declared.terminal.Terminal.TheVariants as terminal
+use Rattle.ntx_parse.specs.Words.{Word}
+use Rattle.ntx_parse.specs.Grammar.{within, max_nesting}
+use Rattle.ntx_parse.specs.Reading.{Readers, Answer, read, stopped, and_then, begins, number, expected, read_name, read_index, names_a_field, read_field, fields_behind, read_table}
+use Rattle.ntx_parse.proofs.Views.{View, Situation, lost, alike, At, at_lost, at_alike, Goes, goes_lost, goes_read, goes_if, goes_then, goes_where, goes_taken, goes_expected, begins_same, Begin, both_end, then_lost, then_alike}
+use Rattle.ntx_parse.proofs.ViewedLists.{Go, goes_name}
+use Rattle.ntx_parse.proofs.ViewedPrefixes.{goes_index}
+
+-- this word, if it is a name and does not lie too deep
+abbrev name_if : Bool → Bool → Word → List Word → Answer Word
+name_if named fits o words = cond named (cond fits (read o words) (stopped why.Depth (o ∷ words))) (stopped why.Expected (o ∷ words))
+
+module _ {V : View} (p : Place) (o : Word) (words : List Word) (h : V.Lost words) (others : List Word) (same : V.Alike (o ∷ words) others) where
+  lost_if : {B : Type 0} (fits named : Bool) (next other : Word → List Word → Answer B) → named ≡ true
+      → ((rest : List Word) → V.Lost rest → Goes V lost (next o rest) (other o rest))
+      → Goes V lost (and_then (name_if named fits o words) next) (and_then (name_if named fits o words) other)
+  lost_if true true next other e g = g words h
+  lost_if false true next other e g = record { tells = V.deep same h }
+  lost_if fits false next other e g = absurd cc
+
+  -- A name in front of what is lost is taken, or it lies too deep.
+  pub lost_name : nat_eq (number o.is) (number terminal.Name) ≡ true → Goes V lost (read_name p (o ∷ words)) (read_name p (o ∷ words))
+  lost_name e = lost_if (nat_le p.nesting max_nesting) (nat_eq (number o.is) (number terminal.Name)) _ _ e (λ rest l. goes_read (at_lost l))
+
+-- [ exp ] = exp
+abbrev keyed_by : Readers → Place → List Word → Answer Field
+keyed_by r p words =
+    and_then (read_index r (within p) words) (λ key behind.
+    and_then (expected p terminal.Assign behind) (λ _ second.
+    and_then (r.exp p precedence.Or second) (λ value rest. read (field.Keyed key value) rest)))
+
+-- = exp, behind a name
+abbrev value_of : Readers → Place → List ℕ → List Word → Answer Field
+value_of r p name words =
+    and_then (expected p terminal.Assign words) (λ _ second. and_then (r.exp p precedence.Or second) (λ value rest. read (field.Named name value) rest))
+
+-- Name = exp, and exp
+abbrev named_by : Readers → Place → List Word → Answer Field
+named_by r p words = and_then (read_name p words) (λ name behind. value_of r p name behind)
+
+abbrev positional_by : Readers → Place → List Word → Answer Field
+positional_by r p words = and_then (r.exp p precedence.Or words) (λ value rest. read (field.Positional value) rest)
+
+-- the one or the other
+abbrev named_or_positional : Readers → Place → Bool → List Word → Answer Field
+named_or_positional r p named words = cond named (named_by r p words) (positional_by r p words)
+
+module _ {V : View} {r other : Readers} (g : Go V r other) where
+  -- ---- fields
+
+  goes_keyed : (p : Place) {s : Situation} {words others : List Word} → At V s words others → Goes V s (keyed_by r p words) (keyed_by other p others)
+  goes_keyed p h =
+      goes_then (goes_index g (within p) h) (λ key _ _ _ h.
+      goes_then (goes_expected p terminal.Assign h) (λ _ _ _ _ h.
+      goes_then (g.exp p precedence.Or h) (λ value _ _ _ h. goes_read h)))
+
+  goes_value_of : (p : Place) (name : List ℕ) {s : Situation} {words others : List Word} → At V s words others
+      → Goes V s (value_of r p name words) (value_of other p name others)
+  goes_value_of p name h = goes_then (goes_expected p terminal.Assign h) (λ _ _ _ _ h. goes_then (g.exp p precedence.Or h) (λ value _ _ _ h. goes_read h))
+
+  goes_named : (p : Place) {s : Situation} {words others : List Word} → At V s words others → Goes V s (named_by r p words) (named_by other p others)
+  goes_named p h = goes_then (goes_name p h) (λ name _ _ _ h. goes_value_of p name h)
+
+  goes_positional : (p : Place) {s : Situation} {words others : List Word} → At V s words others
+      → Goes V s (positional_by r p words) (positional_by other p others)
+  goes_positional p h = goes_then (g.exp p precedence.Or h) (λ value _ _ _ h. goes_read h)
+
+  -- Whether the name in front of what is lost is that of a field or begins a value, it is taken or lies too deep.
+  lost_field : (p : Place) (o : Word) (words : List Word) (test : Bool) {s : Situation} {c : Answer Field} → nat_eq (number o.is) (number terminal.Name) ≡ true
+      → (others : List Word) → V.Alike (o ∷ words) others → V.Lost words → Goes V s (named_or_positional r p test (o ∷ words)) c
+  lost_field p o words true e others same l = goes_lost (goes_then (lost_name p o words l others same e) (λ name _ _ _ h. goes_value_of p name h))
+  lost_field p o words false e others same l = goes_lost (goes_then (g.named p precedence.Or o words e others same l) (λ value _ _ _ h. goes_read h))
+
+  field_by_name : (p : Place) {o : Word} {words others : List Word} (is_name : Bool) → nat_eq (number o.is) (number terminal.Name) ≡ is_name
+      → V.Alike (o ∷ words) (o ∷ others) → V.Lost words
+      → Goes V alike (named_or_positional r p (is_name && begins terminal.Assign words) (o ∷ words))
+      (named_or_positional other p (is_name && begins terminal.Assign others) (o ∷ others))
+  field_by_name p false e same l = goes_positional p (at_alike same)
+  field_by_name p {o} {words} {others} true e same l = lost_field p o words (begins terminal.Assign words) e (o ∷ others) same l
+
+  field_begins : (p : Place) {words others : List Word} → V.Alike words others → Begin V.Lost V.Alike words others
+      → Goes V alike (named_or_positional r p (names_a_field words) words) (named_or_positional other p (names_a_field others) others)
+  field_begins p same both_end = goes_positional p (at_alike same)
+  field_begins p same (then_lost {o} l) = field_by_name p (nat_eq (number o.is) (number terminal.Name)) refl same l
+  field_begins p same (then_alike {o} {words} {others} behind) =
+      let assigns = begins_same {V = V} {words = words} {others = others} terminal.Assign (at_alike behind) in
+      goes_if (names_a_field (o ∷ words)) (names_a_field (o ∷ others)) (ap (λ test. nat_eq (number o.is) (number terminal.Name) && test) assigns)
+      (goes_named p (at_alike same)) (goes_positional p (at_alike same))
+
+  field_at : (p : Place) {s : Situation} {words others : List Word} → At V s words others
+      → Goes V s (named_or_positional r p (names_a_field words) words) (named_or_positional other p (names_a_field others) others)
+  field_at p (at_lost {words} l) = goes_if (names_a_field words) (names_a_field words) refl (goes_named p (at_lost l)) (goes_positional p (at_lost l))
+  field_at p (at_alike same) = field_begins p same (V.begin same)
+
+  goes_field : (p : Place) {s : Situation} {words others : List Word} → At V s words others → Goes V s (read_field r p words) (read_field other p others)
+  goes_field p h = goes_where terminal.LeftBracket h (goes_keyed p h) (field_at p h)
+
+  -- ---- tables
+
+  pub goes_fields : (p : Place) (before : List Field) {s : Situation} {words others : List Word} → At V s words others
+      → Goes V s (fields_behind r p before words) (fields_behind other p before others)
+  goes_fields p before h =
+      goes_where terminal.RightBrace h (goes_read h)
+      (goes_then (goes_field p h) (λ f _ _ _ h.
+      goes_if _ _ (ap₂ (λ one other. one || other) (begins_same terminal.Comma h) (begins_same terminal.Semicolon h))
+      (goes_then (goes_taken p h) (λ _ _ _ _ h. g.fields p (before ++ f ∷ []) h))
+      (goes_read h)))
+
+  pub goes_table : (p : Place) {s : Situation} {words others : List Word} → At V s words others → Goes V s (read_table r p words) (read_table other p others)
+  goes_table p h =
+      goes_then (goes_expected p terminal.LeftBrace h) (λ _ _ _ _ h.
+      goes_then (g.fields p [] h) (λ fields _ _ _ h.
+      goes_then (goes_expected p terminal.RightBrace h) (λ _ _ _ _ h. goes_read h)))

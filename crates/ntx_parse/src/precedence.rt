@@ -1,0 +1,28 @@
+//! Which operators bind tighter than others.
+
+/// The precedence of operators (Lua 5.3 Reference Manual, section 3.4.8), from the one that binds least.
+#[derive(Clone, Copy, Debug, PartialEq, Eq)]
+pub enum Precedence {
+    /// `or`
+    Or,
+    /// `and`
+    And,
+    /// `<`, `>`, `<=`, `>=`, `~=` and `==`
+    Comparison,
+    /// `|`
+    BitOr,
+    /// `~` between operands
+    BitXor,
+    /// `&`
+    BitAnd,
+    /// `<<` and `>>`
+    Shift,
+    /// `..`
+    Concat,
+    /// `+` and `-` between operands
+    Additive,
+    /// `*`, `//` and `%`
+    Multiplicative,
+    /// `not`, `#`, and `-` and `~` before an operand
+    Unary,
+}
