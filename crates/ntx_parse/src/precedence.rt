@@ -26,3 +26,19 @@ pub enum Precedence {
     /// `not`, `#`, and `-` and `~` before an operand
     Unary,
 }
+
+/// The next tighter precedence.
+pub fn tighter(precedence: Precedence) -> Precedence {
+    match precedence {
+        Precedence::Or => Precedence::And,
+        Precedence::And => Precedence::Comparison,
+        Precedence::Comparison => Precedence::BitOr,
+        Precedence::BitOr => Precedence::BitXor,
+        Precedence::BitXor => Precedence::BitAnd,
+        Precedence::BitAnd => Precedence::Shift,
+        Precedence::Shift => Precedence::Concat,
+        Precedence::Concat => Precedence::Additive,
+        Precedence::Additive => Precedence::Multiplicative,
+        Precedence::Multiplicative | Precedence::Unary => Precedence::Unary,
+    }
+}

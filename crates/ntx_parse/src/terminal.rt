@@ -1,5 +1,7 @@
 //! What the grammar tells apart.
 
+use ntx_syntax::Sort;
+
 /// What a token is to the grammar: each keyword and each symbol is one of its own, and all names, numerals and texts are
 /// one each (Lua 5.3 Reference Manual, sections 3.1 and 9).
 #[derive(Clone, Copy, Debug, PartialEq, Eq)]
@@ -110,4 +112,82 @@ pub enum Terminal {
     Dot,
     /// `..`
     DoubleDot,
+}
+
+/// The keywords but `while`.
+const KEYWORDS: [(&[u8], Terminal); 21] = [
+    (b"and", Terminal::And),
+    (b"break", Terminal::Break),
+    (b"do", Terminal::Do),
+    (b"else", Terminal::Else),
+    (b"elseif", Terminal::Elseif),
+    (b"end", Terminal::End),
+    (b"false", Terminal::False),
+    (b"for", Terminal::For),
+    (b"function", Terminal::Function),
+    (b"goto", Terminal::Goto),
+    (b"if", Terminal::If),
+    (b"in", Terminal::In),
+    (b"local", Terminal::Local),
+    (b"nil", Terminal::Nil),
+    (b"not", Terminal::Not),
+    (b"or", Terminal::Or),
+    (b"repeat", Terminal::Repeat),
+    (b"return", Terminal::Return),
+    (b"then", Terminal::Then),
+    (b"true", Terminal::True),
+    (b"until", Terminal::Until),
+];
+
+/// The symbols but `..`.
+const SYMBOLS: [(&[u8], Terminal); 27] = [
+    (b"+", Terminal::Plus),
+    (b"-", Terminal::Minus),
+    (b"*", Terminal::Star),
+    (b"//", Terminal::DoubleSlash),
+    (b"%", Terminal::Percent),
+    (b"&", Terminal::Ampersand),
+    (b"~", Terminal::Tilde),
+    (b"|", Terminal::Bar),
+    (b"<<", Terminal::ShiftLeft),
+    (b">>", Terminal::ShiftRight),
+    (b"#", Terminal::Hash),
+    (b"==", Terminal::Equal),
+    (b"~=", Terminal::NotEqual),
+    (b"<=", Terminal::LessEqual),
+    (b">=", Terminal::GreaterEqual),
+    (b"<", Terminal::Less),
+    (b">", Terminal::Greater),
+    (b"=", Terminal::Assign),
+    (b"(", Terminal::LeftParenthesis),
+    (b")", Terminal::RightParenthesis),
+    (b"{", Terminal::LeftBrace),
+    (b"}", Terminal::RightBrace),
+    (b"[", Terminal::LeftBracket),
+    (b"]", Terminal::RightBracket),
+    (b";", Terminal::Semicolon),
+    (b",", Terminal::Comma),
+    (b".", Terminal::Dot),
+];
+
+/// What stands at this name in a table of names, or `other`.
+fn named(mut table: &[(&[u8], Terminal)], other: Terminal, spelled: &[u8]) -> Terminal {
+    while let [entry, rest @ ..] = table {
+        if entry.0 == spelled {
+            return entry.1;
+        }
+        table = rest;
+    }
+    other
+}
+
+/// What a token of this sort is that these bytes spell.
+pub fn terminal_of(sort: Sort, spelled: &[u8]) -> Terminal {
+    match sort {
+        Sort::Name => Terminal::Name,
+        Sort::Numeral => Terminal::Numeral,
+        Sort::Text => Terminal::Text,
+        Sort::Keyword => named(&KEYWORDS, Terminal::While, spelled),
+        Sort::Symbol => named(&SYMBOLS, Terminal::DoubleDot, spelled),
+    }
 }
