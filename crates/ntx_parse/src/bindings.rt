@@ -13,8 +13,7 @@ use sqlite_items::Items;
 impl<
     E: Fn(&mut Parser<'_>, Place, Precedence) -> Result<Exp, Fail<SyntaxFault>>,
     B: Fn(&mut Parser<'_>, Place) -> Result<Block, Fail<SyntaxFault>>,
-> Rules<E, B>
-{
+> Rules<E, B> {
     /// `function Name {. Name} body`
     pub fn function(
         &self,

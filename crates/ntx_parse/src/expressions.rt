@@ -26,8 +26,7 @@ fn run_of(alloc: Global, first: Exp, others: Items<Operation>) -> Result<Exp, Al
 impl<
     E: Fn(&mut Parser<'_>, Place, Precedence) -> Result<Exp, Fail<SyntaxFault>>,
     B: Fn(&mut Parser<'_>, Place) -> Result<Block, Fail<SyntaxFault>>,
-> Rules<E, B>
-{
+> Rules<E, B> {
     /// `exp`, with operators outside of brackets that bind no less than this precedence.
     pub fn level(
         &self,

@@ -6,20 +6,20 @@ mod expressions;
 mod loops;
 mod names;
 mod operator;
-mod parse;
 mod parser;
 mod place;
 mod precedence;
 mod prefixes;
 mod rules;
+mod script;
 mod statements;
 mod tables;
 mod terminal;
 mod word;
 
-pub use parse::parse;
 pub use place::Place;
 pub use precedence::Precedence;
+pub use script::parse;
 pub use terminal::Terminal;
 
 #[cfg(test)]

@@ -11,8 +11,7 @@ use ntx_syntax::{Block, Exp, LocalName, StatKind, SyntaxFault};
 impl<
     E: Fn(&mut Parser<'_>, Place, Precedence) -> Result<Exp, Fail<SyntaxFault>>,
     B: Fn(&mut Parser<'_>, Place) -> Result<Block, Fail<SyntaxFault>>,
-> Rules<E, B>
-{
+> Rules<E, B> {
     /// `while exp do block end`
     pub fn while_loop(
         &self,
@@ -98,11 +97,7 @@ impl<
     }
 
     /// `do block end`, at the end of a loop
-    fn loop_body(
-        &self,
-        parser: &mut Parser<'_>,
-        place: Place,
-    ) -> Result<Block, Fail<SyntaxFault>> {
+    fn loop_body(&self, parser: &mut Parser<'_>, place: Place) -> Result<Block, Fail<SyntaxFault>> {
         parser.expected(place, Terminal::Do)?;
         let body = self.block(parser, place.within_loop())?;
         parser.expected(place, Terminal::End)?;

@@ -40,8 +40,7 @@ pub fn target_of(prefix: Prefix) -> Target {
 impl<
     E: Fn(&mut Parser<'_>, Place, Precedence) -> Result<Exp, Fail<SyntaxFault>>,
     B: Fn(&mut Parser<'_>, Place) -> Result<Block, Fail<SyntaxFault>>,
-> Rules<E, B>
-{
+> Rules<E, B> {
     /// A name or a parenthesized expression, and all suffixes behind it.
     pub fn prefix(
         &self,

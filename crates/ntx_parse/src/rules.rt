@@ -18,8 +18,7 @@ pub struct Rules<E, B> {
 impl<
     E: Fn(&mut Parser<'_>, Place, Precedence) -> Result<Exp, Fail<SyntaxFault>>,
     B: Fn(&mut Parser<'_>, Place) -> Result<Block, Fail<SyntaxFault>>,
-> Rules<E, B>
-{
+> Rules<E, B> {
     /// An expression.
     pub fn exp(
         &self,
@@ -31,11 +30,7 @@ impl<
     }
 
     /// A block.
-    pub fn block(
-        &self,
-        parser: &mut Parser<'_>,
-        place: Place,
-    ) -> Result<Block, Fail<SyntaxFault>> {
+    pub fn block(&self, parser: &mut Parser<'_>, place: Place) -> Result<Block, Fail<SyntaxFault>> {
         (self.block)(parser, place)
     }
 }

@@ -12,8 +12,7 @@ use sqlite_items::Items;
 impl<
     E: Fn(&mut Parser<'_>, Place, Precedence) -> Result<Exp, Fail<SyntaxFault>>,
     B: Fn(&mut Parser<'_>, Place) -> Result<Block, Fail<SyntaxFault>>,
-> Rules<E, B>
-{
+> Rules<E, B> {
     /// `{ [field {(,|;) field} [,|;]] }`. All of it is counted, and this is its place.
     pub fn table(
         &self,

@@ -1,10 +1,9 @@
 //! Scripts whose tree or whose fault is written out by hand.
 
-mod show;
-
 mod accepted;
 mod depth;
 mod refused;
+mod show;
 
 use crate::parse;
 use ntx_num::Fail;

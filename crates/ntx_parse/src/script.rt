@@ -31,11 +31,7 @@ fn last_line(bytes: &[u8]) -> u64 {
 }
 
 /// The tree of a script, of its tokens.
-pub fn parse(
-    alloc: Global,
-    bytes: &[u8],
-    tokens: &[Token],
-) -> Result<Chunk, Fail<SyntaxFault>> {
+pub fn parse(alloc: Global, bytes: &[u8], tokens: &[Token]) -> Result<Chunk, Fail<SyntaxFault>> {
     let words = words_of(alloc, bytes, tokens)?;
     let mut parser = Parser {
         alloc,
