@@ -30,6 +30,7 @@ use Rattle.ntx_syntax.specs.declared.tree.BinaryOp.TheVariants as binary
 use Rattle.ntx_syntax.specs.declared.tree.UnaryOp.{UnaryOp}
 use Rattle.ntx_syntax.specs.declared.tree.UnaryOp.TheVariants as unary
 use Rattle.ntx_syntax.specs.Values.{numeral_value, text_value}
+use Rattle.ntx_parse.specs.declared.place.Place.{Place}
 use Rattle.ntx_parse.specs.declared.precedence.Precedence.{Precedence}
 use Rattle.ntx_parse.specs.declared.precedence.Precedence.TheVariants as precedence
 use Rattle.ntx_parse.specs.declared.terminal.Terminal.{Terminal}
@@ -37,11 +38,6 @@ use Rattle.ntx_parse.specs.declared.terminal.Terminal.TheVariants as terminal
 use Rattle.ntx_parse.specs.Words.{Word}
 
 -- ---- places
-
--- Where a word stands: its nesting, and whether a `break` there is in a loop of its function.
-pub record Place : Type 0 where
-  pub nesting : ℕ
-  pub in_loop : Bool
 
 -- A script's own block is not counted.
 abbrev pub outermost : Place

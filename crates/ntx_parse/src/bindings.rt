@@ -1,18 +1,20 @@
 //! Declarations, assignments and calls.
 
+use crate::names::{names, path};
 use crate::parser::Parser;
-use crate::place::Place;
+use crate::part::{Part, var_of};
+use crate::place::{Place, within};
 use crate::precedence::Precedence;
-use crate::prefixes::{Target, target_of};
 use crate::rules::Rules;
 use crate::terminal::Terminal;
 use ntx_num::Fail;
-use ntx_syntax::{Block, Exp, StatKind, SyntaxFault, SyntaxWhy, Var};
+use ntx_syntax::{Block, Call, Exp, StatKind, SyntaxFault, SyntaxWhy, Var};
 use sqlite_items::Items;
+use std::alloc::Global;
 
 impl<
-    E: Fn(&mut Parser<'_>, Place, Precedence) -> Result<Exp, Fail<SyntaxFault>>,
-    B: Fn(&mut Parser<'_>, Place) -> Result<Block, Fail<SyntaxFault>>,
+    E: Fn(Global, &mut Parser<'_>, u64, Place, Precedence) -> Result<Exp, Fail<SyntaxFault>>,
+    B: Fn(Global, &mut Parser<'_>, u64, Place) -> Result<Block, Fail<SyntaxFault>>,
 > Rules<E, B> {
     /// `function Name {. Name} body`
     pub fn function(
@@ -20,10 +22,10 @@ impl<
         parser: &mut Parser<'_>,
         place: Place,
     ) -> Result<StatKind, Fail<SyntaxFault>> {
-        parser.expected(place, Terminal::Function)?;
-        let name = parser.name(place)?;
-        let fields = parser.path(place)?;
-        let body = self.body(parser, place.within())?;
+        parser.taken(place)?;
+        let name = parser.name(self.alloc, place)?;
+        let fields = path(self.alloc, parser, place)?;
+        let body = self.body(parser, within(place))?;
         Ok(StatKind::Function(name, fields, body))
     }
 
@@ -33,40 +35,48 @@ impl<
         parser: &mut Parser<'_>,
         place: Place,
     ) -> Result<StatKind, Fail<SyntaxFault>> {
-        parser.expected(place, Terminal::Local)?;
+        parser.taken(place)?;
         if parser.begins(Terminal::Function) {
-            self.local_function(parser, place)
+            self.local_function_behind(parser, place)
         } else {
-            let names = parser.names(place)?;
-            let values = self.values(parser, place)?;
-            Ok(StatKind::Local(names, values))
+            self.locals_behind(parser, place)
         }
     }
 
-    /// `function Name body`, behind `local`
-    fn local_function(
+    /// `function Name body`, behind `local`.
+    fn local_function_behind(
         &self,
         parser: &mut Parser<'_>,
         place: Place,
     ) -> Result<StatKind, Fail<SyntaxFault>> {
-        parser.expected(place, Terminal::Function)?;
-        let name = parser.local_name(place)?;
-        let body = self.body(parser, place.within())?;
+        parser.taken(place)?;
+        let name = parser.local_name(self.alloc, place)?;
+        let body = self.body(parser, within(place))?;
         Ok(StatKind::LocalFunction(name, body))
     }
 
+    /// `namelist [= explist]`, behind `local`.
+    fn locals_behind(
+        &self,
+        parser: &mut Parser<'_>,
+        place: Place,
+    ) -> Result<StatKind, Fail<SyntaxFault>> {
+        let names = names(self.alloc, parser, place)?;
+        let values = self.values_behind(parser, place)?;
+        Ok(StatKind::Local(names, values))
+    }
+
     /// `[= explist]`
-    fn values(
+    fn values_behind(
         &self,
         parser: &mut Parser<'_>,
         place: Place,
     ) -> Result<Items<Exp>, Fail<SyntaxFault>> {
-        if parser.begins(Terminal::Assign) {
-            parser.taken(place)?;
-            self.exps(parser, place)
-        } else {
-            Ok(Items::new(parser.alloc))
+        if !parser.begins(Terminal::Assign) {
+            return Ok(Items::new(self.alloc));
         }
+        parser.taken(place)?;
+        self.exps(parser, place)
     }
 
     /// `call` or `varlist = explist`
@@ -75,36 +85,54 @@ impl<
         parser: &mut Parser<'_>,
         place: Place,
     ) -> Result<StatKind, Fail<SyntaxFault>> {
-        match target_of(self.prefix(parser, place)?) {
-            Target::Call(call) => Ok(StatKind::Call(call)),
-            Target::Var(var) => self.assignment(parser, place, var),
-            Target::Neither => Err(parser.fault(SyntaxWhy::Expected)),
+        match self.prefix(parser, place)? {
+            Part::Name(name) => self.assignment_to(parser, place, Var::Name(name)),
+            Part::Parenthesized(_) => Err(parser.fault(SyntaxWhy::Expected)),
+            Part::Index(before, key) => self.assignment_to(parser, place, Var::Index(before, key)),
+            Part::Field(before, name) => {
+                self.assignment_to(parser, place, Var::Field(before, name))
+            }
+            Part::Call(function, arguments) => Ok(StatKind::Call(Call {
+                function,
+                arguments,
+            })),
         }
     }
 
-    /// `{, var} = explist`, behind this variable
-    fn assignment(
+    /// `{, var} = explist`, behind this variable.
+    fn assignment_to(
         &self,
         parser: &mut Parser<'_>,
         place: Place,
         first: Var,
     ) -> Result<StatKind, Fail<SyntaxFault>> {
-        let mut vars = Items::new(parser.alloc);
-        vars.push(first)?;
-        while parser.begins(Terminal::Comma) {
-            parser.taken(place)?;
-            vars.push(self.var(parser, place)?)?;
-        }
+        let vars = self.vars_behind(parser, place, first)?;
         parser.expected(place, Terminal::Assign)?;
         let values = self.exps(parser, place)?;
         Ok(StatKind::Assign(vars, values))
     }
 
-    /// A variable: a prefix that ends in a name or in brackets.
+    /// `{, var}`, behind this variable, which is the first of the list.
+    fn vars_behind(
+        &self,
+        parser: &mut Parser<'_>,
+        place: Place,
+        first: Var,
+    ) -> Result<Items<Var>, Fail<SyntaxFault>> {
+        let mut vars = Items::new(self.alloc);
+        vars.push(first)?;
+        while parser.begins(Terminal::Comma) {
+            parser.taken(place)?;
+            vars.push(self.var(parser, place)?)?;
+        }
+        Ok(vars)
+    }
+
+    /// A prefix that can be assigned to.
     fn var(&self, parser: &mut Parser<'_>, place: Place) -> Result<Var, Fail<SyntaxFault>> {
-        match target_of(self.prefix(parser, place)?) {
-            Target::Var(var) => Ok(var),
-            _ => Err(parser.fault(SyntaxWhy::Expected)),
+        match var_of(self.prefix(parser, place)?) {
+            Some(var) => Ok(var),
+            None => Err(parser.fault(SyntaxWhy::Expected)),
         }
     }
 }

@@ -1,14 +1,15 @@
 //! Expressions.
 
-use crate::operator::unary_of;
+use crate::names::parameters;
 use crate::parser::Parser;
-use crate::place::Place;
-use crate::precedence::{Precedence, tighter};
+use crate::part::joined;
+use crate::place::{Place, within, within_function};
+use crate::precedence::{Precedence, looser, tighter};
 use crate::rules::Rules;
 use crate::terminal::Terminal;
 use ntx_num::Fail;
 use ntx_syntax::{
-    BinaryOp, Block, Exp, FunctionBody, Operation, SyntaxFault, SyntaxWhy, numeral_value,
+    BinaryOp, Block, Exp, FunctionBody, Operation, SyntaxFault, SyntaxWhy, UnaryOp, numeral_value,
     text_value,
 };
 use sqlite_items::{Boxed, Items};
@@ -23,40 +24,75 @@ fn run_of(alloc: Global, first: Exp, others: Items<Operation>) -> Result<Exp, Al
     }
 }
 
+/// `left .. right`
+fn concat_of(alloc: Global, left: Exp, right: Exp) -> Result<Exp, AllocError> {
+    let mut operations = Items::new(alloc);
+    operations.push(Operation {
+        operator: BinaryOp::Concat,
+        operand: right,
+    })?;
+    Ok(Exp::Binary(Boxed::new(alloc, left)?, operations))
+}
+
 impl<
-    E: Fn(&mut Parser<'_>, Place, Precedence) -> Result<Exp, Fail<SyntaxFault>>,
-    B: Fn(&mut Parser<'_>, Place) -> Result<Block, Fail<SyntaxFault>>,
+    E: Fn(Global, &mut Parser<'_>, u64, Place, Precedence) -> Result<Exp, Fail<SyntaxFault>>,
+    B: Fn(Global, &mut Parser<'_>, u64, Place) -> Result<Block, Fail<SyntaxFault>>,
 > Rules<E, B> {
-    /// `exp`, with operators outside of brackets that bind no less than this precedence.
+    /// `exp`, whose own operators bind as tight as this precedence or tighter: an operand, and behind it the operators of
+    /// each precedence, from the tightest.
     pub fn level(
         &self,
         parser: &mut Parser<'_>,
         place: Place,
         precedence: Precedence,
     ) -> Result<Exp, Fail<SyntaxFault>> {
-        if precedence == Precedence::Unary {
-            return self.operand(parser, place);
+        let mut exp = self.operand(parser, place)?;
+        let mut reached = Precedence::Unary;
+        while reached != precedence {
+            reached = looser(reached);
+            exp = self.behind(parser, place, reached, exp)?;
         }
-        let first = self.level(parser, place, tighter(precedence))?;
+        Ok(exp)
+    }
+
+    /// The operators of this precedence and their operands, behind this expression of tighter ones.
+    fn behind(
+        &self,
+        parser: &mut Parser<'_>,
+        place: Place,
+        precedence: Precedence,
+        first: Exp,
+    ) -> Result<Exp, Fail<SyntaxFault>> {
         if precedence == Precedence::Concat {
-            self.concatenation(parser, place, first)
+            self.concat_behind(parser, place, first)
         } else {
-            self.operations(parser, place, precedence, first)
+            let others = self.operations_behind(parser, place, precedence)?;
+            Ok(run_of(self.alloc, first, others)?)
         }
     }
 
-    /// `unop exp`, or an expression without operators outside of brackets.
+    /// `unop exp`, or an expression without operators of its own.
     fn operand(&self, parser: &mut Parser<'_>, place: Place) -> Result<Exp, Fail<SyntaxFault>> {
-        let Some(operator) = parser.unary() else {
-            return self.simple(parser, place);
-        };
+        match parser.sign_at() {
+            None => self.simple(parser, place),
+            Some(operator) => self.unary(parser, place, operator),
+        }
+    }
+
+    /// `unop exp`, with this operator.
+    fn unary(
+        &self,
+        parser: &mut Parser<'_>,
+        place: Place,
+        operator: UnaryOp,
+    ) -> Result<Exp, Fail<SyntaxFault>> {
         parser.taken(place)?;
-        let operand = self.exp(parser, place.within(), Precedence::Unary)?;
-        Ok(Exp::Unary(operator, Boxed::new(parser.alloc, operand)?))
+        let operand = self.exp(parser, within(place), Precedence::Unary)?;
+        Ok(Exp::Unary(operator, Boxed::new(self.alloc, operand)?))
     }
 
     /// `[.. exp]`, behind this expression.
-    fn concatenation(
+    fn concat_behind(
         &self,
         parser: &mut Parser<'_>,
         place: Place,
@@ -66,46 +102,52 @@ impl<
             return Ok(left);
         }
         parser.taken(place)?;
-        let operand = self.exp(parser, place.within(), Precedence::Concat)?;
-        let mut operations = Items::new(parser.alloc);
-        operations.push(Operation {
-            operator: BinaryOp::Concat,
-            operand,
-        })?;
-        Ok(Exp::Binary(Boxed::new(parser.alloc, left)?, operations))
+        let right = self.exp(parser, within(place), Precedence::Concat)?;
+        Ok(concat_of(self.alloc, left, right)?)
     }
 
-    /// `{binop exp}`, behind this expression, with operators of this precedence.
-    fn operations(
+    /// `{binop exp}`, with operators of this precedence.
+    fn operations_behind(
         &self,
         parser: &mut Parser<'_>,
         place: Place,
         precedence: Precedence,
-        first: Exp,
-    ) -> Result<Exp, Fail<SyntaxFault>> {
-        let mut others = Items::new(parser.alloc);
-        while let Some(operator) = parser.binary(precedence) {
+    ) -> Result<Items<Operation>, Fail<SyntaxFault>> {
+        let mut operations = Items::new(self.alloc);
+        while let Some(operator) = parser.operator_at(precedence) {
             parser.taken(place)?;
-            let operand = self.exp(parser, place.within(), tighter(precedence))?;
-            others.push(Operation { operator, operand })?;
+            let operand = self.exp(parser, within(place), tighter(precedence))?;
+            operations.push(Operation { operator, operand })?;
         }
-        Ok(run_of(parser.alloc, first, others)?)
+        Ok(operations)
     }
 
-    /// An expression without operators outside of brackets.
+    /// An expression without operators of its own.
     fn simple(&self, parser: &mut Parser<'_>, place: Place) -> Result<Exp, Fail<SyntaxFault>> {
         match parser.next() {
-            Some(Terminal::Nil | Terminal::False | Terminal::True) => parser.constant(place),
-            Some(Terminal::Numeral) => parser.numeral(place),
-            Some(Terminal::Text) => parser.text(place),
+            Some(Terminal::Nil) => {
+                parser.taken(place)?;
+                Ok(Exp::Nil)
+            }
+            Some(Terminal::False) => {
+                parser.taken(place)?;
+                Ok(Exp::False)
+            }
+            Some(Terminal::True) => {
+                parser.taken(place)?;
+                Ok(Exp::True)
+            }
+            Some(Terminal::Numeral) => numeral(parser, place),
+            Some(Terminal::Text) => text(self.alloc, parser, place),
             Some(Terminal::Function) => {
                 parser.taken(place)?;
-                Ok(Exp::Function(self.body(parser, place.within())?))
+                Ok(Exp::Function(self.body(parser, within(place))?))
             }
+            Some(Terminal::LeftBrace) => Ok(Exp::Table(self.table(parser, within(place))?)),
             Some(Terminal::Name | Terminal::LeftParenthesis) => {
-                Ok(Exp::Prefix(self.prefix(parser, place)?))
+                let found = self.prefix(parser, place)?;
+                Ok(Exp::Prefix(joined(self.alloc, found)?))
             }
-            Some(Terminal::LeftBrace) => Ok(Exp::Table(self.table(parser, place.within())?)),
             _ => Err(parser.fault(SyntaxWhy::Expected)),
         }
     }
@@ -116,7 +158,7 @@ impl<
         parser: &mut Parser<'_>,
         place: Place,
     ) -> Result<Items<Exp>, Fail<SyntaxFault>> {
-        let mut exps = Items::new(parser.alloc);
+        let mut exps = Items::new(self.alloc);
         exps.push(self.exp(parser, place, Precedence::Or)?)?;
         while parser.begins(Terminal::Comma) {
             parser.taken(place)?;
@@ -125,42 +167,29 @@ impl<
         Ok(exps)
     }
 
-    /// `( [namelist] ) block end`. The part in parentheses is counted beside the body, whose place this is.
+    /// `( [namelist] ) block end`, at the place of the body, which is counted already. The part in parentheses and the block
+    /// are each one deeper.
     pub fn body(
         &self,
         parser: &mut Parser<'_>,
         place: Place,
     ) -> Result<FunctionBody, Fail<SyntaxFault>> {
-        parser.expected(place.within(), Terminal::LeftParenthesis)?;
-        let parameters = parser.parameters(place.within())?;
-        parser.expected(place.within(), Terminal::RightParenthesis)?;
-        let block = self.block(parser, place.within_function())?;
+        let parameters = parameters(self.alloc, parser, within(place))?;
+        let block = self.block(parser, within_function(place))?;
         parser.expected(place, Terminal::End)?;
         Ok(FunctionBody { parameters, block })
     }
 }
 
-impl<'a> Parser<'a> {
-    /// `nil`, `false` or `true`
-    fn constant(&mut self, place: Place) -> Result<Exp, Fail<SyntaxFault>> {
-        let word = self.taken(place)?;
-        match word.is {
-            Terminal::Nil => Ok(Exp::Nil),
-            Terminal::False => Ok(Exp::False),
-            _ => Ok(Exp::True),
-        }
-    }
+/// A numeral.
+fn numeral(parser: &mut Parser<'_>, place: Place) -> Result<Exp, Fail<SyntaxFault>> {
+    let word = parser.taken(place)?;
+    Ok(Exp::Numeral(numeral_value(word.spelled)))
+}
 
-    /// A numeral.
-    fn numeral(&mut self, place: Place) -> Result<Exp, Fail<SyntaxFault>> {
-        let word = self.taken(place)?;
-        Ok(Exp::Numeral(numeral_value(word.spelled)))
-    }
-
-    /// A text.
-    fn text(&mut self, place: Place) -> Result<Exp, Fail<SyntaxFault>> {
-        let word = self.taken(place)?;
-        let value = text_value(self.alloc, word.spelled)?;
-        Ok(Exp::Text(Items::from_vec(value)))
-    }
+/// A text.
+fn text(alloc: Global, parser: &mut Parser<'_>, place: Place) -> Result<Exp, Fail<SyntaxFault>> {
+    let word = parser.taken(place)?;
+    let value = text_value(alloc, word.spelled)?;
+    Ok(Exp::Text(Items::from_vec(value)))
 }

@@ -2,11 +2,13 @@
 #![tactic(auto)]
 
 mod bindings;
+mod blocks;
 mod expressions;
 mod loops;
 mod names;
 mod operator;
 mod parser;
+mod part;
 mod place;
 mod precedence;
 mod prefixes;
@@ -17,6 +19,7 @@ mod tables;
 mod terminal;
 mod word;
 
+pub use part::Part;
 pub use place::Place;
 pub use precedence::Precedence;
 pub use script::parse;

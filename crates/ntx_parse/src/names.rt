@@ -6,45 +6,60 @@ use crate::terminal::Terminal;
 use ntx_num::Fail;
 use ntx_syntax::{LocalName, Name, SyntaxFault};
 use sqlite_items::Items;
+use std::alloc::Global;
 
-impl<'a> Parser<'a> {
-    /// `{. Name}`
-    pub fn path(&mut self, place: Place) -> Result<Items<Name>, Fail<SyntaxFault>> {
-        let mut fields = Items::new(self.alloc);
-        while self.begins(Terminal::Dot) {
-            self.taken(place)?;
-            fields.push(self.name(place)?)?;
-        }
-        Ok(fields)
+/// `{. Name}`
+pub fn path(
+    alloc: Global,
+    parser: &mut Parser<'_>,
+    place: Place,
+) -> Result<Items<Name>, Fail<SyntaxFault>> {
+    let mut names = Items::new(alloc);
+    while parser.begins(Terminal::Dot) {
+        parser.taken(place)?;
+        names.push(parser.name(alloc, place)?)?;
     }
+    Ok(names)
+}
 
-    /// `Name {, Name}`
-    pub fn names(&mut self, place: Place) -> Result<Items<LocalName>, Fail<SyntaxFault>> {
-        let first = self.local_name(place)?;
-        self.more_names(place, first)
-    }
+/// `Name {, Name}`
+pub fn names(
+    alloc: Global,
+    parser: &mut Parser<'_>,
+    place: Place,
+) -> Result<Items<LocalName>, Fail<SyntaxFault>> {
+    let first = parser.local_name(alloc, place)?;
+    names_behind(alloc, parser, place, first)
+}
 
-    /// `{, Name}`, behind this name.
-    pub fn more_names(
-        &mut self,
-        place: Place,
-        first: LocalName,
-    ) -> Result<Items<LocalName>, Fail<SyntaxFault>> {
-        let mut names = Items::new(self.alloc);
-        names.push(first)?;
-        while self.begins(Terminal::Comma) {
-            self.taken(place)?;
-            names.push(self.local_name(place)?)?;
-        }
-        Ok(names)
+/// `{, Name}`, behind this name, which is the first of the list.
+pub fn names_behind(
+    alloc: Global,
+    parser: &mut Parser<'_>,
+    place: Place,
+    first: LocalName,
+) -> Result<Items<LocalName>, Fail<SyntaxFault>> {
+    let mut names = Items::new(alloc);
+    names.push(first)?;
+    while parser.begins(Terminal::Comma) {
+        parser.taken(place)?;
+        names.push(parser.local_name(alloc, place)?)?;
     }
+    Ok(names)
+}
 
-    /// `[Name {, Name}]`
-    pub fn parameters(&mut self, place: Place) -> Result<Items<LocalName>, Fail<SyntaxFault>> {
-        if self.begins(Terminal::Name) {
-            self.names(place)
-        } else {
-            Ok(Items::new(self.alloc))
-        }
+/// `( [Name {, Name}] )`
+pub fn parameters(
+    alloc: Global,
+    parser: &mut Parser<'_>,
+    place: Place,
+) -> Result<Items<LocalName>, Fail<SyntaxFault>> {
+    parser.expected(place, Terminal::LeftParenthesis)?;
+    if parser.begins(Terminal::RightParenthesis) {
+        parser.taken(place)?;
+        return Ok(Items::new(alloc));
     }
+    let names = names(alloc, parser, place)?;
+    parser.expected(place, Terminal::RightParenthesis)?;
+    Ok(names)
 }

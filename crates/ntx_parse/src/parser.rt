@@ -3,7 +3,7 @@
 use crate::operator::{binary_of, precedence_of, unary_of};
 use crate::place::Place;
 use crate::precedence::Precedence;
-use crate::terminal::Terminal;
+use crate::terminal::{Terminal, begins_statement, ends_return};
 use crate::word::Word;
 use ntx_num::Fail;
 use ntx_syntax::{BinaryOp, LocalName, Name, SyntaxFault, SyntaxWhy, UnaryOp};
@@ -16,15 +16,26 @@ const MAX_NESTING: u64 = 200;
 /// A parser, between two words.
 #[derive(Drop)]
 pub struct Parser<'a> {
-    /// The memory for what is read.
-    pub alloc: Global,
     /// The words that are not yet read.
-    pub rest: &'a [Word<'a>],
+    rest: &'a [Word<'a>],
     /// The number of the script's last line, from 1.
-    pub last_line: u64,
+    last_line: u64,
 }
 
 impl<'a> Parser<'a> {
+    /// A parser before these words, of a script with this last line.
+    pub fn new(words: &'a [Word<'a>], last_line: u64) -> Parser<'a> {
+        Parser {
+            rest: words,
+            last_line,
+        }
+    }
+
+    /// Whether all words are read.
+    pub fn is_at_end(&self) -> bool {
+        self.rest.is_empty()
+    }
+
     /// What the next word is, if there is one.
     pub fn next(&self) -> Option<Terminal> {
         match self.rest {
@@ -35,11 +46,22 @@ impl<'a> Parser<'a> {
 
     /// Whether the next word is this.
     pub fn begins(&self, terminal: Terminal) -> bool {
-        self.next() == Some(terminal)
+        match self.rest {
+            [] => false,
+            [word, ..] => word.is == terminal,
+        }
+    }
+
+    /// Whether a name and `=` come next.
+    pub fn names_a_field(&self) -> bool {
+        match self.rest {
+            [first, second, ..] => first.is == Terminal::Name && second.is == Terminal::Assign,
+            _ => false,
+        }
     }
 
     /// The operator between operands that comes next, if it has this precedence.
-    pub fn binary(&self, precedence: Precedence) -> Option<BinaryOp> {
+    pub fn operator_at(&self, precedence: Precedence) -> Option<BinaryOp> {
         let operator = binary_of(self.next()?)?;
         if precedence_of(operator) == precedence {
             Some(operator)
@@ -49,29 +71,41 @@ impl<'a> Parser<'a> {
     }
 
     /// The operator before an operand that comes next.
-    pub fn unary(&self) -> Option<UnaryOp> {
+    pub fn sign_at(&self) -> Option<UnaryOp> {
         unary_of(self.next()?)
     }
 
-    /// Whether an expression comes next.
-    pub fn begins_exp(&self) -> bool {
-        match self.next() {
-            Some(
-                Terminal::Nil
-                | Terminal::False
-                | Terminal::True
-                | Terminal::Numeral
-                | Terminal::Text
-                | Terminal::Function
-                | Terminal::Name
-                | Terminal::LeftParenthesis
-                | Terminal::LeftBrace
-                | Terminal::Not
-                | Terminal::Hash
-                | Terminal::Minus
-                | Terminal::Tilde,
-            ) => true,
-            _ => false,
+    /// Whether a suffix comes next.
+    pub fn begins_suffix(&self) -> bool {
+        self.begins(Terminal::LeftBracket)
+            || self.begins(Terminal::Dot)
+            || self.begins(Terminal::LeftParenthesis)
+    }
+
+    /// Whether `,` or `;` comes next.
+    pub fn begins_separator(&self) -> bool {
+        self.begins(Terminal::Comma) || self.begins(Terminal::Semicolon)
+    }
+
+    /// What the next word is, and its line, if a statement begins with it, `return` aside.
+    pub fn statement_at(&self) -> Option<(Terminal, u64)> {
+        match self.rest {
+            [] => None,
+            [word, ..] => {
+                if begins_statement(word.is) {
+                    Some((word.is, word.line))
+                } else {
+                    None
+                }
+            }
+        }
+    }
+
+    /// Whether what comes next cannot begin an expression behind `return`, but ends it or its block.
+    pub fn ends_returned(&self) -> bool {
+        match self.rest {
+            [] => true,
+            [word, ..] => ends_return(word.is),
         }
     }
 
@@ -120,15 +154,19 @@ impl<'a> Parser<'a> {
     }
 
     /// Takes a name.
-    pub fn name(&mut self, place: Place) -> Result<Name, Fail<SyntaxFault>> {
+    pub fn name(&mut self, alloc: Global, place: Place) -> Result<Name, Fail<SyntaxFault>> {
         let word = self.expected(place, Terminal::Name)?;
-        Ok(Items::from_slice(self.alloc, word.spelled)?)
+        Ok(Items::from_slice(alloc, word.spelled)?)
     }
 
     /// Takes a name that is declared local.
-    pub fn local_name(&mut self, place: Place) -> Result<LocalName, Fail<SyntaxFault>> {
+    pub fn local_name(
+        &mut self,
+        alloc: Global,
+        place: Place,
+    ) -> Result<LocalName, Fail<SyntaxFault>> {
         let word = self.expected(place, Terminal::Name)?;
-        let name = Items::from_slice(self.alloc, word.spelled)?;
+        let name = Items::from_slice(alloc, word.spelled)?;
         Ok(LocalName {
             name,
             line: word.line,

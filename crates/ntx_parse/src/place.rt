@@ -1,45 +1,57 @@
 //! Where words stand.
 
+ghost use Rattle.std.specs.Prelude.{◌≡◌, ◌<◌, ◌^◌};
+ghost use Rattle.ntx_parse.specs.Grammar as grammar;
+
 /// Where a word of a script stands.
 #[derive(Clone, Copy, Debug, PartialEq, Eq)]
 pub struct Place {
-    /// How many counted parts hold it: blocks, bodies, tables, parts in brackets, and operands behind operators. A
-    /// script's own block is not counted.
+    /// How many counted parts of the script hold it: blocks, bodies of functions, tables, parts in brackets, operands behind
+    /// operators.
     pub nesting: u64,
-    /// Whether a `break` there is in a loop of its function.
+    /// Whether it stands in a loop of its function.
     pub in_loop: bool,
 }
 
-impl Place {
-    /// The place of a script's own block.
-    pub fn outermost() -> Place {
-        Place {
-            nesting: 0,
-            in_loop: false,
-        }
+/// The place of a script's own block, which is not counted.
+pub fn outermost() -> Place
+    ensures { result ≡ grammar.outermost }
+{
+    Place {
+        nesting: 0,
+        in_loop: false,
     }
+}
 
-    /// The place in a part that is counted.
-    pub fn within(self) -> Place {
-        Place {
-            nesting: self.nesting.saturating_add(1),
-            in_loop: self.in_loop,
-        }
+/// The place in a part that is counted.
+pub fn within(place: Place) -> Place
+    requires { place.nesting < 2 ^ 16 }
+    ensures { result ≡ grammar.within place }
+{
+    Place {
+        nesting: place.nesting + 1,
+        in_loop: place.in_loop,
     }
+}
 
-    /// The place in the block of a loop.
-    pub fn within_loop(self) -> Place {
-        Place {
-            nesting: self.nesting.saturating_add(1),
-            in_loop: true,
-        }
+/// The place in the block of a loop.
+pub fn within_loop(place: Place) -> Place
+    requires { place.nesting < 2 ^ 16 }
+    ensures { result ≡ grammar.within_loop place }
+{
+    Place {
+        nesting: place.nesting + 1,
+        in_loop: true,
     }
+}
 
-    /// The place in the block of a function.
-    pub fn within_function(self) -> Place {
-        Place {
-            nesting: self.nesting.saturating_add(1),
-            in_loop: false,
-        }
+/// The place in the block of a function.
+pub fn within_function(place: Place) -> Place
+    requires { place.nesting < 2 ^ 16 }
+    ensures { result ≡ grammar.within_function place }
+{
+    Place {
+        nesting: place.nesting + 1,
+        in_loop: false,
     }
 }

@@ -42,3 +42,19 @@ pub fn tighter(precedence: Precedence) -> Precedence {
         Precedence::Multiplicative | Precedence::Unary => Precedence::Unary,
     }
 }
+
+/// The next looser precedence.
+pub fn looser(precedence: Precedence) -> Precedence {
+    match precedence {
+        Precedence::Or | Precedence::And => Precedence::Or,
+        Precedence::Comparison => Precedence::And,
+        Precedence::BitOr => Precedence::Comparison,
+        Precedence::BitXor => Precedence::BitOr,
+        Precedence::BitAnd => Precedence::BitXor,
+        Precedence::Shift => Precedence::BitAnd,
+        Precedence::Concat => Precedence::Shift,
+        Precedence::Additive => Precedence::Concat,
+        Precedence::Multiplicative => Precedence::Additive,
+        Precedence::Unary => Precedence::Multiplicative,
+    }
+}

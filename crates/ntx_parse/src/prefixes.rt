@@ -1,85 +1,82 @@
 //! Variables, calls and parenthesized expressions.
 
 use crate::parser::Parser;
-use crate::place::Place;
+use crate::part::{Part, joined};
+use crate::place::{Place, within};
 use crate::precedence::Precedence;
 use crate::rules::Rules;
 use crate::terminal::Terminal;
 use ntx_num::Fail;
-use ntx_syntax::{Block, Call, Exp, Head, Prefix, Suffix, SyntaxFault, Var};
-use sqlite_items::{Boxed, Items};
-
-/// What a prefix is as a statement or as the left side of one.
-#[derive(Drop)]
-pub enum Target {
-    /// It can be assigned to.
-    Var(Var),
-    /// It is a call.
-    Call(Call),
-    /// It is neither.
-    Neither,
-}
-
-/// What a prefix is, by what stands last in it.
-pub fn target_of(prefix: Prefix) -> Target {
-    let Prefix { head, mut suffixes } = prefix;
-    match suffixes.pop() {
-        None => match head {
-            Head::Name(name) => Target::Var(Var::Name(name)),
-            Head::Parenthesized(_) => Target::Neither,
-        },
-        Some(Suffix::Index(key)) => Target::Var(Var::Index(Prefix { head, suffixes }, key)),
-        Some(Suffix::Field(name)) => Target::Var(Var::Field(Prefix { head, suffixes }, name)),
-        Some(Suffix::Call(arguments)) => Target::Call(Call {
-            function: Prefix { head, suffixes },
-            arguments,
-        }),
-    }
-}
+use ntx_syntax::{Block, Exp, SyntaxFault};
+use sqlite_items::Items;
+use std::alloc::Global;
 
 impl<
-    E: Fn(&mut Parser<'_>, Place, Precedence) -> Result<Exp, Fail<SyntaxFault>>,
-    B: Fn(&mut Parser<'_>, Place) -> Result<Block, Fail<SyntaxFault>>,
+    E: Fn(Global, &mut Parser<'_>, u64, Place, Precedence) -> Result<Exp, Fail<SyntaxFault>>,
+    B: Fn(Global, &mut Parser<'_>, u64, Place) -> Result<Block, Fail<SyntaxFault>>,
 > Rules<E, B> {
     /// A name or a parenthesized expression, and all suffixes behind it.
-    pub fn prefix(
-        &self,
-        parser: &mut Parser<'_>,
-        place: Place,
-    ) -> Result<Prefix, Fail<SyntaxFault>> {
+    pub fn prefix(&self, parser: &mut Parser<'_>, place: Place) -> Result<Part, Fail<SyntaxFault>> {
         let head = self.head(parser, place)?;
-        let mut suffixes = Items::new(parser.alloc);
-        while parser.begins_suffix() {
-            suffixes.push(self.suffix(parser, place)?)?;
-        }
-        Ok(Prefix { head, suffixes })
+        self.suffixes_behind(parser, place, head)
     }
 
     /// `Name` or `( exp )`
-    fn head(&self, parser: &mut Parser<'_>, place: Place) -> Result<Head, Fail<SyntaxFault>> {
-        if parser.begins(Terminal::Name) {
-            return Ok(Head::Name(parser.name(place)?));
+    fn head(&self, parser: &mut Parser<'_>, place: Place) -> Result<Part, Fail<SyntaxFault>> {
+        if parser.begins(Terminal::LeftParenthesis) {
+            Ok(Part::Parenthesized(self.parenthesized(parser, within(place))?))
+        } else {
+            Ok(Part::Name(parser.name(self.alloc, place)?))
         }
-        let inside = place.within();
-        parser.expected(inside, Terminal::LeftParenthesis)?;
-        let exp = self.exp(parser, inside, Precedence::Or)?;
-        parser.expected(inside, Terminal::RightParenthesis)?;
-        Ok(Head::Parenthesized(Boxed::new(parser.alloc, exp)?))
     }
 
-    /// `[ exp ]`, `. Name` or `( [explist] )`
-    fn suffix(&self, parser: &mut Parser<'_>, place: Place) -> Result<Suffix, Fail<SyntaxFault>> {
+    /// `( exp )`, at the place of the parentheses.
+    fn parenthesized(
+        &self,
+        parser: &mut Parser<'_>,
+        place: Place,
+    ) -> Result<Exp, Fail<SyntaxFault>> {
+        parser.expected(place, Terminal::LeftParenthesis)?;
+        let exp = self.exp(parser, place, Precedence::Or)?;
+        parser.expected(place, Terminal::RightParenthesis)?;
+        Ok(exp)
+    }
+
+    /// All suffixes behind this.
+    fn suffixes_behind(
+        &self,
+        parser: &mut Parser<'_>,
+        place: Place,
+        first: Part,
+    ) -> Result<Part, Fail<SyntaxFault>> {
+        let mut before = first;
+        while parser.begins_suffix() {
+            before = self.suffix(parser, place, before)?;
+        }
+        Ok(before)
+    }
+
+    /// `[ exp ]`, `. Name` or `( [explist] )`, behind this.
+    fn suffix(
+        &self,
+        parser: &mut Parser<'_>,
+        place: Place,
+        before: Part,
+    ) -> Result<Part, Fail<SyntaxFault>> {
         if parser.begins(Terminal::LeftBracket) {
-            Ok(Suffix::Index(self.index(parser, place.within())?))
+            let key = self.index(parser, within(place))?;
+            Ok(Part::Index(joined(self.alloc, before)?, key))
         } else if parser.begins(Terminal::Dot) {
             parser.taken(place)?;
-            Ok(Suffix::Field(parser.name(place)?))
+            let name = parser.name(self.alloc, place)?;
+            Ok(Part::Field(joined(self.alloc, before)?, name))
         } else {
-            Ok(Suffix::Call(self.arguments(parser, place.within())?))
+            let arguments = self.arguments(parser, within(place))?;
+            Ok(Part::Call(joined(self.alloc, before)?, arguments))
         }
     }
 
-    /// `[ exp ]`. All of it is counted, and this is its place.
+    /// `[ exp ]`, at the place of the brackets.
     pub fn index(&self, parser: &mut Parser<'_>, place: Place) -> Result<Exp, Fail<SyntaxFault>> {
         parser.expected(place, Terminal::LeftBracket)?;
         let key = self.exp(parser, place, Precedence::Or)?;
@@ -87,7 +84,7 @@ impl<
         Ok(key)
     }
 
-    /// `( [explist] )`. All of it is counted, and this is its place.
+    /// `( [explist] )`, at the place of the parentheses.
     fn arguments(
         &self,
         parser: &mut Parser<'_>,
@@ -96,20 +93,10 @@ impl<
         parser.expected(place, Terminal::LeftParenthesis)?;
         if parser.begins(Terminal::RightParenthesis) {
             parser.taken(place)?;
-            return Ok(Items::new(parser.alloc));
+            return Ok(Items::new(self.alloc));
         }
         let arguments = self.exps(parser, place)?;
         parser.expected(place, Terminal::RightParenthesis)?;
         Ok(arguments)
-    }
-}
-
-impl<'a> Parser<'a> {
-    /// Whether a suffix comes next.
-    fn begins_suffix(&self) -> bool {
-        match self.next() {
-            Some(Terminal::LeftBracket | Terminal::Dot | Terminal::LeftParenthesis) => true,
-            _ => false,
-        }
     }
 }

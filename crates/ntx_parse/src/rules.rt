@@ -5,10 +5,15 @@ use crate::place::Place;
 use crate::precedence::Precedence;
 use ntx_num::Fail;
 use ntx_syntax::{Block, Exp, SyntaxFault};
+use std::alloc::Global;
 
 /// The rules, over what reads the expressions and the blocks in them.
 #[derive(Clone, Copy)]
 pub struct Rules<E, B> {
+    /// The memory for trees.
+    pub alloc: Global,
+    /// How deep expressions and blocks may still lie in one another.
+    pub depth: u64,
     /// What reads an expression.
     pub exp: E,
     /// What reads a block.
@@ -16,8 +21,8 @@ pub struct Rules<E, B> {
 }
 
 impl<
-    E: Fn(&mut Parser<'_>, Place, Precedence) -> Result<Exp, Fail<SyntaxFault>>,
-    B: Fn(&mut Parser<'_>, Place) -> Result<Block, Fail<SyntaxFault>>,
+    E: Fn(Global, &mut Parser<'_>, u64, Place, Precedence) -> Result<Exp, Fail<SyntaxFault>>,
+    B: Fn(Global, &mut Parser<'_>, u64, Place) -> Result<Block, Fail<SyntaxFault>>,
 > Rules<E, B> {
     /// An expression.
     pub fn exp(
@@ -26,11 +31,11 @@ impl<
         place: Place,
         precedence: Precedence,
     ) -> Result<Exp, Fail<SyntaxFault>> {
-        (self.exp)(parser, place, precedence)
+        (self.exp)(self.alloc, parser, self.depth, place, precedence)
     }
 
     /// A block.
     pub fn block(&self, parser: &mut Parser<'_>, place: Place) -> Result<Block, Fail<SyntaxFault>> {
-        (self.block)(parser, place)
+        (self.block)(self.alloc, parser, self.depth, place)
     }
 }

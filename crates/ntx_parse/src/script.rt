@@ -1,7 +1,7 @@
 //! Reading a script.
 
 use crate::parser::Parser;
-use crate::place::Place;
+use crate::place::{Place, outermost};
 use crate::precedence::Precedence;
 use crate::rules::Rules;
 use crate::word::words_of;
@@ -9,20 +9,42 @@ use ntx_num::Fail;
 use ntx_syntax::{Block, Chunk, Exp, SyntaxFault, SyntaxWhy, Token};
 use std::alloc::Global;
 
-/// An expression that stands here, with operators outside of brackets that bind no less than this precedence.
+/// How deep expressions and blocks can lie in one another in a script whose words lie no deeper than they may.
+const MAX_DEPTH: u64 = 406;
+
+/// An expression that stands here, whose own operators bind as tight as this precedence or tighter.
 #[cycle(phrases)]
 fn exp(
+    alloc: Global,
     parser: &mut Parser<'_>,
+    depth: u64,
     place: Place,
     precedence: Precedence,
 ) -> Result<Exp, Fail<SyntaxFault>> {
-    Rules { exp, block }.level(parser, place, precedence)
+    Rules {
+        alloc,
+        depth: depth - 1,
+        exp,
+        block,
+    }
+    .level(parser, place, precedence)
 }
 
 /// A block that stands here.
 #[cycle(phrases)]
-fn block(parser: &mut Parser<'_>, place: Place) -> Result<Block, Fail<SyntaxFault>> {
-    Rules { exp, block }.statements(parser, place)
+fn block(
+    alloc: Global,
+    parser: &mut Parser<'_>,
+    depth: u64,
+    place: Place,
+) -> Result<Block, Fail<SyntaxFault>> {
+    Rules {
+        alloc,
+        depth: depth - 1,
+        exp,
+        block,
+    }
+    .statements(parser, place)
 }
 
 /// The number of the last line, from 1: that behind the last LF.
@@ -33,14 +55,11 @@ fn last_line(bytes: &[u8]) -> u64 {
 /// The tree of a script, of its tokens.
 pub fn parse(alloc: Global, bytes: &[u8], tokens: &[Token]) -> Result<Chunk, Fail<SyntaxFault>> {
     let words = words_of(alloc, bytes, tokens)?;
-    let mut parser = Parser {
-        alloc,
-        rest: words.as_slice(),
-        last_line: last_line(bytes),
-    };
-    let block = block(&mut parser, Place::outermost())?;
-    match parser.rest {
-        [] => Ok(Chunk { block }),
-        _ => Err(parser.fault(SyntaxWhy::Expected)),
+    let mut parser = Parser::new(words.as_slice(), last_line(bytes));
+    let block = block(alloc, &mut parser, MAX_DEPTH, outermost())?;
+    if parser.is_at_end() {
+        Ok(Chunk { block })
+    } else {
+        Err(parser.fault(SyntaxWhy::Expected))
     }
 }

@@ -1,19 +1,20 @@
 //! Tables.
 
 use crate::parser::Parser;
-use crate::place::Place;
+use crate::place::{Place, within};
 use crate::precedence::Precedence;
 use crate::rules::Rules;
 use crate::terminal::Terminal;
 use ntx_num::Fail;
 use ntx_syntax::{Block, Exp, Field, SyntaxFault};
 use sqlite_items::Items;
+use std::alloc::Global;
 
 impl<
-    E: Fn(&mut Parser<'_>, Place, Precedence) -> Result<Exp, Fail<SyntaxFault>>,
-    B: Fn(&mut Parser<'_>, Place) -> Result<Block, Fail<SyntaxFault>>,
+    E: Fn(Global, &mut Parser<'_>, u64, Place, Precedence) -> Result<Exp, Fail<SyntaxFault>>,
+    B: Fn(Global, &mut Parser<'_>, u64, Place) -> Result<Block, Fail<SyntaxFault>>,
 > Rules<E, B> {
-    /// `{ [field {(,|;) field} [,|;]] }`. All of it is counted, and this is its place.
+    /// `{ [field {(,|;) field} [,|;]] }`, at the place of the braces.
     pub fn table(
         &self,
         parser: &mut Parser<'_>,
@@ -25,13 +26,13 @@ impl<
         Ok(fields)
     }
 
-    /// `[field {(,|;) field} [,|;]]`, before `}`
+    /// `[field {(,|;) field} [,|;]]`, up to the closing brace.
     fn fields(
         &self,
         parser: &mut Parser<'_>,
         place: Place,
     ) -> Result<Items<Field>, Fail<SyntaxFault>> {
-        let mut fields = Items::new(parser.alloc);
+        let mut fields = Items::new(self.alloc);
         while !parser.begins(Terminal::RightBrace) {
             fields.push(self.field(parser, place)?)?;
             if !parser.begins_separator() {
@@ -42,36 +43,25 @@ impl<
         Ok(fields)
     }
 
-    /// `[ exp ] = exp`, `Name = exp` or `exp`
+    /// `[ exp ] = exp`, `Name = exp` or `exp`.
     fn field(&self, parser: &mut Parser<'_>, place: Place) -> Result<Field, Fail<SyntaxFault>> {
         if parser.begins(Terminal::LeftBracket) {
-            let key = self.index(parser, place.within())?;
-            parser.expected(place, Terminal::Assign)?;
-            let value = self.exp(parser, place, Precedence::Or)?;
+            let key = self.index(parser, within(place))?;
+            let value = self.value(parser, place)?;
             Ok(Field::Keyed(key, value))
-        } else if parser.begins_named_field() {
-            let name = parser.name(place)?;
-            parser.taken(place)?;
-            let value = self.exp(parser, place, Precedence::Or)?;
+        } else if parser.names_a_field() {
+            let name = parser.name(self.alloc, place)?;
+            let value = self.value(parser, place)?;
             Ok(Field::Named(name, value))
         } else {
             let value = self.exp(parser, place, Precedence::Or)?;
             Ok(Field::Positional(value))
         }
     }
-}
 
-impl<'a> Parser<'a> {
-    /// Whether `,` or `;` comes next.
-    fn begins_separator(&self) -> bool {
-        self.begins(Terminal::Comma) || self.begins(Terminal::Semicolon)
-    }
-
-    /// Whether a name and `=` come next.
-    fn begins_named_field(&self) -> bool {
-        match self.rest {
-            [first, second, ..] => first.is == Terminal::Name && second.is == Terminal::Assign,
-            _ => false,
-        }
+    /// `= exp`
+    fn value(&self, parser: &mut Parser<'_>, place: Place) -> Result<Exp, Fail<SyntaxFault>> {
+        parser.expected(place, Terminal::Assign)?;
+        self.exp(parser, place, Precedence::Or)
     }
 }

@@ -191,3 +191,30 @@ pub fn terminal_of(sort: Sort, spelled: &[u8]) -> Terminal {
         Sort::Symbol => named(&SYMBOLS, Terminal::DoubleDot, spelled),
     }
 }
+
+/// Whether a statement begins with this, `return` aside.
+pub fn begins_statement(terminal: Terminal) -> bool {
+    match terminal {
+        Terminal::Semicolon
+        | Terminal::Break
+        | Terminal::Do
+        | Terminal::While
+        | Terminal::Repeat
+        | Terminal::If
+        | Terminal::For
+        | Terminal::Function
+        | Terminal::Local
+        | Terminal::Name
+        | Terminal::LeftParenthesis => true,
+        _ => false,
+    }
+}
+
+/// Whether this begins no expression behind `return`, but ends it or its block.
+pub fn ends_return(terminal: Terminal) -> bool {
+    match terminal {
+        Terminal::End | Terminal::Else | Terminal::Elseif | Terminal::Until | Terminal::Semicolon =>
+            true,
+        _ => false,
+    }
+}

@@ -53,7 +53,11 @@ fn simple_expressions(rt: HostRuntime) {
     reads(&rt, b"x=0x10", b"1@x=16;");
     reads(&rt, b"x='a\\65'", b"1@x=\"aA\";");
     reads(&rt, b"x=function() end", b"1@x=function() end;");
-    reads(&rt, b"x=function(a,b)\nreturn a end", b"1@x=function(1@a,1@b) 2@return a;end;");
+    reads(
+        &rt,
+        b"x=function(a,b)\nreturn a end",
+        b"1@x=function(1@a,1@b) 2@return a;end;",
+    );
     reads(&rt, b"x=(a)", b"1@x=<a>;");
     reads(&rt, b"x=(a)(b)[c].d", b"1@x=<a>(b)[c].d;");
     reads(&rt, b"x=f()", b"1@x=f();");
@@ -80,35 +84,71 @@ fn blocks(rt: HostRuntime) {
     reads(&rt, b"return;", b"1@return ;");
     reads(&rt, b"return a,b;", b"1@return a,b;");
     reads(&rt, b"return -a", b"1@return (-a);");
-    reads(&rt, b"\ndo x=1\nreturn y end z=2", b"2@do 2@x=1;3@return y;end;3@z=2;");
+    reads(
+        &rt,
+        b"\ndo x=1\nreturn y end z=2",
+        b"2@do 2@x=1;3@return y;end;3@z=2;",
+    );
     reads(&rt, b"while a do break end", b"1@while a do 1@break;end;");
     reads(&rt, b"repeat break until a", b"1@repeat 1@break;until a;");
-    reads(&rt, b"while a do do break end end", b"1@while a do 1@do 1@break;end;end;");
+    reads(
+        &rt,
+        b"while a do do break end end",
+        b"1@while a do 1@do 1@break;end;end;",
+    );
 }
 
 #[test]
 fn choices(rt: HostRuntime) {
     reads(&rt, b"if a then end", b"1@if a then end;");
-    reads(&rt, b"if a then b() else c() end", b"1@if a then 1@call b();else 1@call c();end;");
-    reads(&rt, b"if a then elseif b then x=1 end", b"1@if a then if b then 1@x=1;end;");
-    reads(&rt, b"if a then\nelseif b then\nelse\nx=1 end", b"1@if a then if b then else 4@x=1;end;");
+    reads(
+        &rt,
+        b"if a then b() else c() end",
+        b"1@if a then 1@call b();else 1@call c();end;",
+    );
+    reads(
+        &rt,
+        b"if a then elseif b then x=1 end",
+        b"1@if a then if b then 1@x=1;end;",
+    );
+    reads(
+        &rt,
+        b"if a then\nelseif b then\nelse\nx=1 end",
+        b"1@if a then if b then else 4@x=1;end;",
+    );
 }
 
 #[test]
 fn loops(rt: HostRuntime) {
     reads(&rt, b"for i=1,2 do end", b"1@for 1@i=1,2 do end;");
-    reads(&rt, b"for i=1,2,3 do f() end", b"1@for 1@i=1,2,3 do 1@call f();end;");
+    reads(
+        &rt,
+        b"for i=1,2,3 do f() end",
+        b"1@for 1@i=1,2,3 do 1@call f();end;",
+    );
     reads(&rt, b"for k in f do end", b"1@for 1@k in f do end;");
-    reads(&rt, b"for k,\nv in f,g do break end", b"1@for 1@k,2@v in f,g do 2@break;end;");
+    reads(
+        &rt,
+        b"for k,\nv in f,g do break end",
+        b"1@for 1@k,2@v in f,g do 2@break;end;",
+    );
 }
 
 #[test]
 fn declarations(rt: HostRuntime) {
     reads(&rt, b"local a", b"1@local 1@a=;");
     reads(&rt, b"local a,\nb=1,2", b"1@local 1@a,2@b=1,2;");
-    reads(&rt, b"local function f(a) end", b"1@local function 1@f(1@a) end;");
+    reads(
+        &rt,
+        b"local function f(a) end",
+        b"1@local function 1@f(1@a) end;",
+    );
     reads(&rt, b"function f() end", b"1@function f() end;");
-    reads(&rt, b"function a.b.c(x,\ny) end", b"1@function a.b.c(1@x,2@y) end;");
+    reads(
+        &rt,
+        b"function a.b.c(x,\ny) end",
+        b"1@function a.b.c(1@x,2@y) end;",
+    );
 }
 
 #[test]

@@ -7,11 +7,7 @@ use std::alloc::{AllocError, Global};
 use std::process::Abort;
 
 /// `front`, `open` so many times, `middle`, `close` so many times, and `back`.
-fn nested(
-    alloc: Global,
-    times: u64,
-    parts: [&[u8]; 5],
-) -> Result<Vec<u8>, AllocError> {
+fn nested(alloc: Global, times: u64, parts: [&[u8]; 5]) -> Result<Vec<u8>, AllocError> {
     let [front, open, middle, close, back] = parts;
     let mut text = Vec::new(alloc);
     text.extend_from_slice(front)?;
@@ -76,6 +72,47 @@ fn operands(rt: HostRuntime) {
     at_most_200(&rt, [b"x=", b"not ", b"a", b"", b""]);
     at_most_200(&rt, [b"x=", b"- ", b"a", b"", b""]);
     at_most_200(&rt, [b"x=", b"a..", b"a", b"", b""]);
-    at_most_200(&rt, [b"x=", b"a+(", b"a", b")", b""]);
+    accepts(&rt, 100, [b"x=", b"a+(", b"a", b")", b""]);
+    too_deep(&rt, 101, [b"x=", b"a+(", b"a", b")", b""]);
 }
 
+#[test]
+fn functions(rt: HostRuntime) {
+    let nested: [&[u8]; 5] = [b"", b"return function() ", b"", b" end", b""];
+    accepts(&rt, 100, nested);
+    too_deep(&rt, 101, nested);
+    let named: [&[u8]; 5] = [b"", b"function f() ", b"", b" end", b""];
+    accepts(&rt, 100, named);
+    too_deep(&rt, 101, named);
+    let local: [&[u8]; 5] = [b"", b"local function f() ", b"", b" end", b""];
+    accepts(&rt, 100, local);
+    too_deep(&rt, 101, local);
+}
+
+#[test]
+fn keys(rt: HostRuntime) {
+    let keyed: [&[u8]; 5] = [b"x=", b"{[a]=", b"a", b"}", b""];
+    accepts(&rt, 199, keyed);
+    too_deep(&rt, 200, keyed);
+    let named: [&[u8]; 5] = [b"x=", b"{a=", b"a", b"}", b""];
+    accepts(&rt, 200, named);
+    too_deep(&rt, 201, named);
+}
+
+#[test]
+fn flat(rt: HostRuntime) {
+    accepts(&rt, 20_000, [b"x=a", b"+a", b"", b"", b""]);
+    accepts(&rt, 20_000, [b"x=a", b" or a", b"", b"", b""]);
+    accepts(&rt, 20_000, [b"x=a", b".a", b"", b"", b""]);
+    accepts(&rt, 20_000, [b"a", b"()", b"", b"", b""]);
+    accepts(&rt, 20_000, [b"a", b"[a]", b"=a", b"", b""]);
+    accepts(&rt, 20_000, [b"", b"a=a ", b"", b"", b""]);
+    accepts(
+        &rt,
+        20_000,
+        [b"if a then", b" elseif a then", b" end", b"", b""],
+    );
+    accepts(&rt, 20_000, [b"local a", b",a", b"", b"", b""]);
+    accepts(&rt, 20_000, [b"x={", b"a,", b"}", b"", b""]);
+    accepts(&rt, 20_000, [b"f(a", b",a", b")", b"", b""]);
+}

@@ -79,8 +79,18 @@ fn expressions(rt: HostRuntime) {
 fn breaks(rt: HostRuntime) {
     refuses(&rt, b"break", 1, SyntaxWhy::Break);
     refuses(&rt, b"x = 1\nif a then break\nend", 2, SyntaxWhy::Break);
-    refuses(&rt, b"while a do f = function()\nbreak end end", 2, SyntaxWhy::Break);
-    refuses(&rt, b"repeat until function()\nbreak end", 2, SyntaxWhy::Break);
+    refuses(
+        &rt,
+        b"while a do f = function()\nbreak end end",
+        2,
+        SyntaxWhy::Break,
+    );
+    refuses(
+        &rt,
+        b"repeat until function()\nbreak end",
+        2,
+        SyntaxWhy::Break,
+    );
     refuses(&rt, b"break\nx", 1, SyntaxWhy::Break);
     refuses(&rt, b"x\nbreak", 2, SyntaxWhy::Expected);
 }

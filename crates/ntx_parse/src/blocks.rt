@@ -1,0 +1,96 @@
+//! Blocks.
+
+use crate::parser::Parser;
+use crate::place::{Place, within_loop};
+use crate::precedence::Precedence;
+use crate::rules::Rules;
+use crate::terminal::Terminal;
+use ntx_num::Fail;
+use ntx_syntax::{Block, Exp, Return, Stat, SyntaxFault};
+use sqlite_items::Items;
+use std::alloc::Global;
+
+impl<
+    E: Fn(Global, &mut Parser<'_>, u64, Place, Precedence) -> Result<Exp, Fail<SyntaxFault>>,
+    B: Fn(Global, &mut Parser<'_>, u64, Place) -> Result<Block, Fail<SyntaxFault>>,
+> Rules<E, B> {
+    /// `{stat} [return [explist] [;]]`
+    pub fn statements(
+        &self,
+        parser: &mut Parser<'_>,
+        place: Place,
+    ) -> Result<Block, Fail<SyntaxFault>> {
+        let stats = self.stats(parser, place)?;
+        let last = self.last(parser, place)?;
+        Ok(Block { stats, last })
+    }
+
+    /// `{stat}`, each with the line of its first word.
+    fn stats(
+        &self,
+        parser: &mut Parser<'_>,
+        place: Place,
+    ) -> Result<Items<Stat>, Fail<SyntaxFault>> {
+        let mut stats = Items::new(self.alloc);
+        while let Some((terminal, line)) = parser.statement_at() {
+            let kind = self.kind(parser, place, terminal)?;
+            stats.push(Stat { line, kind })?;
+        }
+        Ok(stats)
+    }
+
+    /// `[return [explist] [;]]`
+    fn last(
+        &self,
+        parser: &mut Parser<'_>,
+        place: Place,
+    ) -> Result<Option<Return>, Fail<SyntaxFault>> {
+        if !parser.begins(Terminal::Return) {
+            return Ok(None);
+        }
+        let word = parser.taken(place)?;
+        let values = self.returned(parser, place)?;
+        if parser.begins(Terminal::Semicolon) {
+            parser.taken(place)?;
+        }
+        Ok(Some(Return {
+            line: word.line,
+            values,
+        }))
+    }
+
+    /// `[explist]`, behind `return`.
+    fn returned(
+        &self,
+        parser: &mut Parser<'_>,
+        place: Place,
+    ) -> Result<Items<Exp>, Fail<SyntaxFault>> {
+        if parser.ends_returned() {
+            Ok(Items::new(self.alloc))
+        } else {
+            self.exps(parser, place)
+        }
+    }
+
+    /// `block end`, where the block stands at `inside` and `end` at `place`.
+    pub fn block_to_end(
+        &self,
+        parser: &mut Parser<'_>,
+        place: Place,
+        inside: Place,
+    ) -> Result<Block, Fail<SyntaxFault>> {
+        let body = self.block(parser, inside)?;
+        parser.expected(place, Terminal::End)?;
+        Ok(body)
+    }
+
+    /// `do block end`, of a loop.
+    pub fn loop_body(
+        &self,
+        parser: &mut Parser<'_>,
+        place: Place,
+    ) -> Result<Block, Fail<SyntaxFault>> {
+        parser.expected(place, Terminal::Do)?;
+        self.block_to_end(parser, place, within_loop(place))
+    }
+}

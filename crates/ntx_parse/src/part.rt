@@ -1,0 +1,54 @@
+//! Prefixes while they are read.
+
+use ntx_syntax::{Exp, Head, Name, Prefix, Suffix, Var};
+use sqlite_items::{Boxed, Items};
+use std::alloc::{AllocError, Global};
+
+/// A name, a parenthesized expression, or what its last suffix makes of a prefix.
+#[derive(Drop)]
+pub enum Part {
+    /// `Name`
+    Name(Name),
+    /// `( exp )`
+    Parenthesized(Exp),
+    /// `prefix [ exp ]`
+    Index(Prefix, Exp),
+    /// `prefix . Name`
+    Field(Prefix, Name),
+    /// `prefix ( [explist] )`
+    Call(Prefix, Items<Exp>),
+}
+
+/// A prefix, and one more suffix behind it.
+fn with_suffix(prefix: Prefix, suffix: Suffix) -> Result<Prefix, AllocError> {
+    let Prefix { head, mut suffixes } = prefix;
+    suffixes.push(suffix)?;
+    Ok(Prefix { head, suffixes })
+}
+
+/// The prefix that was read.
+pub fn joined(alloc: Global, part: Part) -> Result<Prefix, AllocError> {
+    match part {
+        Part::Name(name) => Ok(Prefix {
+            head: Head::Name(name),
+            suffixes: Items::new(alloc),
+        }),
+        Part::Parenthesized(exp) => Ok(Prefix {
+            head: Head::Parenthesized(Boxed::new(alloc, exp)?),
+            suffixes: Items::new(alloc),
+        }),
+        Part::Index(before, key) => with_suffix(before, Suffix::Index(key)),
+        Part::Field(before, name) => with_suffix(before, Suffix::Field(name)),
+        Part::Call(before, arguments) => with_suffix(before, Suffix::Call(arguments)),
+    }
+}
+
+/// What can be assigned to, if the prefix is that.
+pub fn var_of(part: Part) -> Option<Var> {
+    match part {
+        Part::Name(name) => Some(Var::Name(name)),
+        Part::Index(before, key) => Some(Var::Index(before, key)),
+        Part::Field(before, name) => Some(Var::Field(before, name)),
+        Part::Parenthesized(_) | Part::Call(_, _) => None,
+    }
+}
