@@ -101,18 +101,18 @@ fn keys(rt: HostRuntime) {
 
 #[test]
 fn flat(rt: HostRuntime) {
-    accepts(&rt, 20_000, [b"x=a", b"+a", b"", b"", b""]);
-    accepts(&rt, 20_000, [b"x=a", b" or a", b"", b"", b""]);
-    accepts(&rt, 20_000, [b"x=a", b".a", b"", b"", b""]);
-    accepts(&rt, 20_000, [b"a", b"()", b"", b"", b""]);
-    accepts(&rt, 20_000, [b"a", b"[a]", b"=a", b"", b""]);
-    accepts(&rt, 20_000, [b"", b"a=a ", b"", b"", b""]);
+    accepts(&rt, 4_000, [b"x=a", b"+a", b"", b"", b""]);
+    accepts(&rt, 4_000, [b"x=a", b" or a", b"", b"", b""]);
+    accepts(&rt, 4_000, [b"x=a", b".a", b"", b"", b""]);
+    accepts(&rt, 4_000, [b"a", b"()", b"", b"", b""]);
+    accepts(&rt, 4_000, [b"a", b"[a]", b"=a", b"", b""]);
+    accepts(&rt, 4_000, [b"", b"a=a ", b"", b"", b""]);
     accepts(
         &rt,
-        20_000,
+        4_000,
         [b"if a then", b" elseif a then", b" end", b"", b""],
     );
-    accepts(&rt, 20_000, [b"local a", b",a", b"", b"", b""]);
-    accepts(&rt, 20_000, [b"x={", b"a,", b"}", b"", b""]);
-    accepts(&rt, 20_000, [b"f(a", b",a", b")", b"", b""]);
+    accepts(&rt, 4_000, [b"local a", b",a", b"", b"", b""]);
+    accepts(&rt, 4_000, [b"x={", b"a,", b"}", b"", b""]);
+    accepts(&rt, 4_000, [b"f(a", b",a", b")", b"", b""]);
 }
