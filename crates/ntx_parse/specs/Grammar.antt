@@ -1,7 +1,11 @@
 -- The grammar of scripts: which words spell which tree (Lua 5.3 Reference Manual, sections 3.3, 3.4 and 9).
--- Each rule reads `IsPhrase place tree words rest`: the words begin with such a phrase, which has this tree and stands at this place, and the rest is
--- left behind it. The rules are those of the manual's grammar, in its order, and in its words stand in the line before each.
---     Accepts words chunk    the words are a script with this tree, in which no word lies too deep and each `break` stands in a loop
+-- Most rules read `IsPhrase place tree words rest`: the words begin with a phrase that has this tree, and the rest comes after it. The place is that of
+-- the words which the rule itself names; where a rule puts some of them deeper, it says `within`. The comment before each rule is the grammar that it
+-- stands for: `{a}` is any number of a, and `[a]` is a or nothing. Unlike Lua's, it has no `goto` and labels, no `...`, no methods, no calls of a text or
+-- a table without parentheses, no `/` and no `^`.
+-- The nesting of a word is the number of blocks, bodies of functions, tables, parts in `( )` or `[ ]` with their brackets, operands of unary operators and
+-- right operands of binary operators that hold it. The parameters of a body are one such part. The script's own block is not counted.
+--     Accepts words chunk    the words are a script with this tree, in which no word lies too deep and each `break` stands in a loop of its function
 use Rattle.std.specs.Prelude.{◌≡◌, ◌≤◌, ℕ, ◌+◌, Bool, true, false, List, [], ◌∷◌, ◌++◌, map, ℤ, Option, None, Some}
 use Rattle.std.specs.List.{AllByRecursion}
 use Rattle.ntx_syntax.specs.declared.tree.Chunk.{Chunk}
@@ -43,7 +47,7 @@ use Rattle.ntx_parse.specs.Words.{Word}
 abbrev pub outermost : Place
 outermost = record { nesting = 0; in_loop = false }
 
--- in a part that is counted: a block, a function's body, a table, a part in brackets, an operand behind an operator
+-- in a part that is counted: a block, a function's body, a table, a part in `( )` or `[ ]` with its brackets, an operand after an operator
 abbrev pub within : Place → Place
 within p = record { nesting = p.nesting + 1; in_loop = p.in_loop }
 
@@ -59,7 +63,7 @@ pub record Placed : Type 0 where
   pub word : Word
   pub place : Place
 
--- It is this, at this place.
+-- The word is this, and stands at this place.
 pub record Is (p : Place) (t : Terminal) (o : Placed) : Type 0 where
   pub is : o.word.is ≡ t
   pub place : o.place ≡ p
@@ -121,7 +125,7 @@ unary_terminal unary.Length = terminal.Hash
 unary_terminal unary.Minus = terminal.Minus
 unary_terminal unary.BitNot = terminal.Tilde
 
--- the next tighter precedence
+-- the next tighter precedence (Lua 5.3 Reference Manual, section 3.4.8); the tightest gives itself
 abbrev pub tighter : Precedence → Precedence
 tighter precedence.Or = precedence.And
 tighter precedence.And = precedence.Comparison
@@ -135,7 +139,7 @@ tighter precedence.Additive = precedence.Multiplicative
 tighter precedence.Multiplicative = precedence.Unary
 tighter precedence.Unary = precedence.Unary
 
--- The binary operators of this precedence associate to the left.
+-- The binary operators of this precedence associate to the left. None is as tight as the unary ones.
 abbrev pub associates_left : Precedence → Bool
 associates_left precedence.Concat = false
 associates_left precedence.Unary = false
@@ -143,7 +147,7 @@ associates_left _ = true
 
 -- ---- parts of trees
 
--- A run of operators: one operand alone is itself.
+-- The tree of a run. An operand without operators is its own tree.
 abbrev pub run_of : Exp → List Operation → Exp
 run_of first [] = first
 run_of first (o ∷ operations) = exp.Binary first (o ∷ operations)
@@ -213,7 +217,7 @@ mutual
     -- varlist = explist
     assignment : {p : Place} {o : Placed} {vars : List Var} {values : List Exp} {words middle rest : List Placed}
         → IsVars p vars words (o ∷ middle) → Is p terminal.Assign o → IsExps p values middle rest → IsKind p (stat.Assign vars values) words rest
-    -- call, behind which no parenthesis opens: it would begin the arguments of a further call
+    -- call, after which no parenthesis opens: it would begin the arguments of a further call (section 3.3.1)
     called : {p : Place} {call : Call} {words rest : List Placed}
         → IsCall p call words rest → NotBefore terminal.LeftParenthesis rest → IsKind p (stat.Call call) words rest
     -- break
@@ -259,7 +263,7 @@ mutual
         → Is p terminal.Local l → IsNames p names words middle → IsValues p values middle rest
         → IsKind p (stat.Local names values) (l ∷ words) rest
 
-  -- if exp then block, or elseif exp then block
+  -- exp then block, after the word that begins it, which is `if` or `elseif`
   pub data IsArm : Place → Terminal → IfArm → List Placed → List Placed → Type 0 where
     arm : {p : Place} {begins : Terminal} {o t : Placed} {condition : Exp} {body : Block} {words middle rest : List Placed}
         → Is p begins o → IsExp p precedence.Or condition words (t ∷ middle) → Is p terminal.Then t → IsBlock (within p) body middle rest
@@ -301,7 +305,7 @@ mutual
     more_vars : {p : Place} {c : Placed} {v : Var} {vars : List Var} {words middle rest : List Placed}
         → IsVar p v words (c ∷ middle) → Is p terminal.Comma c → IsVars p vars middle rest → IsVars p (v ∷ vars) words rest
 
-  -- body = ( [namelist] ) block end. The body and the part in parentheses are counted both.
+  -- body = ( [namelist] ) block end, at the place of the body, which is counted already. The part in parentheses and the block are each one deeper.
   pub data IsBody : Place → FunctionBody → List Placed → List Placed → Type 0 where
     body : {p : Place} {o c e : Placed} {parameters : List LocalName} {block : Block} {words middle rest : List Placed}
         → Is (within p) terminal.LeftParenthesis o → IsParameters (within p) parameters words (c ∷ middle)
@@ -333,7 +337,7 @@ mutual
         → Is (within p) terminal.LeftParenthesis o → IsExp (within p) precedence.Or e words (c ∷ rest) → Is (within p) terminal.RightParenthesis c
         → IsPrefix p (record { head = head.Parenthesized e; suffixes = [] }) (o ∷ words) rest
 
-  -- [ exp ]
+  -- [ exp ], at the place of this part, which is counted already
   pub data IsIndex : Place → Exp → List Placed → List Placed → Type 0 where
     index : {p : Place} {o c : Placed} {key : Exp} {words rest : List Placed}
         → Is p terminal.LeftBracket o → IsExp p precedence.Or key words (c ∷ rest) → Is p terminal.RightBracket c → IsIndex p key (o ∷ words) rest
@@ -344,13 +348,15 @@ mutual
         → IsPrefix p prefix words middle → IsArguments (within p) arguments middle rest
         → IsCall p (record { function = prefix; arguments = arguments }) words rest
 
+  -- ( [explist] ), at the place of this part, which is counted already
   pub data IsArguments : Place → List Exp → List Placed → List Placed → Type 0 where
     no_arguments : {p : Place} {o c : Placed} {rest : List Placed}
         → Is p terminal.LeftParenthesis o → Is p terminal.RightParenthesis c → IsArguments p [] (o ∷ c ∷ rest) rest
     arguments : {p : Place} {o c : Placed} {all : List Exp} {words rest : List Placed}
         → Is p terminal.LeftParenthesis o → IsExps p all words (c ∷ rest) → Is p terminal.RightParenthesis c → IsArguments p all (o ∷ words) rest
 
-  -- exp = exp binop exp | unop exp | .., with operators outside of brackets that bind no less than this precedence
+  -- exp = exp binop exp | unop exp | simple, whose own operators bind as tight as this precedence or tighter. Those in its parenthesized parts,
+  -- arguments, keys, tables and bodies of functions are not its own.
   pub data IsExp : Place → Precedence → Exp → List Placed → List Placed → Type 0 where
     -- operators that associate to the left
     operations : {p : Place} {at : Precedence} {first : Exp} {others : List Operation} {words rest : List Placed}
@@ -376,7 +382,7 @@ mutual
         → IsExp (within p) (tighter at) operand middle rest
         → IsRun p at first (others ++ record { operator = op; operand = operand } ∷ []) words rest
 
-  -- exp = nil | false | true | Numeral | Text | function body | prefix | table
+  -- simple = nil | false | true | Numeral | Text | function body | prefix | table
   pub data IsSimple : Place → Exp → List Placed → List Placed → Type 0 where
     nil : {p : Place} {o : Placed} {rest : List Placed} → Is p terminal.Nil o → IsSimple p exp.Nil (o ∷ rest) rest
     false_ : {p : Place} {o : Placed} {rest : List Placed} → Is p terminal.False o → IsSimple p exp.False (o ∷ rest) rest
@@ -387,7 +393,7 @@ mutual
         → Is p terminal.Text o → text_value o.word.spelled ≡ Some value → IsSimple p (exp.Text value) (o ∷ rest) rest
     function_exp : {p : Place} {f : Placed} {body : FunctionBody} {words rest : List Placed}
         → Is p terminal.Function f → IsBody (within p) body words rest → IsSimple p (exp.Function body) (f ∷ words) rest
-    -- prefix, behind which no parenthesis opens: it would begin the arguments of a call
+    -- prefix, after which no parenthesis opens: it would begin the arguments of a call (section 3.3.1)
     prefix_exp : {p : Place} {prefix : Prefix} {words rest : List Placed}
         → IsPrefix p prefix words rest → NotBefore terminal.LeftParenthesis rest → IsSimple p (exp.Prefix prefix) words rest
     -- table = { [field {(,|;) field} [,|;]] }
@@ -417,11 +423,11 @@ mutual
 abbrev pub IsChunk : Chunk → List Placed → Type 0
 IsChunk chunk words = IsBlock outermost chunk.block words []
 
--- the greatest nesting of a word
+-- the greatest nesting that a word of a script may have
 abbrev pub max_nesting : ℕ
 max_nesting = 200
 
--- The word does not lie too deep, and if it is `break`, it stands in a loop.
+-- The word does not lie too deep, and if it is `break`, it stands in a loop of its own function.
 pub record IsFine (o : Placed) : Type 0 where
   pub nesting : o.place.nesting ≤ max_nesting
   pub in_loop : o.word.is ≡ terminal.Break → o.place.in_loop ≡ true

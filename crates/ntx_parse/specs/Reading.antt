@@ -662,3 +662,11 @@ over r = record {
 abbrev pub readers : ℕ → Readers
 readers zero = nothing
 readers (suc n) = over (readers n)
+
+-- A script ends behind its block.
+abbrev pub ended : Block → List Word → Answer Block
+ended block [] = read block []
+ended block (o ∷ words) = stopped why.Expected (o ∷ words)
+
+abbrev pub script_by : ℕ → List Word → Answer Block
+script_by n words = and_then ((readers n).block outermost words) ended

@@ -13,7 +13,7 @@ pub record Word : Type 0 where
   pub spelled : List ℕ
   pub line : ℕ
 
--- what stands at this name in a table of names, or this
+-- what a table of names has for these bytes, or else this
 abbrev pub named : List (List ℕ × Terminal) → Terminal → List ℕ → Terminal
 named [] other bytes = other
 named (entry ∷ table) other bytes = if bytes_eq bytes entry.0 then entry.1 else named table other bytes
@@ -37,7 +37,8 @@ symbols =
     ∷ (codes "{", terminal.LeftBrace) ∷ (codes "}", terminal.RightBrace) ∷ (codes "[", terminal.LeftBracket) ∷ (codes "]", terminal.RightBracket)
     ∷ (codes ";", terminal.Semicolon) ∷ (codes ",", terminal.Comma) ∷ (codes ".", terminal.Dot) ∷ []
 
--- What a token of this sort is that these bytes spell. A keyword that is no other is `while`, and a symbol that is no other is `..`.
+-- What a token of this sort is that these bytes spell. The sort says that they are a keyword or a symbol, so a keyword that is no other is `while`,
+-- and a symbol that is no other is `..`.
 abbrev pub terminal_of : Sort → List ℕ → Terminal
 terminal_of sort.Name bytes = terminal.Name
 terminal_of sort.Numeral bytes = terminal.Numeral
