@@ -1,11 +1,17 @@
 //! The operators.
 
+ghost use Rattle.std.specs.Prelude.{◌≡◌};
+ghost use Rattle.ntx_parse.specs.Grammar as grammar;
+ghost use Rattle.ntx_parse.specs.Reading as reading;
+
 use crate::precedence::Precedence;
 use crate::terminal::Terminal;
 use ntx_syntax::{BinaryOp, UnaryOp};
 
 /// The operator between two operands that this is, if it is one.
-pub fn binary_of(terminal: Terminal) -> Option<BinaryOp> {
+pub fn binary_of(terminal: Terminal) -> Option<BinaryOp>
+    ensures { result ≡ reading.binary_of terminal }
+{
     match terminal {
         Terminal::Or => Some(BinaryOp::Or),
         Terminal::And => Some(BinaryOp::And),
@@ -31,7 +37,9 @@ pub fn binary_of(terminal: Terminal) -> Option<BinaryOp> {
 }
 
 /// The precedence of an operator between two operands.
-pub fn precedence_of(operator: BinaryOp) -> Precedence {
+pub fn precedence_of(operator: BinaryOp) -> Precedence
+    ensures { result ≡ grammar.binary_precedence operator }
+{
     match operator {
         BinaryOp::Or => Precedence::Or,
         BinaryOp::And => Precedence::And,
@@ -54,7 +62,9 @@ pub fn precedence_of(operator: BinaryOp) -> Precedence {
 }
 
 /// The operator before an operand that this is, if it is one.
-pub fn unary_of(terminal: Terminal) -> Option<UnaryOp> {
+pub fn unary_of(terminal: Terminal) -> Option<UnaryOp>
+    ensures { result ≡ reading.unary_of terminal }
+{
     match terminal {
         Terminal::Not => Some(UnaryOp::Not),
         Terminal::Hash => Some(UnaryOp::Length),

@@ -1,5 +1,9 @@
 //! What the grammar tells apart.
 
+ghost use Rattle.std.specs.Prelude.{◌≡◌, map, nat_eq};
+ghost use Rattle.ntx_parse.specs.Words as words;
+ghost use Rattle.ntx_parse.specs.Reading as reading;
+
 use ntx_syntax::Sort;
 
 /// What a token is to the grammar: each keyword and each symbol is one of its own, and all names, numerals and texts are
@@ -171,9 +175,11 @@ const SYMBOLS: [(&[u8], Terminal); 27] = [
 ];
 
 /// What stands at this name in a table of names, or `other`.
-fn named(mut table: &[(&[u8], Terminal)], other: Terminal, spelled: &[u8]) -> Terminal {
+fn named(mut table: &[(&[u8], Terminal)], other: Terminal, spelled: &[u8]) -> Terminal
+    ensures { result ≡ words.named (map (λ e. (e.0.now, e.1)) table.entry.now) other spelled.now }
+{
     while let [entry, rest @ ..] = table {
-        if entry.0 == spelled {
+        if spelled == entry.0 {
             return entry.1;
         }
         table = rest;
@@ -182,7 +188,9 @@ fn named(mut table: &[(&[u8], Terminal)], other: Terminal, spelled: &[u8]) -> Te
 }
 
 /// What a token of this sort is that these bytes spell.
-pub fn terminal_of(sort: Sort, spelled: &[u8]) -> Terminal {
+pub fn terminal_of(sort: Sort, spelled: &[u8]) -> Terminal
+    ensures { result ≡ words.terminal_of sort spelled.now }
+{
     match sort {
         Sort::Name => Terminal::Name,
         Sort::Numeral => Terminal::Numeral,
@@ -193,7 +201,9 @@ pub fn terminal_of(sort: Sort, spelled: &[u8]) -> Terminal {
 }
 
 /// Whether a statement begins with this, `return` aside.
-pub fn begins_statement(terminal: Terminal) -> bool {
+pub fn begins_statement(terminal: Terminal) -> bool
+    ensures { result ≡ reading.begins_statement terminal }
+{
     match terminal {
         Terminal::Semicolon
         | Terminal::Break
@@ -211,10 +221,26 @@ pub fn begins_statement(terminal: Terminal) -> bool {
 }
 
 /// Whether this begins no expression behind `return`, but ends it or its block.
-pub fn ends_return(terminal: Terminal) -> bool {
+pub fn ends_return(terminal: Terminal) -> bool
+    ensures { result ≡ reading.ends_return terminal }
+{
     match terminal {
         Terminal::End | Terminal::Else | Terminal::Elseif | Terminal::Until | Terminal::Semicolon =>
             true,
         _ => false,
     }
+}
+
+/// The number of a terminal, in the order in which they stand above.
+fn number(terminal: Terminal) -> u8
+    ensures { result ≡ reading.number terminal }
+{
+    terminal as u8
+}
+
+/// Whether both are the same.
+pub fn same(left: Terminal, right: Terminal) -> bool
+    ensures { result ≡ nat_eq (reading.number left) (reading.number right) }
+{
+    number(left) == number(right)
 }

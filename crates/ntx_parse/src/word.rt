@@ -1,5 +1,10 @@
 //! The words of a script.
 
+ghost use Rattle.std.specs.Prelude.{◌≡◌, ◌≤◌, length, map, IfOk};
+ghost use Rattle.ntx_syntax.specs.Lexes.{StandInOrder};
+ghost use Rattle.ntx_parse.specs.Words as words;
+ghost use Rattle.ntx_parse.specs.Input.{seen};
+
 use crate::terminal::{Terminal, terminal_of};
 use ntx_syntax::Token;
 use std::alloc::{AllocError, Global};
@@ -16,7 +21,11 @@ pub struct Word<'a> {
 }
 
 /// The word that a token is.
-fn word_of<'a>(bytes: &'a [u8], token: Token) -> Word<'a> {
+fn word_of<'a>(bytes: &'a [u8], token: Token) -> Word<'a>
+    requires start { token.start ≤ token.end }
+    requires end { token.end ≤ length bytes.now }
+    ensures { seen result ≡ words.word_of bytes.now token }
+{
     let spelled = &bytes[token.start as usize..token.end as usize];
     Word {
         is: terminal_of(token.sort, spelled),
@@ -30,10 +39,13 @@ pub fn words_of<'a>(
     alloc: Global,
     bytes: &'a [u8],
     tokens: &[Token],
-) -> Result<Vec<Word<'a>>, AllocError> {
-    let mut words = Vec::new(alloc);
+) -> Result<Vec<Word<'a>>, AllocError>
+    requires { StandInOrder bytes.now 0 tokens.now }
+    ensures { IfOk result (λ found. map seen found.items ≡ words.words_of bytes.now tokens.now) }
+{
+    let mut found = Vec::new(alloc);
     for token in tokens {
-        words.push(word_of(bytes, *token))?;
+        found.push(word_of(bytes, *token))?;
     }
-    Ok(words)
+    Ok(found)
 }

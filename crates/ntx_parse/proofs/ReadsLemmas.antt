@@ -1,0 +1,63 @@
+-- How readings follow one another.
+use Rattle.std.proofs.Common.{◌≡◌, ◌≤◌, ◌<◌, ℕ, zero, suc, ◌+◌, ◌-◌, Bool, true, false, List, length, Option, None, Some, Result, Ok, Err, refl, ap, ◌∙◌, arith, if◌then◌else◌}
+use Rattle.ntx_num.specs.declared.answer.Fail.{Fail}
+use Rattle.ntx_num.specs.declared.answer.Fail.TheVariants.{NoMemory, Is}
+use Rattle.ntx_syntax.specs.declared.fault.SyntaxFault.{SyntaxFault}
+use Rattle.ntx_parse.specs.Words.{Word}
+use Rattle.ntx_parse.specs.Reading.{Stop, Answer, and_then, read, stopped}
+use Rattle.ntx_parse.specs.Input.{Input, line_of}
+use Rattle.ntx_parse.specs.Reads.{Settles, Reads, went, stops, out_of_memory, fault_at}
+
+-- A reading and what follows it.
+settles_ok : {A B : Type 0} {f : ℕ → Answer A} {next : ℕ → A → List Word → Answer B} {a : A} {words : List Word} {answer : Result (B × List Word) Stop}
+    → Settles f (Ok (a, words)) → Settles (λ n. next n a words) answer → Settles (λ n. and_then (f n) (next n)) answer
+settles_ok {next = next} first second = record {
+  from = first.from + second.from;
+  gives = λ n enough. rw (first.gives n (omega (arith, enough))) (second.gives n (omega (arith, enough)));
+}
+
+settles_err : {A B : Type 0} {f : ℕ → Answer A} {next : ℕ → A → List Word → Answer B} {stop : Stop}
+    → Settles f (Err stop) → Settles (λ n. and_then (f n) (next n)) (Err stop)
+settles_err first = record { from = first.from; gives = λ n enough. rw (first.gives n enough) refl }
+
+pub ok : {A B : Type 0} {f : ℕ → Answer A} {next : ℕ → A → List Word → Answer B} {a : A} {old middle new : Input} {r : Result B (Fail SyntaxFault)}
+    → Reads f old (Ok a) middle → Reads (λ n. next n a middle.words) middle r new → Reads (λ n. and_then (f n) (next n)) old r new
+ok (went first line shorter) (went second line2 shorter2) = went (settles_ok first second) (line2 ∙ line) (omega (arith, shorter, shorter2))
+ok (went first line shorter) (stops stop second is) = stops stop (settles_ok first second) (rw (ap (λ l. fault_at l stop) line) is)
+ok (went first line shorter) out_of_memory = out_of_memory
+
+pub err : {A B : Type 0} {f : ℕ → Answer A} {next : ℕ → A → List Word → Answer B} {old new newer : Input} {e : Fail SyntaxFault}
+    → Reads f old (Err e) new → Reads (λ n. and_then (f n) (next n)) old (Err e) newer
+err (stops stop first is) = stops stop (settles_err first) is
+err out_of_memory = out_of_memory
+
+-- One call deeper.
+settles_later : {A : Type 0} {f g : ℕ → Answer A} {answer : Result (A × List Word) Stop}
+    → ((n : ℕ) → g (suc n) ≡ f n) → Settles f answer → Settles g answer
+settles_later {g = g} step first = record {
+  from = suc first.from;
+  gives = λ n enough.
+      let e : n ≡ suc (n - 1) = omega (arith, enough) in
+      ap g e ∙ step (n - 1) ∙ first.gives (n - 1) (omega (arith, enough));
+}
+
+pub later : {A : Type 0} {f g : ℕ → Answer A} {old new : Input} {r : Result A (Fail SyntaxFault)}
+    → ((n : ℕ) → g (suc n) ≡ f n) → Reads f old r new → Reads g old r new
+later {f = f} {g = g} step (went first line shorter) = went (settles_later step first) line shorter
+later step (stops stop first is) = stops stop (settles_later step first) is
+later step out_of_memory = out_of_memory
+
+pub when : {A : Type 0} {f g : ℕ → Answer A} {old new : Input} {r : Result A (Fail SyntaxFault)} {b : Bool}
+    → b ≡ true → Reads f old r new → Reads (λ n. if b then f n else g n) old r new
+when is h = rw is h
+
+pub unless : {A : Type 0} {f g : ℕ → Answer A} {old new : Input} {r : Result A (Fail SyntaxFault)} {b : Bool}
+    → b ≡ false → Reads g old r new → Reads (λ n. if b then f n else g n) old r new
+unless is h = rw is h
+
+-- What is read takes nothing.
+pub done : {A : Type 0} {a : A} {now : Input} → Reads (λ n. read a now.words) now (Ok a) now
+done = went (record { from = 0; gives = λ n enough. refl }) refl (omega arith)
+
+pub shorter_of : {A : Type 0} {f : ℕ → Answer A} {old new : Input} {a : A} → Reads f old (Ok a) new → length new.words ≤ length old.words
+shorter_of (went first line shorter) = shorter
