@@ -1,1 +1,2 @@
 pub mod ReadsLemmas
+pub mod TakenLemmas

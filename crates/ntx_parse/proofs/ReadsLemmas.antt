@@ -9,27 +9,27 @@ use Rattle.ntx_parse.specs.Input.{Input, line_of}
 use Rattle.ntx_parse.specs.Reads.{Settles, Reads, went, stops, out_of_memory, fault_at}
 
 -- A reading and what follows it.
-settles_ok : {A B : Type 0} {f : ℕ → Answer A} {next : ℕ → A → List Word → Answer B} {a : A} {words : List Word} {answer : Result (B × List Word) Stop}
+settles_ok : {A B : Type 0} {f : ℕ → Answer A} (next : ℕ → A → List Word → Answer B) {a : A} {words : List Word} {answer : Result (B × List Word) Stop}
     → Settles f (Ok (a, words)) → Settles (λ n. next n a words) answer → Settles (λ n. and_then (f n) (next n)) answer
-settles_ok {next = next} first second = record {
+settles_ok next first second = record {
   from = first.from + second.from;
   gives = λ n enough. rw (first.gives n (omega (arith, enough))) (second.gives n (omega (arith, enough)));
 }
 
-settles_err : {A B : Type 0} {f : ℕ → Answer A} {next : ℕ → A → List Word → Answer B} {stop : Stop}
+settles_err : {A B : Type 0} {f : ℕ → Answer A} (next : ℕ → A → List Word → Answer B) {stop : Stop}
     → Settles f (Err stop) → Settles (λ n. and_then (f n) (next n)) (Err stop)
-settles_err first = record { from = first.from; gives = λ n enough. rw (first.gives n enough) refl }
+settles_err next first = record { from = first.from; gives = λ n enough. rw (first.gives n enough) refl }
 
-pub ok : {A B : Type 0} {f : ℕ → Answer A} {next : ℕ → A → List Word → Answer B} {a : A} {old middle new : Input} {r : Result B (Fail SyntaxFault)}
+pub ok : {A B : Type 0} {f : ℕ → Answer A} (next : ℕ → A → List Word → Answer B) {a : A} {old middle new : Input} {r : Result B (Fail SyntaxFault)}
     → Reads f old (Ok a) middle → Reads (λ n. next n a middle.words) middle r new → Reads (λ n. and_then (f n) (next n)) old r new
-ok (went first line shorter) (went second line2 shorter2) = went (settles_ok first second) (line2 ∙ line) (omega (arith, shorter, shorter2))
-ok (went first line shorter) (stops stop second is) = stops stop (settles_ok first second) (rw (ap (λ l. fault_at l stop) line) is)
-ok (went first line shorter) out_of_memory = out_of_memory
+ok next (went first line shorter) (went second line2 shorter2) = went (settles_ok next first second) (line2 ∙ line) (omega (arith, shorter, shorter2))
+ok next (went first line shorter) (stops stop second is) = stops stop (settles_ok next first second) (is ∙ ap (λ l. fault_at l stop) line)
+ok next (went first line shorter) out_of_memory = out_of_memory
 
-pub err : {A B : Type 0} {f : ℕ → Answer A} {next : ℕ → A → List Word → Answer B} {old new newer : Input} {e : Fail SyntaxFault}
+pub err : {A B : Type 0} {f : ℕ → Answer A} (next : ℕ → A → List Word → Answer B) {old new newer : Input} {e : Fail SyntaxFault}
     → Reads f old (Err e) new → Reads (λ n. and_then (f n) (next n)) old (Err e) newer
-err (stops stop first is) = stops stop (settles_err first) is
-err out_of_memory = out_of_memory
+err next (stops stop first is) = stops stop (settles_err next first) is
+err next out_of_memory = out_of_memory
 
 -- One call deeper.
 settles_later : {A : Type 0} {f g : ℕ → Answer A} {answer : Result (A × List Word) Stop}
@@ -47,13 +47,13 @@ later {f = f} {g = g} step (went first line shorter) = went (settles_later step 
 later step (stops stop first is) = stops stop (settles_later step first) is
 later step out_of_memory = out_of_memory
 
-pub when : {A : Type 0} {f g : ℕ → Answer A} {old new : Input} {r : Result A (Fail SyntaxFault)} {b : Bool}
+pub when : {A : Type 0} {f : ℕ → Answer A} (g : ℕ → Answer A) {old new : Input} {r : Result A (Fail SyntaxFault)} {b : Bool}
     → b ≡ true → Reads f old r new → Reads (λ n. if b then f n else g n) old r new
-when is h = rw is h
+when g is h = rw is h
 
-pub unless : {A : Type 0} {f g : ℕ → Answer A} {old new : Input} {r : Result A (Fail SyntaxFault)} {b : Bool}
+pub unless : {A : Type 0} (f : ℕ → Answer A) {g : ℕ → Answer A} {old new : Input} {r : Result A (Fail SyntaxFault)} {b : Bool}
     → b ≡ false → Reads g old r new → Reads (λ n. if b then f n else g n) old r new
-unless is h = rw is h
+unless f is h = rw is h
 
 -- What is read takes nothing.
 pub done : {A : Type 0} {a : A} {now : Input} → Reads (λ n. read a now.words) now (Ok a) now
@@ -61,3 +61,12 @@ done = went (record { from = 0; gives = λ n enough. refl }) refl (omega arith)
 
 pub shorter_of : {A : Type 0} {f : ℕ → Answer A} {old new : Input} {a : A} → Reads f old (Ok a) new → length new.words ≤ length old.words
 shorter_of (went first line shorter) = shorter
+
+-- What is read with no call.
+pub at_once : {A : Type 0} {reading : Answer A} {a : A} {old new : Input}
+    → reading ≡ Some (Ok (a, new.words)) → new.last_line ≡ old.last_line → length new.words ≤ length old.words → Reads (λ _. reading) old (Ok a) new
+at_once e line shorter = went (record { from = 0; gives = λ n enough. e }) line shorter
+
+pub stops_at_once : {A : Type 0} {reading : Answer A} {old new : Input} {fault : SyntaxFault} (stop : Stop)
+    → reading ≡ Some (Err stop) → fault ≡ fault_at old.last_line stop → Reads (λ _. reading) old (Err (Is fault)) new
+stops_at_once stop e is = stops stop (record { from = 0; gives = λ n enough. e }) is

@@ -1,6 +1,6 @@
 //! The words that are not yet read.
 
-ghost use Rattle.std.specs.Prelude.{◌≡◌, ◌<◌, ◌≤◌, ◌||◌, length, map, IfOk, OnOk, IsTrue, ◌↔◌, [], option_map};
+ghost use Rattle.std.specs.Prelude.{◌≡◌, ◌<◌, ◌≤◌, ◌||◌, length, map, IfOk, OnOk, IsTrue, ◌↔◌, [], ◌∷◌, MatchOption};
 ghost use Rattle.ntx_num.specs.Answer.{result_map};
 ghost use Rattle.ntx_num.specs.declared.answer.Fail.TheVariants.{Is};
 ghost use Rattle.ntx_parse.specs.declared.terminal.Terminal.TheVariants as terminal;
