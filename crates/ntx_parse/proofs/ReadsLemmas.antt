@@ -6,6 +6,7 @@ use Rattle.ntx_syntax.specs.declared.fault.SyntaxFault.{SyntaxFault}
 use Rattle.ntx_parse.specs.Words.{Word}
 use Rattle.ntx_parse.specs.Reading.{Stop, Answer, and_then, read, stopped}
 use Rattle.ntx_parse.specs.Input.{Input, line_of}
+use Rattle.std.specs.Result.{IsErrAnd}
 use Rattle.ntx_parse.specs.Reads.{Settles, Reads, went, stops, out_of_memory, fault_at}
 
 -- A reading and what follows it.
@@ -70,3 +71,13 @@ at_once e line shorter = went (record { from = 0; gives = λ n enough. e }) line
 pub stops_at_once : {A : Type 0} {reading : Answer A} {old new : Input} {fault : SyntaxFault} (stop : Stop)
     → reading ≡ Some (Err stop) → fault ≡ fault_at old.last_line stop → Reads (λ _. reading) old (Err (Is fault)) new
 stops_at_once stop e is = stops stop (record { from = 0; gives = λ n enough. e }) is
+
+-- A reading that a `?` ends.
+pub err_by : {A B : Type 0} {f : ℕ → Answer A} (next : ℕ → A → List Word → Answer B) {old new newer : Input} {e : Fail SyntaxFault}
+    (r : Result B (Fail SyntaxFault)) → IsErrAnd r (λ y. y ≡ e) → Reads f old (Err e) new → Reads (λ n. and_then (f n) (next n)) old r newer
+err_by next (Ok b) is h = absurd is
+err_by next (Err y) is h = rw is (err next h)
+
+pub no_memory_by : {A : Type 0} {f : ℕ → Answer A} {old new : Input} (r : Result A (Fail SyntaxFault)) → IsErrAnd r (λ y. y ≡ NoMemory) → Reads f old r new
+no_memory_by (Ok b) is = absurd is
+no_memory_by (Err y) is = rw is out_of_memory
