@@ -1,5 +1,5 @@
 -- How readings follow one another.
-use Rattle.std.proofs.Common.{◌≡◌, ◌≤◌, ◌<◌, ℕ, zero, suc, ◌+◌, ◌-◌, Bool, true, false, List, length, Option, None, Some, Result, Ok, Err, refl, ap, ◌∙◌, arith, if◌then◌else◌}
+use Rattle.std.proofs.Common.{◌≡◌, ◌≤◌, ◌<◌, ℕ, zero, suc, ◌+◌, ◌-◌, Bool, true, false, List, length, Option, None, Some, Result, Ok, Err, refl, ap, subst, ◌∙◌, arith, if◌then◌else◌}
 use Rattle.ntx_num.specs.declared.answer.Fail.{Fail}
 use Rattle.ntx_num.specs.declared.answer.Fail.TheVariants.{NoMemory, Is}
 use Rattle.ntx_syntax.specs.declared.fault.SyntaxFault.{SyntaxFault}
@@ -81,3 +81,8 @@ err_by next (Err y) is h = rw is (err next h)
 pub no_memory_by : {A : Type 0} {f : ℕ → Answer A} {old new : Input} (r : Result A (Fail SyntaxFault)) → IsErrAnd r (λ y. y ≡ NoMemory) → Reads f old r new
 no_memory_by (Ok b) is = absurd is
 no_memory_by (Err y) is = rw is out_of_memory
+
+-- A reading with an equal part.
+pub with_equal : {X A : Type 0} (f : X → ℕ → Answer A) {old : Input} {x y : X} → x ≡ y → (r : Result A (Fail SyntaxFault)) (new : Input)
+    → Reads (f x) old r new → Reads (f y) old r new
+with_equal f {old = old} is r new h = subst (λ x. Reads (f x) old r new) is h
