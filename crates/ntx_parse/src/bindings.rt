@@ -12,6 +12,14 @@ use ntx_syntax::{Block, Call, Exp, StatKind, SyntaxFault, SyntaxWhy, Var};
 use sqlite_items::Items;
 use std::alloc::Global;
 
+/// What can be assigned to. Where a prefix was read that cannot, the next word is refused (Expected).
+fn as_var(parser: &Parser<'_>, var: Option<Var>) -> Result<Var, Fail<SyntaxFault>> {
+    match var {
+        Some(var) => Ok(var),
+        None => Err(parser.fault(SyntaxWhy::Expected)),
+    }
+}
+
 impl<
     E: Fn(Global, &mut Parser<'_>, u64, Place, Precedence) -> Result<Exp, Fail<SyntaxFault>>,
     B: Fn(Global, &mut Parser<'_>, u64, Place) -> Result<Block, Fail<SyntaxFault>>,
@@ -123,16 +131,9 @@ impl<
         vars.push(first)?;
         while parser.begins(Terminal::Comma) {
             parser.taken(place)?;
-            vars.push(self.var(parser, place)?)?;
+            let found = self.prefix(parser, place)?;
+            vars.push(as_var(parser, var_of(found))?)?;
         }
         Ok(vars)
-    }
-
-    /// A prefix that can be assigned to.
-    fn var(&self, parser: &mut Parser<'_>, place: Place) -> Result<Var, Fail<SyntaxFault>> {
-        match var_of(self.prefix(parser, place)?) {
-            Some(var) => Ok(var),
-            None => Err(parser.fault(SyntaxWhy::Expected)),
-        }
     }
 }

@@ -10,6 +10,15 @@ use ntx_syntax::{Block, Exp, Return, Stat, SyntaxFault};
 use sqlite_items::Items;
 use std::alloc::Global;
 
+/// `[;]`
+fn semicolon_behind(parser: &mut Parser<'_>, place: Place) -> Result<bool, Fail<SyntaxFault>> {
+    if !parser.begins(Terminal::Semicolon) {
+        return Ok(false);
+    }
+    parser.taken(place)?;
+    Ok(true)
+}
+
 impl<
     E: Fn(Global, &mut Parser<'_>, u64, Place, Precedence) -> Result<Exp, Fail<SyntaxFault>>,
     B: Fn(Global, &mut Parser<'_>, u64, Place) -> Result<Block, Fail<SyntaxFault>>,
@@ -50,9 +59,7 @@ impl<
         }
         let word = parser.taken(place)?;
         let values = self.returned(parser, place)?;
-        if parser.begins(Terminal::Semicolon) {
-            parser.taken(place)?;
-        }
+        semicolon_behind(parser, place)?;
         Ok(Some(Return {
             line: word.line,
             values,

@@ -4,14 +4,11 @@ use crate::names::parameters;
 use crate::parser::Parser;
 use crate::part::joined;
 use crate::place::{Place, within, within_function};
-use crate::precedence::{Precedence, looser, tighter};
+use crate::precedence::{Precedence, is_same, looser, tighter};
 use crate::rules::Rules;
 use crate::terminal::Terminal;
 use ntx_num::Fail;
-use ntx_syntax::{
-    BinaryOp, Block, Exp, FunctionBody, Operation, SyntaxFault, SyntaxWhy, UnaryOp, numeral_value,
-    text_value,
-};
+use ntx_syntax::{BinaryOp, Block, Exp, FunctionBody, Operation, SyntaxFault, SyntaxWhy, UnaryOp};
 use sqlite_items::{Boxed, Items};
 use std::alloc::{AllocError, Global};
 
@@ -48,7 +45,7 @@ impl<
     ) -> Result<Exp, Fail<SyntaxFault>> {
         let mut exp = self.operand(parser, place)?;
         let mut reached = Precedence::Unary;
-        while reached != precedence {
+        while !is_same(reached, precedence) {
             reached = looser(reached);
             exp = self.behind(parser, place, reached, exp)?;
         }
@@ -63,7 +60,7 @@ impl<
         precedence: Precedence,
         first: Exp,
     ) -> Result<Exp, Fail<SyntaxFault>> {
-        if precedence == Precedence::Concat {
+        if is_same(precedence, Precedence::Concat) {
             self.concat_behind(parser, place, first)
         } else {
             let others = self.operations_behind(parser, place, precedence)?;
@@ -137,8 +134,8 @@ impl<
                 parser.taken(place)?;
                 Ok(Exp::True)
             }
-            Some(Terminal::Numeral) => numeral(parser, place),
-            Some(Terminal::Text) => text(self.alloc, parser, place),
+            Some(Terminal::Numeral) => parser.numeral(place),
+            Some(Terminal::Text) => parser.text(self.alloc, place),
             Some(Terminal::Function) => {
                 parser.taken(place)?;
                 Ok(Exp::Function(self.body(parser, within(place))?))
@@ -158,8 +155,19 @@ impl<
         parser: &mut Parser<'_>,
         place: Place,
     ) -> Result<Items<Exp>, Fail<SyntaxFault>> {
+        let first = self.exp(parser, place, Precedence::Or)?;
+        self.exps_behind(parser, place, first)
+    }
+
+    /// `{, exp}`, behind this expression, which is the first of the list.
+    fn exps_behind(
+        &self,
+        parser: &mut Parser<'_>,
+        place: Place,
+        first: Exp,
+    ) -> Result<Items<Exp>, Fail<SyntaxFault>> {
         let mut exps = Items::new(self.alloc);
-        exps.push(self.exp(parser, place, Precedence::Or)?)?;
+        exps.push(first)?;
         while parser.begins(Terminal::Comma) {
             parser.taken(place)?;
             exps.push(self.exp(parser, place, Precedence::Or)?)?;
@@ -179,17 +187,4 @@ impl<
         parser.expected(place, Terminal::End)?;
         Ok(FunctionBody { parameters, block })
     }
-}
-
-/// A numeral.
-fn numeral(parser: &mut Parser<'_>, place: Place) -> Result<Exp, Fail<SyntaxFault>> {
-    let word = parser.taken(place)?;
-    Ok(Exp::Numeral(numeral_value(word.spelled)))
-}
-
-/// A text.
-fn text(alloc: Global, parser: &mut Parser<'_>, place: Place) -> Result<Exp, Fail<SyntaxFault>> {
-    let word = parser.taken(place)?;
-    let value = text_value(alloc, word.spelled)?;
-    Ok(Exp::Text(Items::from_vec(value)))
 }

@@ -1,9 +1,11 @@
 //! The words that are not yet read.
 
-ghost use Rattle.std.specs.Prelude.{◌≡◌, ◌<◌, ◌≤◌, ◌||◌, length, map, IfOk, OnOk, IsTrue, ◌↔◌, [], ◌∷◌, MatchOption};
+ghost use Rattle.std.specs.Prelude.{◌≡◌, ◌<◌, ◌≤◌, ◌||◌, length, map, IfOk, OnOk, IsTrue, ◌↔◌, [], Some};
 ghost use Rattle.ntx_num.specs.Answer.{result_map};
 ghost use Rattle.ntx_num.specs.declared.answer.Fail.TheVariants.{Is};
 ghost use Rattle.ntx_parse.specs.declared.terminal.Terminal.TheVariants as terminal;
+ghost use Rattle.ntx_syntax.specs.Values.{numeral_value, text_value};
+ghost use Rattle.ntx_syntax.specs.declared.tree.Exp.TheVariants as exp;
 ghost use Rattle.ntx_parse.specs.Reading as reading;
 ghost use Rattle.ntx_parse.specs.Input as input;
 ghost use Rattle.ntx_parse.specs.Reads.{Reads};
@@ -14,7 +16,9 @@ use crate::precedence::{Precedence, is_same};
 use crate::terminal::{Terminal, begins_statement, ends_return, same};
 use crate::word::Word;
 use ntx_num::Fail;
-use ntx_syntax::{BinaryOp, LocalName, Name, SyntaxFault, SyntaxWhy, UnaryOp};
+use ntx_syntax::{
+    BinaryOp, Exp, LocalName, Name, SyntaxFault, SyntaxWhy, UnaryOp, numeral_value, text_value,
+};
 use sqlite_items::Items;
 use std::alloc::Global;
 use std::marker::Model;
@@ -237,5 +241,24 @@ impl<'a> Parser<'a> {
             name,
             line: word.line,
         })
+    }
+
+    /// Takes a numeral, which comes next.
+    pub fn numeral(&mut self, place: Place) -> Result<Exp, Fail<SyntaxFault>>
+        requires { input.next_of self.old.words ≡ Some terminal.Numeral }
+        ensures { Reads (λ _. reading.and_then (reading.taken place self.old.words) (λ o rest. reading.read_value exp.Numeral (numeral_value o.spelled) self.old.words rest)) self.old result self.new }
+    {
+        let word = self.taken(place)?;
+        Ok(Exp::Numeral(numeral_value(word.spelled)))
+    }
+
+    /// Takes a text, which comes next.
+    pub fn text(&mut self, alloc: Global, place: Place) -> Result<Exp, Fail<SyntaxFault>>
+        requires { input.next_of self.old.words ≡ Some terminal.Text }
+        ensures { Reads (λ _. reading.and_then (reading.taken place self.old.words) (λ o rest. reading.read_value exp.Text (text_value o.spelled) self.old.words rest)) self.old result self.new }
+    {
+        let word = self.taken(place)?;
+        let value = text_value(alloc, word.spelled)?;
+        Ok(Exp::Text(Items::from_vec(value)))
     }
 }

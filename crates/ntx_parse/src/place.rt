@@ -1,6 +1,6 @@
 //! Where words stand.
 
-ghost use Rattle.std.specs.Prelude.{◌≡◌, ◌<◌, ◌^◌};
+ghost use Rattle.std.specs.Prelude.{◌≡◌, ◌+◌, ◌<◌, ◌^◌};
 ghost use Rattle.ntx_parse.specs.Grammar as grammar;
 
 /// Where a word of a script stands.
@@ -26,7 +26,8 @@ pub fn outermost() -> Place
 /// The place in a part that is counted.
 pub fn within(place: Place) -> Place
     requires { place.nesting < 2 ^ 16 }
-    ensures { result ≡ grammar.within place }
+    ensures is { result ≡ grammar.within place }
+    ensures nesting { result.nesting ≡ place.nesting + 1 }
 {
     Place {
         nesting: place.nesting + 1,
@@ -37,7 +38,8 @@ pub fn within(place: Place) -> Place
 /// The place in the block of a loop.
 pub fn within_loop(place: Place) -> Place
     requires { place.nesting < 2 ^ 16 }
-    ensures { result ≡ grammar.within_loop place }
+    ensures is { result ≡ grammar.within_loop place }
+    ensures nesting { result.nesting ≡ place.nesting + 1 }
 {
     Place {
         nesting: place.nesting + 1,
@@ -48,7 +50,8 @@ pub fn within_loop(place: Place) -> Place
 /// The place in the block of a function.
 pub fn within_function(place: Place) -> Place
     requires { place.nesting < 2 ^ 16 }
-    ensures { result ≡ grammar.within_function place }
+    ensures is { result ≡ grammar.within_function place }
+    ensures nesting { result.nesting ≡ place.nesting + 1 }
 {
     Place {
         nesting: place.nesting + 1,

@@ -17,16 +17,12 @@ impl<
 > Rules<E, B> {
     /// A name or a parenthesized expression, and all suffixes behind it.
     pub fn prefix(&self, parser: &mut Parser<'_>, place: Place) -> Result<Part, Fail<SyntaxFault>> {
-        let head = self.head(parser, place)?;
-        self.suffixes_behind(parser, place, head)
-    }
-
-    /// `Name` or `( exp )`
-    fn head(&self, parser: &mut Parser<'_>, place: Place) -> Result<Part, Fail<SyntaxFault>> {
         if parser.begins(Terminal::LeftParenthesis) {
-            Ok(Part::Parenthesized(self.parenthesized(parser, within(place))?))
+            let exp = self.parenthesized(parser, within(place))?;
+            self.suffixes_behind(parser, place, Part::Parenthesized(exp))
         } else {
-            Ok(Part::Name(parser.name(self.alloc, place)?))
+            let name = parser.name(self.alloc, place)?;
+            self.suffixes_behind(parser, place, Part::Name(name))
         }
     }
 

@@ -66,20 +66,22 @@ impl<
         parser: &mut Parser<'_>,
         place: Place,
     ) -> Result<StatKind, Fail<SyntaxFault>> {
-        let arms = self.arms(parser, place)?;
+        let first = self.arm(parser, place)?;
+        let arms = self.arms_behind(parser, place, first)?;
         let other = self.other(parser, place)?;
         parser.expected(place, Terminal::End)?;
         Ok(StatKind::If(arms, other))
     }
 
-    /// `if exp then block {elseif exp then block}`
-    fn arms(
+    /// `{elseif exp then block}`, behind this arm, which is the first of the list.
+    fn arms_behind(
         &self,
         parser: &mut Parser<'_>,
         place: Place,
+        first: IfArm,
     ) -> Result<Items<IfArm>, Fail<SyntaxFault>> {
         let mut arms = Items::new(self.alloc);
-        arms.push(self.arm(parser, place)?)?;
+        arms.push(first)?;
         while parser.begins(Terminal::Elseif) {
             arms.push(self.arm(parser, place)?)?;
         }

@@ -47,21 +47,17 @@ impl<
     fn field(&self, parser: &mut Parser<'_>, place: Place) -> Result<Field, Fail<SyntaxFault>> {
         if parser.begins(Terminal::LeftBracket) {
             let key = self.index(parser, within(place))?;
-            let value = self.value(parser, place)?;
+            parser.expected(place, Terminal::Assign)?;
+            let value = self.exp(parser, place, Precedence::Or)?;
             Ok(Field::Keyed(key, value))
         } else if parser.names_a_field() {
             let name = parser.name(self.alloc, place)?;
-            let value = self.value(parser, place)?;
+            parser.expected(place, Terminal::Assign)?;
+            let value = self.exp(parser, place, Precedence::Or)?;
             Ok(Field::Named(name, value))
         } else {
             let value = self.exp(parser, place, Precedence::Or)?;
             Ok(Field::Positional(value))
         }
-    }
-
-    /// `= exp`
-    fn value(&self, parser: &mut Parser<'_>, place: Place) -> Result<Exp, Fail<SyntaxFault>> {
-        parser.expected(place, Terminal::Assign)?;
-        self.exp(parser, place, Precedence::Or)
     }
 }

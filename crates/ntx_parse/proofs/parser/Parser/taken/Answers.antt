@@ -14,4 +14,4 @@ pub returns-else-place-gt-MAX_NESTING-clause-reads :
     goal.returns-else-place-gt-MAX_NESTING-clause-reads
 returns-else-place-gt-MAX_NESTING-clause-reads c =
     taken_word c.args.place c.self.inside.rest.now _ c.self.view_is c.if-place-gt-MAX_NESTING.false
-        (first_seen c.self.inside.rest.now _ c.in-len1-up.len_at_least) refl
+    (first_seen c.self.inside.rest.now _ c.in-len1-up.len_at_least) refl
