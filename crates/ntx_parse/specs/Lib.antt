@@ -5,3 +5,5 @@ pub mod Faults
 pub mod Input
 pub mod Cursor
 pub mod Reads
+pub mod Nests
+pub mod Steps

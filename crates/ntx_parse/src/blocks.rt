@@ -1,5 +1,12 @@
 //! Blocks.
 
+ghost use Rattle.std.specs.Prelude.{◌≡◌, ◌≤◌, ◌<◌, ◌+◌, ◌*◌, length, [], ◌∷◌, Some, OnOk};
+ghost use Rattle.ntx_parse.specs.Nests.{Nests};
+ghost use Rattle.ntx_parse.specs.Reading as reading;
+ghost use Rattle.ntx_parse.specs.Reading.{readers};
+ghost use Rattle.ntx_parse.specs.Reads.{Reads};
+ghost use Rattle.ntx_parse.specs.Steps.{behind_at, one_suffix};
+
 use crate::parser::Parser;
 use crate::place::{Place, within_loop};
 use crate::precedence::Precedence;
@@ -11,7 +18,9 @@ use sqlite_items::Items;
 use std::alloc::Global;
 
 /// `[;]`
-fn semicolon_behind(parser: &mut Parser<'_>, place: Place) -> Result<bool, Fail<SyntaxFault>> {
+fn semicolon_behind(parser: &mut Parser<'_>, place: Place) -> Result<bool, Fail<SyntaxFault>>
+    ensures { Reads (λ _. reading.semicolon_behind place parser.old.words) parser.old result parser.new }
+{
     if !parser.begins(Terminal::Semicolon) {
         return Ok(false);
     }
@@ -28,18 +37,24 @@ impl<
         &self,
         parser: &mut Parser<'_>,
         place: Place,
-    ) -> Result<Block, Fail<SyntaxFault>> {
+    ) -> Result<Block, Fail<SyntaxFault>>
+        requires nests { Nests self.now.depth (E.pre self.now.exp) (E.post self.now.exp) (B.pre self.now.block) (B.post self.now.block) }
+        requires shallow { place.nesting ≤ 201 }
+        requires room { 405 ≤ self.now.depth + 2 * place.nesting }
+        ensures { Reads (λ n. reading.block_at (readers n) place parser.old.words) parser.old result parser.new }
+    {
         let stats = self.stats(parser, place)?;
         let last = self.last(parser, place)?;
         Ok(Block { stats, last })
     }
 
     /// `{stat}`, each with the line of its first word.
-    fn stats(
-        &self,
-        parser: &mut Parser<'_>,
-        place: Place,
-    ) -> Result<Items<Stat>, Fail<SyntaxFault>> {
+    fn stats(&self, parser: &mut Parser<'_>, place: Place) -> Result<Items<Stat>, Fail<SyntaxFault>>
+        requires nests { Nests self.now.depth (E.pre self.now.exp) (E.post self.now.exp) (B.pre self.now.block) (B.post self.now.block) }
+        requires shallow { place.nesting ≤ 201 }
+        requires room { 405 ≤ self.now.depth + 2 * place.nesting }
+        ensures { Reads (λ n. (readers n).stats place [] parser.old.words) parser.old result parser.new }
+    {
         let mut stats = Items::new(self.alloc);
         while let Some((terminal, line)) = parser.statement_at() {
             let kind = self.kind(parser, place, terminal)?;
@@ -53,7 +68,12 @@ impl<
         &self,
         parser: &mut Parser<'_>,
         place: Place,
-    ) -> Result<Option<Return>, Fail<SyntaxFault>> {
+    ) -> Result<Option<Return>, Fail<SyntaxFault>>
+        requires nests { Nests self.now.depth (E.pre self.now.exp) (E.post self.now.exp) (B.pre self.now.block) (B.post self.now.block) }
+        requires shallow { place.nesting ≤ 201 }
+        requires room { 405 ≤ self.now.depth + 2 * place.nesting }
+        ensures { Reads (λ n. reading.last_behind (readers n) place parser.old.words) parser.old result parser.new }
+    {
         if !parser.begins(Terminal::Return) {
             return Ok(None);
         }
@@ -71,7 +91,12 @@ impl<
         &self,
         parser: &mut Parser<'_>,
         place: Place,
-    ) -> Result<Items<Exp>, Fail<SyntaxFault>> {
+    ) -> Result<Items<Exp>, Fail<SyntaxFault>>
+        requires nests { Nests self.now.depth (E.pre self.now.exp) (E.post self.now.exp) (B.pre self.now.block) (B.post self.now.block) }
+        requires shallow { place.nesting ≤ 201 }
+        requires room { 405 ≤ self.now.depth + 2 * place.nesting }
+        ensures { Reads (λ n. reading.returned_behind (readers n) place parser.old.words) parser.old result parser.new }
+    {
         if parser.ends_returned() {
             Ok(Items::new(self.alloc))
         } else {
@@ -85,7 +110,12 @@ impl<
         parser: &mut Parser<'_>,
         place: Place,
         inside: Place,
-    ) -> Result<Block, Fail<SyntaxFault>> {
+    ) -> Result<Block, Fail<SyntaxFault>>
+        requires nests { Nests self.now.depth (E.pre self.now.exp) (E.post self.now.exp) (B.pre self.now.block) (B.post self.now.block) }
+        requires shallow { inside.nesting ≤ 201 }
+        requires room { 406 ≤ self.now.depth + 2 * inside.nesting }
+        ensures { Reads (λ n. reading.block_to_end (readers n) place inside parser.old.words) parser.old result parser.new }
+    {
         let body = self.block(parser, inside)?;
         parser.expected(place, Terminal::End)?;
         Ok(body)
@@ -96,7 +126,12 @@ impl<
         &self,
         parser: &mut Parser<'_>,
         place: Place,
-    ) -> Result<Block, Fail<SyntaxFault>> {
+    ) -> Result<Block, Fail<SyntaxFault>>
+        requires nests { Nests self.now.depth (E.pre self.now.exp) (E.post self.now.exp) (B.pre self.now.block) (B.post self.now.block) }
+        requires shallow { place.nesting ≤ 201 }
+        requires room { 405 ≤ self.now.depth + 2 * place.nesting }
+        ensures { Reads (λ n. reading.loop_body (readers n) place parser.old.words) parser.old result parser.new }
+    {
         parser.expected(place, Terminal::Do)?;
         self.block_to_end(parser, place, within_loop(place))
     }

@@ -1,5 +1,15 @@
 //! Expressions.
 
+ghost use Rattle.std.specs.Prelude.{◌≡◌, ◌≤◌, ◌<◌, ◌+◌, ◌*◌, length, [], ◌∷◌, Some, IfOk, OnOk};
+ghost use Rattle.ntx_syntax.specs.declared.tree.Exp.TheVariants as exp;
+ghost use Rattle.ntx_syntax.specs.declared.tree.BinaryOp.TheVariants as binary;
+ghost use Rattle.ntx_parse.specs.Grammar as grammar;
+ghost use Rattle.ntx_parse.specs.Nests.{Nests};
+ghost use Rattle.ntx_parse.specs.Reading as reading;
+ghost use Rattle.ntx_parse.specs.Reading.{readers};
+ghost use Rattle.ntx_parse.specs.Reads.{Reads};
+ghost use Rattle.ntx_parse.specs.Steps.{behind_at, one_suffix};
+
 use crate::names::parameters;
 use crate::parser::Parser;
 use crate::part::joined;
@@ -13,7 +23,9 @@ use sqlite_items::{Boxed, Items};
 use std::alloc::{AllocError, Global};
 
 /// A run of operators: one operand alone is itself.
-fn run_of(alloc: Global, first: Exp, others: Items<Operation>) -> Result<Exp, AllocError> {
+fn run_of(alloc: Global, first: Exp, others: Items<Operation>) -> Result<Exp, AllocError>
+    ensures { IfOk result (λ e. e ≡ grammar.run_of first others) }
+{
     if others.is_empty() {
         Ok(first)
     } else {
@@ -22,7 +34,9 @@ fn run_of(alloc: Global, first: Exp, others: Items<Operation>) -> Result<Exp, Al
 }
 
 /// `left .. right`
-fn concat_of(alloc: Global, left: Exp, right: Exp) -> Result<Exp, AllocError> {
+fn concat_of(alloc: Global, left: Exp, right: Exp) -> Result<Exp, AllocError>
+    ensures { IfOk result (λ e. e ≡ exp.Binary left (record { operator = binary.Concat; operand = right } ∷ [])) }
+{
     let mut operations = Items::new(alloc);
     operations.push(Operation {
         operator: BinaryOp::Concat,
@@ -42,7 +56,12 @@ impl<
         parser: &mut Parser<'_>,
         place: Place,
         precedence: Precedence,
-    ) -> Result<Exp, Fail<SyntaxFault>> {
+    ) -> Result<Exp, Fail<SyntaxFault>>
+        requires nests { Nests self.now.depth (E.pre self.now.exp) (E.post self.now.exp) (B.pre self.now.block) (B.post self.now.block) }
+        requires shallow { place.nesting ≤ 201 }
+        requires room { 404 ≤ self.now.depth + 2 * place.nesting }
+        ensures { Reads (λ n. (readers n).exp place precedence parser.old.words) parser.old result parser.new }
+    {
         let mut exp = self.operand(parser, place)?;
         let mut reached = Precedence::Unary;
         while !is_same(reached, precedence) {
@@ -59,7 +78,13 @@ impl<
         place: Place,
         precedence: Precedence,
         first: Exp,
-    ) -> Result<Exp, Fail<SyntaxFault>> {
+    ) -> Result<Exp, Fail<SyntaxFault>>
+        requires nests { Nests self.now.depth (E.pre self.now.exp) (E.post self.now.exp) (B.pre self.now.block) (B.post self.now.block) }
+        requires shallow { place.nesting ≤ 201 }
+        requires room { 404 ≤ self.now.depth + 2 * place.nesting }
+        requires binary { reading.rank precedence < 10 }
+        ensures { Reads (λ n. behind_at (readers n) place precedence first parser.old.words) parser.old result parser.new }
+    {
         if is_same(precedence, Precedence::Concat) {
             self.concat_behind(parser, place, first)
         } else {
@@ -69,7 +94,12 @@ impl<
     }
 
     /// `unop exp`, or an expression without operators of its own.
-    fn operand(&self, parser: &mut Parser<'_>, place: Place) -> Result<Exp, Fail<SyntaxFault>> {
+    fn operand(&self, parser: &mut Parser<'_>, place: Place) -> Result<Exp, Fail<SyntaxFault>>
+        requires nests { Nests self.now.depth (E.pre self.now.exp) (E.post self.now.exp) (B.pre self.now.block) (B.post self.now.block) }
+        requires shallow { place.nesting ≤ 201 }
+        requires room { 404 ≤ self.now.depth + 2 * place.nesting }
+        ensures { Reads (λ n. reading.read_operand (readers n) place (reading.sign_at parser.old.words) parser.old.words) parser.old result parser.new }
+    {
         match parser.sign_at() {
             None => self.simple(parser, place),
             Some(operator) => self.unary(parser, place, operator),
@@ -82,7 +112,12 @@ impl<
         parser: &mut Parser<'_>,
         place: Place,
         operator: UnaryOp,
-    ) -> Result<Exp, Fail<SyntaxFault>> {
+    ) -> Result<Exp, Fail<SyntaxFault>>
+        requires nests { Nests self.now.depth (E.pre self.now.exp) (E.post self.now.exp) (B.pre self.now.block) (B.post self.now.block) }
+        requires shallow { place.nesting ≤ 201 }
+        requires room { 404 ≤ self.now.depth + 2 * place.nesting }
+        ensures { Reads (λ n. reading.read_operand (readers n) place (Some operator) parser.old.words) parser.old result parser.new }
+    {
         parser.taken(place)?;
         let operand = self.exp(parser, within(place), Precedence::Unary)?;
         Ok(Exp::Unary(operator, Boxed::new(self.alloc, operand)?))
@@ -94,7 +129,12 @@ impl<
         parser: &mut Parser<'_>,
         place: Place,
         left: Exp,
-    ) -> Result<Exp, Fail<SyntaxFault>> {
+    ) -> Result<Exp, Fail<SyntaxFault>>
+        requires nests { Nests self.now.depth (E.pre self.now.exp) (E.post self.now.exp) (B.pre self.now.block) (B.post self.now.block) }
+        requires shallow { place.nesting ≤ 201 }
+        requires room { 404 ≤ self.now.depth + 2 * place.nesting }
+        ensures { Reads (λ n. reading.concat_behind (readers n) place left parser.old.words) parser.old result parser.new }
+    {
         if !parser.begins(Terminal::DoubleDot) {
             return Ok(left);
         }
@@ -109,7 +149,12 @@ impl<
         parser: &mut Parser<'_>,
         place: Place,
         precedence: Precedence,
-    ) -> Result<Items<Operation>, Fail<SyntaxFault>> {
+    ) -> Result<Items<Operation>, Fail<SyntaxFault>>
+        requires nests { Nests self.now.depth (E.pre self.now.exp) (E.post self.now.exp) (B.pre self.now.block) (B.post self.now.block) }
+        requires shallow { place.nesting ≤ 201 }
+        requires room { 404 ≤ self.now.depth + 2 * place.nesting }
+        ensures { Reads (λ n. (readers n).operations place precedence [] parser.old.words) parser.old result parser.new }
+    {
         let mut operations = Items::new(self.alloc);
         while let Some(operator) = parser.operator_at(precedence) {
             parser.taken(place)?;
@@ -120,7 +165,12 @@ impl<
     }
 
     /// An expression without operators of its own.
-    fn simple(&self, parser: &mut Parser<'_>, place: Place) -> Result<Exp, Fail<SyntaxFault>> {
+    fn simple(&self, parser: &mut Parser<'_>, place: Place) -> Result<Exp, Fail<SyntaxFault>>
+        requires nests { Nests self.now.depth (E.pre self.now.exp) (E.post self.now.exp) (B.pre self.now.block) (B.post self.now.block) }
+        requires shallow { place.nesting ≤ 201 }
+        requires room { 404 ≤ self.now.depth + 2 * place.nesting }
+        ensures { Reads (λ n. reading.read_simple (readers n) place parser.old.words) parser.old result parser.new }
+    {
         match parser.next() {
             Some(Terminal::Nil) => {
                 parser.taken(place)?;
@@ -154,7 +204,12 @@ impl<
         &self,
         parser: &mut Parser<'_>,
         place: Place,
-    ) -> Result<Items<Exp>, Fail<SyntaxFault>> {
+    ) -> Result<Items<Exp>, Fail<SyntaxFault>>
+        requires nests { Nests self.now.depth (E.pre self.now.exp) (E.post self.now.exp) (B.pre self.now.block) (B.post self.now.block) }
+        requires shallow { place.nesting ≤ 201 }
+        requires room { 405 ≤ self.now.depth + 2 * place.nesting }
+        ensures { Reads (λ n. reading.read_exps (readers n) place parser.old.words) parser.old result parser.new }
+    {
         let first = self.exp(parser, place, Precedence::Or)?;
         self.exps_behind(parser, place, first)
     }
@@ -165,7 +220,12 @@ impl<
         parser: &mut Parser<'_>,
         place: Place,
         first: Exp,
-    ) -> Result<Items<Exp>, Fail<SyntaxFault>> {
+    ) -> Result<Items<Exp>, Fail<SyntaxFault>>
+        requires nests { Nests self.now.depth (E.pre self.now.exp) (E.post self.now.exp) (B.pre self.now.block) (B.post self.now.block) }
+        requires shallow { place.nesting ≤ 201 }
+        requires room { 405 ≤ self.now.depth + 2 * place.nesting }
+        ensures { Reads (λ n. (readers n).exps place (first ∷ []) parser.old.words) parser.old result parser.new }
+    {
         let mut exps = Items::new(self.alloc);
         exps.push(first)?;
         while parser.begins(Terminal::Comma) {
@@ -181,7 +241,12 @@ impl<
         &self,
         parser: &mut Parser<'_>,
         place: Place,
-    ) -> Result<FunctionBody, Fail<SyntaxFault>> {
+    ) -> Result<FunctionBody, Fail<SyntaxFault>>
+        requires nests { Nests self.now.depth (E.pre self.now.exp) (E.post self.now.exp) (B.pre self.now.block) (B.post self.now.block) }
+        requires shallow { place.nesting ≤ 202 }
+        requires room { 405 ≤ self.now.depth + 2 * place.nesting }
+        ensures { Reads (λ n. reading.read_body (readers n) place parser.old.words) parser.old result parser.new }
+    {
         let parameters = parameters(self.alloc, parser, within(place))?;
         let block = self.block(parser, within_function(place))?;
         parser.expected(place, Terminal::End)?;

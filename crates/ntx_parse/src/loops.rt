@@ -1,5 +1,12 @@
 //! Loops.
 
+ghost use Rattle.std.specs.Prelude.{◌≡◌, ◌≤◌, ◌<◌, ◌+◌, ◌*◌, length, [], ◌∷◌, Some, OnOk};
+ghost use Rattle.ntx_parse.specs.Nests.{Nests};
+ghost use Rattle.ntx_parse.specs.Reading as reading;
+ghost use Rattle.ntx_parse.specs.Reading.{readers};
+ghost use Rattle.ntx_parse.specs.Reads.{Reads};
+ghost use Rattle.ntx_parse.specs.Steps.{behind_at, one_suffix};
+
 use crate::names::names_behind;
 use crate::parser::Parser;
 use crate::place::{Place, within_loop};
@@ -19,7 +26,13 @@ impl<
         &self,
         parser: &mut Parser<'_>,
         place: Place,
-    ) -> Result<StatKind, Fail<SyntaxFault>> {
+    ) -> Result<StatKind, Fail<SyntaxFault>>
+        requires nests { Nests self.now.depth (E.pre self.now.exp) (E.post self.now.exp) (B.pre self.now.block) (B.post self.now.block) }
+        requires shallow { place.nesting ≤ 201 }
+        requires room { 405 ≤ self.now.depth + 2 * place.nesting }
+        ensures reads { Reads (λ n. reading.read_while (readers n) place parser.old.words) parser.old result parser.new }
+        ensures shorter { OnOk result (length parser.new.words < length parser.old.words) }
+    {
         parser.taken(place)?;
         let condition = self.exp(parser, place, Precedence::Or)?;
         let body = self.loop_body(parser, place)?;
@@ -31,7 +44,13 @@ impl<
         &self,
         parser: &mut Parser<'_>,
         place: Place,
-    ) -> Result<StatKind, Fail<SyntaxFault>> {
+    ) -> Result<StatKind, Fail<SyntaxFault>>
+        requires nests { Nests self.now.depth (E.pre self.now.exp) (E.post self.now.exp) (B.pre self.now.block) (B.post self.now.block) }
+        requires shallow { place.nesting ≤ 201 }
+        requires room { 405 ≤ self.now.depth + 2 * place.nesting }
+        ensures reads { Reads (λ n. reading.read_repeat (readers n) place parser.old.words) parser.old result parser.new }
+        ensures shorter { OnOk result (length parser.new.words < length parser.old.words) }
+    {
         parser.taken(place)?;
         let body = self.block(parser, within_loop(place))?;
         parser.expected(place, Terminal::Until)?;
@@ -44,7 +63,13 @@ impl<
         &self,
         parser: &mut Parser<'_>,
         place: Place,
-    ) -> Result<StatKind, Fail<SyntaxFault>> {
+    ) -> Result<StatKind, Fail<SyntaxFault>>
+        requires nests { Nests self.now.depth (E.pre self.now.exp) (E.post self.now.exp) (B.pre self.now.block) (B.post self.now.block) }
+        requires shallow { place.nesting ≤ 201 }
+        requires room { 405 ≤ self.now.depth + 2 * place.nesting }
+        ensures reads { Reads (λ n. reading.read_for (readers n) place parser.old.words) parser.old result parser.new }
+        ensures shorter { OnOk result (length parser.new.words < length parser.old.words) }
+    {
         parser.taken(place)?;
         let name = parser.local_name(self.alloc, place)?;
         if parser.begins(Terminal::Assign) {
@@ -60,7 +85,12 @@ impl<
         parser: &mut Parser<'_>,
         place: Place,
         name: LocalName,
-    ) -> Result<StatKind, Fail<SyntaxFault>> {
+    ) -> Result<StatKind, Fail<SyntaxFault>>
+        requires nests { Nests self.now.depth (E.pre self.now.exp) (E.post self.now.exp) (B.pre self.now.block) (B.post self.now.block) }
+        requires shallow { place.nesting ≤ 201 }
+        requires room { 405 ≤ self.now.depth + 2 * place.nesting }
+        ensures { Reads (λ n. reading.numeric_for_behind (readers n) place name parser.old.words) parser.old result parser.new }
+    {
         parser.taken(place)?;
         let first = self.exp(parser, place, Precedence::Or)?;
         parser.expected(place, Terminal::Comma)?;
@@ -75,7 +105,12 @@ impl<
         &self,
         parser: &mut Parser<'_>,
         place: Place,
-    ) -> Result<Option<Exp>, Fail<SyntaxFault>> {
+    ) -> Result<Option<Exp>, Fail<SyntaxFault>>
+        requires nests { Nests self.now.depth (E.pre self.now.exp) (E.post self.now.exp) (B.pre self.now.block) (B.post self.now.block) }
+        requires shallow { place.nesting ≤ 201 }
+        requires room { 405 ≤ self.now.depth + 2 * place.nesting }
+        ensures { Reads (λ n. reading.step_behind (readers n) place parser.old.words) parser.old result parser.new }
+    {
         if !parser.begins(Terminal::Comma) {
             return Ok(None);
         }
@@ -90,7 +125,12 @@ impl<
         parser: &mut Parser<'_>,
         place: Place,
         first: LocalName,
-    ) -> Result<StatKind, Fail<SyntaxFault>> {
+    ) -> Result<StatKind, Fail<SyntaxFault>>
+        requires nests { Nests self.now.depth (E.pre self.now.exp) (E.post self.now.exp) (B.pre self.now.block) (B.post self.now.block) }
+        requires shallow { place.nesting ≤ 201 }
+        requires room { 405 ≤ self.now.depth + 2 * place.nesting }
+        ensures { Reads (λ n. reading.generic_for_behind (readers n) place first parser.old.words) parser.old result parser.new }
+    {
         let names = names_behind(self.alloc, parser, place, first)?;
         parser.expected(place, Terminal::In)?;
         let values = self.exps(parser, place)?;

@@ -1,5 +1,9 @@
 //! Prefixes while they are read.
 
+ghost use Rattle.std.specs.Prelude.{◌≡◌, IfOk};
+ghost use Rattle.ntx_parse.specs.Grammar as grammar;
+ghost use Rattle.ntx_parse.specs.Reading as reading;
+
 use ntx_syntax::{Exp, Head, Name, Prefix, Suffix, Var};
 use sqlite_items::{Boxed, Items};
 use std::alloc::{AllocError, Global};
@@ -20,14 +24,18 @@ pub enum Part {
 }
 
 /// A prefix, and one more suffix behind it.
-fn with_suffix(prefix: Prefix, suffix: Suffix) -> Result<Prefix, AllocError> {
+fn with_suffix(prefix: Prefix, suffix: Suffix) -> Result<Prefix, AllocError>
+    ensures { IfOk result (λ p. p ≡ grammar.with_suffix prefix suffix) }
+{
     let Prefix { head, mut suffixes } = prefix;
     suffixes.push(suffix)?;
     Ok(Prefix { head, suffixes })
 }
 
 /// The prefix that was read.
-pub fn joined(alloc: Global, part: Part) -> Result<Prefix, AllocError> {
+pub fn joined(alloc: Global, part: Part) -> Result<Prefix, AllocError>
+    ensures { IfOk result (λ p. p ≡ reading.joined part) }
+{
     match part {
         Part::Name(name) => Ok(Prefix {
             head: Head::Name(name),
@@ -44,7 +52,9 @@ pub fn joined(alloc: Global, part: Part) -> Result<Prefix, AllocError> {
 }
 
 /// What can be assigned to, if the prefix is that.
-pub fn var_of(part: Part) -> Option<Var> {
+pub fn var_of(part: Part) -> Option<Var>
+    ensures { result ≡ reading.var_of part }
+{
     match part {
         Part::Name(name) => Some(Var::Name(name)),
         Part::Index(before, key) => Some(Var::Index(before, key)),

@@ -1,5 +1,12 @@
 //! Variables, calls and parenthesized expressions.
 
+ghost use Rattle.std.specs.Prelude.{◌≡◌, ◌≤◌, ◌<◌, ◌+◌, ◌*◌, length, [], ◌∷◌, Some, OnOk};
+ghost use Rattle.ntx_parse.specs.Nests.{Nests};
+ghost use Rattle.ntx_parse.specs.Reading as reading;
+ghost use Rattle.ntx_parse.specs.Reading.{readers};
+ghost use Rattle.ntx_parse.specs.Reads.{Reads};
+ghost use Rattle.ntx_parse.specs.Steps.{behind_at, one_suffix};
+
 use crate::parser::Parser;
 use crate::part::{Part, joined};
 use crate::place::{Place, within};
@@ -16,7 +23,13 @@ impl<
     B: Fn(Global, &mut Parser<'_>, u64, Place) -> Result<Block, Fail<SyntaxFault>>,
 > Rules<E, B> {
     /// A name or a parenthesized expression, and all suffixes behind it.
-    pub fn prefix(&self, parser: &mut Parser<'_>, place: Place) -> Result<Part, Fail<SyntaxFault>> {
+    pub fn prefix(&self, parser: &mut Parser<'_>, place: Place) -> Result<Part, Fail<SyntaxFault>>
+        requires nests { Nests self.now.depth (E.pre self.now.exp) (E.post self.now.exp) (B.pre self.now.block) (B.post self.now.block) }
+        requires shallow { place.nesting ≤ 201 }
+        requires room { 404 ≤ self.now.depth + 2 * place.nesting }
+        ensures reads { Reads (λ n. reading.read_prefix (readers n) place parser.old.words) parser.old result parser.new }
+        ensures shorter { OnOk result (length parser.new.words < length parser.old.words) }
+    {
         if parser.begins(Terminal::LeftParenthesis) {
             let exp = self.parenthesized(parser, within(place))?;
             self.suffixes_behind(parser, place, Part::Parenthesized(exp))
@@ -27,11 +40,13 @@ impl<
     }
 
     /// `( exp )`, at the place of the parentheses.
-    fn parenthesized(
-        &self,
-        parser: &mut Parser<'_>,
-        place: Place,
-    ) -> Result<Exp, Fail<SyntaxFault>> {
+    fn parenthesized(&self, parser: &mut Parser<'_>, place: Place) -> Result<Exp, Fail<SyntaxFault>>
+        requires nests { Nests self.now.depth (E.pre self.now.exp) (E.post self.now.exp) (B.pre self.now.block) (B.post self.now.block) }
+        requires shallow { place.nesting ≤ 202 }
+        requires room { 405 ≤ self.now.depth + 2 * place.nesting }
+        ensures reads { Reads (λ n. reading.read_parenthesized (readers n) place parser.old.words) parser.old result parser.new }
+        ensures shorter { OnOk result (length parser.new.words < length parser.old.words) }
+    {
         parser.expected(place, Terminal::LeftParenthesis)?;
         let exp = self.exp(parser, place, Precedence::Or)?;
         parser.expected(place, Terminal::RightParenthesis)?;
@@ -44,7 +59,12 @@ impl<
         parser: &mut Parser<'_>,
         place: Place,
         first: Part,
-    ) -> Result<Part, Fail<SyntaxFault>> {
+    ) -> Result<Part, Fail<SyntaxFault>>
+        requires nests { Nests self.now.depth (E.pre self.now.exp) (E.post self.now.exp) (B.pre self.now.block) (B.post self.now.block) }
+        requires shallow { place.nesting ≤ 201 }
+        requires room { 404 ≤ self.now.depth + 2 * place.nesting }
+        ensures { Reads (λ n. (readers n).suffixes place first parser.old.words) parser.old result parser.new }
+    {
         let mut before = first;
         while parser.begins_suffix() {
             before = self.suffix(parser, place, before)?;
@@ -58,7 +78,13 @@ impl<
         parser: &mut Parser<'_>,
         place: Place,
         before: Part,
-    ) -> Result<Part, Fail<SyntaxFault>> {
+    ) -> Result<Part, Fail<SyntaxFault>>
+        requires nests { Nests self.now.depth (E.pre self.now.exp) (E.post self.now.exp) (B.pre self.now.block) (B.post self.now.block) }
+        requires shallow { place.nesting ≤ 201 }
+        requires room { 404 ≤ self.now.depth + 2 * place.nesting }
+        ensures reads { Reads (λ n. one_suffix (readers n) place before parser.old.words) parser.old result parser.new }
+        ensures shorter { OnOk result (length parser.new.words < length parser.old.words) }
+    {
         if parser.begins(Terminal::LeftBracket) {
             let key = self.index(parser, within(place))?;
             Ok(Part::Index(joined(self.alloc, before)?, key))
@@ -73,7 +99,13 @@ impl<
     }
 
     /// `[ exp ]`, at the place of the brackets.
-    pub fn index(&self, parser: &mut Parser<'_>, place: Place) -> Result<Exp, Fail<SyntaxFault>> {
+    pub fn index(&self, parser: &mut Parser<'_>, place: Place) -> Result<Exp, Fail<SyntaxFault>>
+        requires nests { Nests self.now.depth (E.pre self.now.exp) (E.post self.now.exp) (B.pre self.now.block) (B.post self.now.block) }
+        requires shallow { place.nesting ≤ 202 }
+        requires room { 405 ≤ self.now.depth + 2 * place.nesting }
+        ensures reads { Reads (λ n. reading.read_index (readers n) place parser.old.words) parser.old result parser.new }
+        ensures shorter { OnOk result (length parser.new.words < length parser.old.words) }
+    {
         parser.expected(place, Terminal::LeftBracket)?;
         let key = self.exp(parser, place, Precedence::Or)?;
         parser.expected(place, Terminal::RightBracket)?;
@@ -85,7 +117,13 @@ impl<
         &self,
         parser: &mut Parser<'_>,
         place: Place,
-    ) -> Result<Items<Exp>, Fail<SyntaxFault>> {
+    ) -> Result<Items<Exp>, Fail<SyntaxFault>>
+        requires nests { Nests self.now.depth (E.pre self.now.exp) (E.post self.now.exp) (B.pre self.now.block) (B.post self.now.block) }
+        requires shallow { place.nesting ≤ 202 }
+        requires room { 405 ≤ self.now.depth + 2 * place.nesting }
+        ensures reads { Reads (λ n. reading.read_arguments (readers n) place parser.old.words) parser.old result parser.new }
+        ensures shorter { OnOk result (length parser.new.words < length parser.old.words) }
+    {
         parser.expected(place, Terminal::LeftParenthesis)?;
         if parser.begins(Terminal::RightParenthesis) {
             parser.taken(place)?;

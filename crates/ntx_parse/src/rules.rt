@@ -1,5 +1,12 @@
 //! The rules of the grammar take the readers of expressions and of blocks as parameters, so that each is by itself.
 
+ghost use Rattle.std.specs.Prelude.{◌≡◌, ◌≤◌, ◌<◌, ◌+◌, ◌*◌, length, [], ◌∷◌, Some, OnOk};
+ghost use Rattle.ntx_parse.specs.Nests.{Nests};
+ghost use Rattle.ntx_parse.specs.Reading as reading;
+ghost use Rattle.ntx_parse.specs.Reading.{readers};
+ghost use Rattle.ntx_parse.specs.Reads.{Reads};
+ghost use Rattle.ntx_parse.specs.Steps.{behind_at, one_suffix};
+
 use crate::parser::Parser;
 use crate::place::Place;
 use crate::precedence::Precedence;
@@ -30,12 +37,22 @@ impl<
         parser: &mut Parser<'_>,
         place: Place,
         precedence: Precedence,
-    ) -> Result<Exp, Fail<SyntaxFault>> {
+    ) -> Result<Exp, Fail<SyntaxFault>>
+        requires nests { Nests self.now.depth (E.pre self.now.exp) (E.post self.now.exp) (B.pre self.now.block) (B.post self.now.block) }
+        requires shallow { place.nesting ≤ 201 }
+        requires room { 405 ≤ self.now.depth + 2 * place.nesting }
+        ensures { Reads (λ n. (readers n).exp place precedence parser.old.words) parser.old result parser.new }
+    {
         (self.exp)(self.alloc, parser, self.depth, place, precedence)
     }
 
     /// A block.
-    pub fn block(&self, parser: &mut Parser<'_>, place: Place) -> Result<Block, Fail<SyntaxFault>> {
+    pub fn block(&self, parser: &mut Parser<'_>, place: Place) -> Result<Block, Fail<SyntaxFault>>
+        requires nests { Nests self.now.depth (E.pre self.now.exp) (E.post self.now.exp) (B.pre self.now.block) (B.post self.now.block) }
+        requires shallow { place.nesting ≤ 201 }
+        requires room { 406 ≤ self.now.depth + 2 * place.nesting }
+        ensures { Reads (λ n. (readers n).block place parser.old.words) parser.old result parser.new }
+    {
         (self.block)(self.alloc, parser, self.depth, place)
     }
 }

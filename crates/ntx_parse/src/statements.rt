@@ -1,5 +1,12 @@
 //! Statements.
 
+ghost use Rattle.std.specs.Prelude.{◌≡◌, ◌≤◌, ◌<◌, ◌+◌, ◌*◌, length, [], ◌∷◌, Some, OnOk};
+ghost use Rattle.ntx_parse.specs.Nests.{Nests};
+ghost use Rattle.ntx_parse.specs.Reading as reading;
+ghost use Rattle.ntx_parse.specs.Reading.{readers};
+ghost use Rattle.ntx_parse.specs.Reads.{Reads};
+ghost use Rattle.ntx_parse.specs.Steps.{behind_at, one_suffix};
+
 use crate::parser::Parser;
 use crate::place::{Place, within};
 use crate::precedence::Precedence;
@@ -11,7 +18,10 @@ use sqlite_items::Items;
 use std::alloc::Global;
 
 /// `break`. It is refused outside of a loop (Break).
-fn break_stat(parser: &mut Parser<'_>, place: Place) -> Result<StatKind, Fail<SyntaxFault>> {
+fn break_stat(parser: &mut Parser<'_>, place: Place) -> Result<StatKind, Fail<SyntaxFault>>
+    ensures reads { Reads (λ _. reading.read_break place parser.old.words) parser.old result parser.new }
+    ensures shorter { OnOk result (length parser.new.words < length parser.old.words) }
+{
     let fault = parser.fault(SyntaxWhy::Break);
     parser.taken(place)?;
     if place.in_loop {
@@ -31,7 +41,13 @@ impl<
         parser: &mut Parser<'_>,
         place: Place,
         begins: Terminal,
-    ) -> Result<StatKind, Fail<SyntaxFault>> {
+    ) -> Result<StatKind, Fail<SyntaxFault>>
+        requires nests { Nests self.now.depth (E.pre self.now.exp) (E.post self.now.exp) (B.pre self.now.block) (B.post self.now.block) }
+        requires shallow { place.nesting ≤ 201 }
+        requires room { 405 ≤ self.now.depth + 2 * place.nesting }
+        ensures reads { Reads (λ n. reading.kind_at (readers n) place begins parser.old.words) parser.old result parser.new }
+        ensures shorter { OnOk result (length parser.new.words < length parser.old.words) }
+    {
         match begins {
             Terminal::Semicolon => {
                 parser.taken(place)?;
@@ -50,22 +66,26 @@ impl<
     }
 
     /// `do block end`
-    fn do_block(
-        &self,
-        parser: &mut Parser<'_>,
-        place: Place,
-    ) -> Result<StatKind, Fail<SyntaxFault>> {
+    fn do_block(&self, parser: &mut Parser<'_>, place: Place) -> Result<StatKind, Fail<SyntaxFault>>
+        requires nests { Nests self.now.depth (E.pre self.now.exp) (E.post self.now.exp) (B.pre self.now.block) (B.post self.now.block) }
+        requires shallow { place.nesting ≤ 201 }
+        requires room { 405 ≤ self.now.depth + 2 * place.nesting }
+        ensures reads { Reads (λ n. reading.read_do (readers n) place parser.old.words) parser.old result parser.new }
+        ensures shorter { OnOk result (length parser.new.words < length parser.old.words) }
+    {
         parser.taken(place)?;
         let body = self.block_to_end(parser, place, within(place))?;
         Ok(StatKind::Do(body))
     }
 
     /// `if exp then block {elseif exp then block} [else block] end`
-    fn if_stat(
-        &self,
-        parser: &mut Parser<'_>,
-        place: Place,
-    ) -> Result<StatKind, Fail<SyntaxFault>> {
+    fn if_stat(&self, parser: &mut Parser<'_>, place: Place) -> Result<StatKind, Fail<SyntaxFault>>
+        requires nests { Nests self.now.depth (E.pre self.now.exp) (E.post self.now.exp) (B.pre self.now.block) (B.post self.now.block) }
+        requires shallow { place.nesting ≤ 201 }
+        requires room { 405 ≤ self.now.depth + 2 * place.nesting }
+        ensures reads { Reads (λ n. reading.read_if (readers n) place parser.old.words) parser.old result parser.new }
+        ensures shorter { OnOk result (length parser.new.words < length parser.old.words) }
+    {
         let first = self.arm(parser, place)?;
         let arms = self.arms_behind(parser, place, first)?;
         let other = self.other(parser, place)?;
@@ -79,7 +99,12 @@ impl<
         parser: &mut Parser<'_>,
         place: Place,
         first: IfArm,
-    ) -> Result<Items<IfArm>, Fail<SyntaxFault>> {
+    ) -> Result<Items<IfArm>, Fail<SyntaxFault>>
+        requires nests { Nests self.now.depth (E.pre self.now.exp) (E.post self.now.exp) (B.pre self.now.block) (B.post self.now.block) }
+        requires shallow { place.nesting ≤ 201 }
+        requires room { 405 ≤ self.now.depth + 2 * place.nesting }
+        ensures { Reads (λ n. (readers n).arms place (first ∷ []) parser.old.words) parser.old result parser.new }
+    {
         let mut arms = Items::new(self.alloc);
         arms.push(first)?;
         while parser.begins(Terminal::Elseif) {
@@ -89,7 +114,14 @@ impl<
     }
 
     /// `if exp then block`, or the same with `elseif`.
-    fn arm(&self, parser: &mut Parser<'_>, place: Place) -> Result<IfArm, Fail<SyntaxFault>> {
+    fn arm(&self, parser: &mut Parser<'_>, place: Place) -> Result<IfArm, Fail<SyntaxFault>>
+        requires nests { Nests self.now.depth (E.pre self.now.exp) (E.post self.now.exp) (B.pre self.now.block) (B.post self.now.block) }
+        requires shallow { place.nesting ≤ 201 }
+        requires room { 405 ≤ self.now.depth + 2 * place.nesting }
+        ensures reads { Reads (λ n. reading.read_arm (readers n) place parser.old.words) parser.old result parser.new }
+        ensures shorter { OnOk result (length parser.new.words < length parser.old.words) }
+        ensures within { OnOk result (place.nesting ≤ 200) }
+    {
         parser.taken(place)?;
         let condition = self.exp(parser, place, Precedence::Or)?;
         parser.expected(place, Terminal::Then)?;
@@ -102,7 +134,12 @@ impl<
         &self,
         parser: &mut Parser<'_>,
         place: Place,
-    ) -> Result<Option<Block>, Fail<SyntaxFault>> {
+    ) -> Result<Option<Block>, Fail<SyntaxFault>>
+        requires nests { Nests self.now.depth (E.pre self.now.exp) (E.post self.now.exp) (B.pre self.now.block) (B.post self.now.block) }
+        requires shallow { place.nesting ≤ 201 }
+        requires room { 405 ≤ self.now.depth + 2 * place.nesting }
+        ensures { Reads (λ n. reading.else_behind (readers n) place parser.old.words) parser.old result parser.new }
+    {
         if !parser.begins(Terminal::Else) {
             return Ok(None);
         }

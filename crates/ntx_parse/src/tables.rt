@@ -1,5 +1,12 @@
 //! Tables.
 
+ghost use Rattle.std.specs.Prelude.{◌≡◌, ◌≤◌, ◌<◌, ◌+◌, ◌*◌, length, [], ◌∷◌, Some, OnOk};
+ghost use Rattle.ntx_parse.specs.Nests.{Nests};
+ghost use Rattle.ntx_parse.specs.Reading as reading;
+ghost use Rattle.ntx_parse.specs.Reading.{readers};
+ghost use Rattle.ntx_parse.specs.Reads.{Reads};
+ghost use Rattle.ntx_parse.specs.Steps.{behind_at, one_suffix};
+
 use crate::parser::Parser;
 use crate::place::{Place, within};
 use crate::precedence::Precedence;
@@ -19,7 +26,12 @@ impl<
         &self,
         parser: &mut Parser<'_>,
         place: Place,
-    ) -> Result<Items<Field>, Fail<SyntaxFault>> {
+    ) -> Result<Items<Field>, Fail<SyntaxFault>>
+        requires nests { Nests self.now.depth (E.pre self.now.exp) (E.post self.now.exp) (B.pre self.now.block) (B.post self.now.block) }
+        requires shallow { place.nesting ≤ 202 }
+        requires room { 405 ≤ self.now.depth + 2 * place.nesting }
+        ensures { Reads (λ n. reading.read_table (readers n) place parser.old.words) parser.old result parser.new }
+    {
         parser.expected(place, Terminal::LeftBrace)?;
         let fields = self.fields(parser, place)?;
         parser.expected(place, Terminal::RightBrace)?;
@@ -31,7 +43,12 @@ impl<
         &self,
         parser: &mut Parser<'_>,
         place: Place,
-    ) -> Result<Items<Field>, Fail<SyntaxFault>> {
+    ) -> Result<Items<Field>, Fail<SyntaxFault>>
+        requires nests { Nests self.now.depth (E.pre self.now.exp) (E.post self.now.exp) (B.pre self.now.block) (B.post self.now.block) }
+        requires shallow { place.nesting ≤ 201 }
+        requires room { 405 ≤ self.now.depth + 2 * place.nesting }
+        ensures { Reads (λ n. (readers n).fields place [] parser.old.words) parser.old result parser.new }
+    {
         let mut fields = Items::new(self.alloc);
         while !parser.begins(Terminal::RightBrace) {
             fields.push(self.field(parser, place)?)?;
@@ -44,7 +61,12 @@ impl<
     }
 
     /// `[ exp ] = exp`, `Name = exp` or `exp`.
-    fn field(&self, parser: &mut Parser<'_>, place: Place) -> Result<Field, Fail<SyntaxFault>> {
+    fn field(&self, parser: &mut Parser<'_>, place: Place) -> Result<Field, Fail<SyntaxFault>>
+        requires nests { Nests self.now.depth (E.pre self.now.exp) (E.post self.now.exp) (B.pre self.now.block) (B.post self.now.block) }
+        requires shallow { place.nesting ≤ 201 }
+        requires room { 405 ≤ self.now.depth + 2 * place.nesting }
+        ensures { Reads (λ n. reading.read_field (readers n) place parser.old.words) parser.old result parser.new }
+    {
         if parser.begins(Terminal::LeftBracket) {
             let key = self.index(parser, within(place))?;
             parser.expected(place, Terminal::Assign)?;
