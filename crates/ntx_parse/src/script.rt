@@ -1,5 +1,10 @@
 //! Reading a script.
 
+ghost use Rattle.std.specs.Prelude.{◌≡◌, ◌≤◌, ◌+◌, ◌*◌};
+ghost use Rattle.ntx_syntax.specs.Lexes.{Lexes, line_ends};
+ghost use Rattle.ntx_parse.specs.Reading.{readers};
+ghost use Rattle.ntx_parse.specs.Reads.{Reads};
+
 use crate::parser::Parser;
 use crate::place::{Place, outermost};
 use crate::precedence::Precedence;
@@ -20,7 +25,11 @@ fn exp(
     depth: u64,
     place: Place,
     precedence: Precedence,
-) -> Result<Exp, Fail<SyntaxFault>> {
+) -> Result<Exp, Fail<SyntaxFault>>
+    requires shallow { place.nesting ≤ 201 }
+    requires room { 405 ≤ depth + 2 * place.nesting }
+    ensures { Reads (λ n. (readers n).exp place precedence parser.old.words) parser.old result parser.new }
+{
     Rules {
         alloc,
         depth: depth - 1,
@@ -37,7 +46,11 @@ fn block(
     parser: &mut Parser<'_>,
     depth: u64,
     place: Place,
-) -> Result<Block, Fail<SyntaxFault>> {
+) -> Result<Block, Fail<SyntaxFault>>
+    requires shallow { place.nesting ≤ 201 }
+    requires room { 406 ≤ depth + 2 * place.nesting }
+    ensures { Reads (λ n. (readers n).block place parser.old.words) parser.old result parser.new }
+{
     Rules {
         alloc,
         depth: depth - 1,
@@ -48,7 +61,9 @@ fn block(
 }
 
 /// The number of the last line, from 1: that behind the last LF.
-fn last_line(bytes: &[u8]) -> u64 {
+fn last_line(bytes: &[u8]) -> u64
+    ensures { result ≡ 1 + line_ends bytes.now }
+{
     1 + bytes.iter().filter(|b| **b == b'\n').count() as u64
 }
 
