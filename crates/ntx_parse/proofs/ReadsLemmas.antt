@@ -1,5 +1,5 @@
 -- How readings follow one another.
-use Rattle.std.proofs.Common.{◌≡◌, ◌≤◌, ◌<◌, ℕ, zero, suc, ◌+◌, ◌-◌, Bool, true, false, List, length, Option, None, Some, Result, Ok, Err, refl, ap, subst, ◌∙◌, arith, if◌then◌else◌}
+use Rattle.std.proofs.Common.{◌≡◌, ◌≤◌, ◌<◌, ℕ, zero, suc, ◌+◌, ◌-◌, Bool, true, false, List, length, Option, None, Some, Result, Ok, Err, refl, ap, subst, sym, OnOk, ◌∙◌, arith, if◌then◌else◌}
 use Rattle.ntx_num.specs.declared.answer.Fail.{Fail}
 use Rattle.ntx_num.specs.declared.answer.Fail.TheVariants.{NoMemory, Is}
 use Rattle.ntx_syntax.specs.declared.fault.SyntaxFault.{SyntaxFault}
@@ -86,3 +86,13 @@ no_memory_by (Err y) is = rw is out_of_memory
 pub with_equal : {X A : Type 0} (f : X → ℕ → Answer A) {old : Input} {x y : X} → x ≡ y → (r : Result A (Fail SyntaxFault)) (new : Input)
     → Reads (f x) old r new → Reads (f y) old r new
 with_equal f {old = old} is r new h = subst (λ x. Reads (f x) old r new) is h
+
+pub line_kept : {A : Type 0} {f : ℕ → Answer A} {old new : Input} {a : A} → Reads f old (Ok a) new → old.last_line ≡ new.last_line
+line_kept (went first line shorter) = sym line
+
+-- What follows a shorter rest is shorter.
+pub stays_shorter : {A : Type 0} {f : ℕ → Answer A} {middle new : Input} {r : Result A (Fail SyntaxFault)} {n : ℕ}
+    → Reads f middle r new → length middle.words < n → OnOk r (length new.words < n)
+stays_shorter (went first line shorter) strict = omega (arith, shorter, strict)
+stays_shorter (stops stop first is) strict = tt
+stays_shorter out_of_memory strict = tt
