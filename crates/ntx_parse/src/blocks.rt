@@ -5,7 +5,6 @@ ghost use Rattle.ntx_parse.specs.Nests.{Nests};
 ghost use Rattle.ntx_parse.specs.Reading as reading;
 ghost use Rattle.ntx_parse.specs.Reading.{readers};
 ghost use Rattle.ntx_parse.specs.Reads.{Reads};
-ghost use Rattle.ntx_parse.specs.Steps.{behind_at, one_suffix};
 
 use crate::parser::Parser;
 use crate::place::{Place, within_loop};

@@ -8,7 +8,7 @@ ghost use Rattle.ntx_parse.specs.Nests.{Nests};
 ghost use Rattle.ntx_parse.specs.Reading as reading;
 ghost use Rattle.ntx_parse.specs.Reading.{readers};
 ghost use Rattle.ntx_parse.specs.Reads.{Reads};
-ghost use Rattle.ntx_parse.specs.Steps.{behind_at, one_suffix};
+ghost use Rattle.ntx_parse.specs.Steps.{behind_at};
 
 use crate::names::parameters;
 use crate::parser::Parser;

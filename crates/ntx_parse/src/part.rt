@@ -3,6 +3,7 @@
 ghost use Rattle.std.specs.Prelude.{◌≡◌, IfOk};
 ghost use Rattle.ntx_parse.specs.Grammar as grammar;
 ghost use Rattle.ntx_parse.specs.Reading as reading;
+ghost use Rattle.ntx_parse.specs.Steps as steps;
 
 use ntx_syntax::{Exp, Head, Name, Prefix, Suffix, Var};
 use sqlite_items::{Boxed, Items};
@@ -21,6 +22,29 @@ pub enum Part {
     Field(Prefix, Name),
     /// `prefix ( [explist] )`
     Call(Prefix, Items<Exp>),
+}
+
+/// One suffix.
+#[derive(Drop)]
+pub enum Tail {
+    /// `[ exp ]`
+    Index(Exp),
+    /// `. Name`
+    Field(Name),
+    /// `( [explist] )`
+    Call(Items<Exp>),
+}
+
+/// What a suffix makes of what stands before it.
+pub fn extended(alloc: Global, before: Part, tail: Tail) -> Result<Part, AllocError>
+    ensures { IfOk result (λ p. p ≡ steps.extended before tail) }
+{
+    let prefix = joined(alloc, before)?;
+    match tail {
+        Tail::Index(key) => Ok(Part::Index(prefix, key)),
+        Tail::Field(name) => Ok(Part::Field(prefix, name)),
+        Tail::Call(arguments) => Ok(Part::Call(prefix, arguments)),
+    }
 }
 
 /// A prefix, and one more suffix behind it.

@@ -5,10 +5,10 @@ ghost use Rattle.ntx_parse.specs.Nests.{Nests};
 ghost use Rattle.ntx_parse.specs.Reading as reading;
 ghost use Rattle.ntx_parse.specs.Reading.{readers};
 ghost use Rattle.ntx_parse.specs.Reads.{Reads};
-ghost use Rattle.ntx_parse.specs.Steps.{behind_at, one_suffix};
+ghost use Rattle.ntx_parse.specs.Steps.{tail_at};
 
 use crate::parser::Parser;
-use crate::part::{Part, joined};
+use crate::part::{Part, Tail, extended};
 use crate::place::{Place, within};
 use crate::precedence::Precedence;
 use crate::rules::Rules;
@@ -67,34 +67,30 @@ impl<
     {
         let mut before = first;
         while parser.begins_suffix() {
-            before = self.suffix(parser, place, before)?;
+            let tail = self.tail(parser, place)?;
+            before = extended(self.alloc, before, tail)?;
         }
         Ok(before)
     }
 
-    /// `[ exp ]`, `. Name` or `( [explist] )`, behind this.
-    fn suffix(
-        &self,
-        parser: &mut Parser<'_>,
-        place: Place,
-        before: Part,
-    ) -> Result<Part, Fail<SyntaxFault>>
+    /// `[ exp ]`, `. Name` or `( [explist] )`
+    fn tail(&self, parser: &mut Parser<'_>, place: Place) -> Result<Tail, Fail<SyntaxFault>>
         requires nests { Nests self.now.depth (E.pre self.now.exp) (E.post self.now.exp) (B.pre self.now.block) (B.post self.now.block) }
         requires shallow { place.nesting ≤ 201 }
         requires room { 404 ≤ self.now.depth + 2 * place.nesting }
-        ensures reads { Reads (λ n. one_suffix (readers n) place before parser.old.words) parser.old result parser.new }
+        ensures reads { Reads (λ n. tail_at (readers n) place parser.old.words) parser.old result parser.new }
         ensures shorter { OnOk result (length parser.new.words < length parser.old.words) }
     {
         if parser.begins(Terminal::LeftBracket) {
             let key = self.index(parser, within(place))?;
-            Ok(Part::Index(joined(self.alloc, before)?, key))
+            Ok(Tail::Index(key))
         } else if parser.begins(Terminal::Dot) {
             parser.taken(place)?;
             let name = parser.name(self.alloc, place)?;
-            Ok(Part::Field(joined(self.alloc, before)?, name))
+            Ok(Tail::Field(name))
         } else {
             let arguments = self.arguments(parser, within(place))?;
-            Ok(Part::Call(joined(self.alloc, before)?, arguments))
+            Ok(Tail::Call(arguments))
         }
     }
 
