@@ -1,2 +1,4 @@
 pub mod ReadsLemmas
 pub mod TakenLemmas
+pub mod LevelLemmas
+pub mod StatLemmas

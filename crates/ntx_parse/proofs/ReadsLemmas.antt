@@ -96,3 +96,18 @@ pub stays_shorter : {A : Type 0} {f : ℕ → Answer A} {middle new : Input} {r 
 stays_shorter (went first line shorter) strict = omega (arith, shorter, strict)
 stays_shorter (stops stop first is) strict = tt
 stays_shorter out_of_memory strict = tt
+
+-- Two readings that are one.
+settles_same : {A : Type 0} {f g : ℕ → Answer A} {answer : Result (A × List Word) Stop} → ((n : ℕ) → g n ≡ f n) → Settles f answer → Settles g answer
+settles_same equal first = record { from = first.from; gives = λ n enough. equal n ∙ first.gives n enough }
+
+pub same : {A : Type 0} {f g : ℕ → Answer A} {old new : Input} {r : Result A (Fail SyntaxFault)} → ((n : ℕ) → g n ≡ f n) → Reads f old r new → Reads g old r new
+same equal (went first line shorter) = went (settles_same equal first) line shorter
+same equal (stops stop first is) = stops stop (settles_same equal first) is
+same equal out_of_memory = out_of_memory
+
+-- What a `?` ends stops where the reading before it does.
+pub ends_by : {A B : Type 0} {f : ℕ → Answer A} {g : ℕ → Answer B} {old new newer : Input} {e : Fail SyntaxFault} (r : Result B (Fail SyntaxFault))
+    → IsErrAnd r (λ y. y ≡ e) → (Reads f old (Err e) new → Reads g old (Err e) newer) → Reads f old (Err e) new → Reads g old r newer
+ends_by (Ok b) is step h = absurd is
+ends_by (Err y) is step h = rw is (step h)
