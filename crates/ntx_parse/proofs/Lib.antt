@@ -14,10 +14,12 @@ pub mod CompleteStatements
 pub mod CompleteTables
 pub mod Exact
 pub mod FollowLemmas
+pub mod LevelLemmas
 pub mod Local
 pub mod More
 pub mod NamedLemmas
 pub mod OperatorLemmas
+pub mod ReadsLemmas
 pub mod Refused
 pub mod Sound
 pub mod SoundAnswers
@@ -30,6 +32,7 @@ pub mod SoundPrefixes
 pub mod SoundStatements
 pub mod SoundTables
 pub mod StartLemmas
+pub mod StatLemmas
 pub mod Stuck
 pub mod StuckAnswers
 pub mod StuckAssignments
@@ -43,6 +46,7 @@ pub mod StuckPrefixes
 pub mod StuckStatements
 pub mod StuckTables
 pub mod StuckWords
+pub mod TakenLemmas
 pub mod TerminalLemmas
 pub mod Viewed
 pub mod ViewedBlocks

@@ -242,14 +242,14 @@ read_local_name p words = and_then (expected p terminal.Name words) (λ o rest. 
 abbrev pub path_behind : Readers → Place → List (List ℕ) → List Word → Answer (List (List ℕ))
 path_behind r p before words =
     if begins terminal.Dot words then
-        and_then (taken p words) (λ _ rest. and_then (read_name p rest) (λ name others. r.path p (before ++ name ∷ []) others))
+    and_then (taken p words) (λ _ rest. and_then (read_name p rest) (λ name others. r.path p (before ++ name ∷ []) others))
     else read before words
 
 -- {, Name}
 abbrev pub names_behind : Readers → Place → List LocalName → List Word → Answer (List LocalName)
 names_behind r p before words =
     if begins terminal.Comma words then
-        and_then (taken p words) (λ _ rest. and_then (read_local_name p rest) (λ name others. r.names p (before ++ name ∷ []) others))
+    and_then (taken p words) (λ _ rest. and_then (read_local_name p rest) (λ name others. r.names p (before ++ name ∷ []) others))
     else read before words
 
 abbrev pub read_names : Readers → Place → List Word → Answer (List LocalName)
@@ -259,7 +259,7 @@ read_names r p words = and_then (read_local_name p words) (λ name rest. r.names
 abbrev pub exps_behind : Readers → Place → List Exp → List Word → Answer (List Exp)
 exps_behind r p before words =
     if begins terminal.Comma words then
-        and_then (taken p words) (λ _ rest. and_then (r.exp p precedence.Or rest) (λ e others. r.exps p (before ++ e ∷ []) others))
+    and_then (taken p words) (λ _ rest. and_then (r.exp p precedence.Or rest) (λ e others. r.exps p (before ++ e ∷ []) others))
     else read before words
 
 abbrev pub read_exps : Readers → Place → List Word → Answer (List Exp)
@@ -280,16 +280,16 @@ read_arguments r p words =
     and_then (expected p terminal.LeftParenthesis words) (λ _ inside.
     if begins terminal.RightParenthesis inside then and_then (taken p inside) (λ _ rest. read [] rest)
     else and_then (read_exps r p inside) (λ arguments behind.
-        and_then (expected p terminal.RightParenthesis behind) (λ _ rest. read arguments rest)))
+    and_then (expected p terminal.RightParenthesis behind) (λ _ rest. read arguments rest)))
 
 abbrev pub suffixes_behind : Readers → Place → Part → List Word → Answer Part
 suffixes_behind r p before words =
     if begins terminal.LeftBracket words then
-        and_then (read_index r (within p) words) (λ key rest. r.suffixes p (part.Index (joined before) key) rest)
+    and_then (read_index r (within p) words) (λ key rest. r.suffixes p (part.Index (joined before) key) rest)
     else if begins terminal.Dot words then
-        and_then (taken p words) (λ _ behind. and_then (read_name p behind) (λ name rest. r.suffixes p (part.Field (joined before) name) rest))
+    and_then (taken p words) (λ _ behind. and_then (read_name p behind) (λ name rest. r.suffixes p (part.Field (joined before) name) rest))
     else if begins terminal.LeftParenthesis words then
-        and_then (read_arguments r (within p) words) (λ arguments rest. r.suffixes p (part.Call (joined before) arguments) rest)
+    and_then (read_arguments r (within p) words) (λ arguments rest. r.suffixes p (part.Call (joined before) arguments) rest)
     else read before words
 
 -- ( exp )
@@ -302,7 +302,7 @@ read_parenthesized r p words =
 abbrev pub read_prefix : Readers → Place → List Word → Answer Part
 read_prefix r p words =
     if begins terminal.LeftParenthesis words then
-        and_then (read_parenthesized r (within p) words) (λ e rest. r.suffixes p (part.Parenthesized e) rest)
+    and_then (read_parenthesized r (within p) words) (λ e rest. r.suffixes p (part.Parenthesized e) rest)
     else and_then (read_name p words) (λ name rest. r.suffixes p (part.Name name) rest)
 
 -- ---- functions and tables
@@ -313,7 +313,7 @@ read_parameters r p words =
     and_then (expected p terminal.LeftParenthesis words) (λ _ inside.
     if begins terminal.RightParenthesis inside then and_then (taken p inside) (λ _ rest. read [] rest)
     else and_then (read_names r p inside) (λ names behind.
-        and_then (expected p terminal.RightParenthesis behind) (λ _ rest. read names rest)))
+    and_then (expected p terminal.RightParenthesis behind) (λ _ rest. read names rest)))
 
 abbrev pub read_body : Readers → Place → List Word → Answer FunctionBody
 read_body r p words =
@@ -328,13 +328,13 @@ names_a_field (n ∷ words) = nat_eq (number n.is) (number terminal.Name) && beg
 abbrev pub read_field : Readers → Place → List Word → Answer Field
 read_field r p words =
     if begins terminal.LeftBracket words then
-        and_then (read_index r (within p) words) (λ key behind.
-        and_then (expected p terminal.Assign behind) (λ _ second.
-        and_then (r.exp p precedence.Or second) (λ value rest. read (field.Keyed key value) rest)))
+    and_then (read_index r (within p) words) (λ key behind.
+    and_then (expected p terminal.Assign behind) (λ _ second.
+    and_then (r.exp p precedence.Or second) (λ value rest. read (field.Keyed key value) rest)))
     else if names_a_field words then
-        and_then (read_name p words) (λ name behind.
-        and_then (expected p terminal.Assign behind) (λ _ second.
-        and_then (r.exp p precedence.Or second) (λ value rest. read (field.Named name value) rest)))
+    and_then (read_name p words) (λ name behind.
+    and_then (expected p terminal.Assign behind) (λ _ second.
+    and_then (r.exp p precedence.Or second) (λ value rest. read (field.Named name value) rest)))
     else and_then (r.exp p precedence.Or words) (λ value rest. read (field.Positional value) rest)
 
 -- the fields behind these, up to the closing brace
@@ -342,9 +342,9 @@ abbrev pub fields_behind : Readers → Place → List Field → List Word → An
 fields_behind r p before words =
     if begins terminal.RightBrace words then read before words
     else and_then (read_field r p words) (λ f behind.
-        if begins terminal.Comma behind || begins terminal.Semicolon behind then
-            and_then (taken p behind) (λ _ rest. r.fields p (before ++ f ∷ []) rest)
-        else read (before ++ f ∷ []) behind)
+    if begins terminal.Comma behind || begins terminal.Semicolon behind then
+    and_then (taken p behind) (λ _ rest. r.fields p (before ++ f ∷ []) rest)
+    else read (before ++ f ∷ []) behind)
 
 abbrev pub read_table : Readers → Place → List Word → Answer (List Field)
 read_table r p words =
@@ -384,9 +384,9 @@ read_operand r p (Some op) words =
 abbrev pub concat_behind : Readers → Place → Exp → List Word → Answer Exp
 concat_behind r p left words =
     if begins terminal.DoubleDot words then
-        and_then (taken p words) (λ _ behind.
-        and_then (r.exp (within p) precedence.Concat behind) (λ right rest.
-            read (exp.Binary left (record { operator = binary.Concat; operand = right } ∷ [])) rest))
+    and_then (taken p words) (λ _ behind.
+    and_then (r.exp (within p) precedence.Concat behind) (λ right rest.
+    read (exp.Binary left (record { operator = binary.Concat; operand = right } ∷ [])) rest))
     else read left words
 
 abbrev pub operations_by : Readers → Place → Precedence → List Operation → Option BinaryOp → List Word → Answer (List Operation)
@@ -394,7 +394,7 @@ operations_by r p at before None words = read before words
 operations_by r p at before (Some op) words =
     and_then (taken p words) (λ _ behind.
     and_then (r.exp (within p) (tighter at) behind) (λ operand rest.
-        r.operations p at (before ++ record { operator = op; operand = operand } ∷ []) rest))
+    r.operations p at (before ++ record { operator = op; operand = operand } ∷ []) rest))
 
 -- {binop exp}
 abbrev pub operations_behind : Readers → Place → Precedence → List Operation → List Word → Answer (List Operation)
@@ -426,8 +426,8 @@ as_var (Some v) rest = read v rest
 abbrev pub vars_behind : Readers → Place → List Var → List Word → Answer (List Var)
 vars_behind r p before words =
     if begins terminal.Comma words then
-        and_then (taken p words) (λ _ second. and_then (read_prefix r p second) (λ found rest.
-        and_then (as_var (var_of found) rest) (λ v others. r.vars p (before ++ v ∷ []) others)))
+    and_then (taken p words) (λ _ second. and_then (read_prefix r p second) (λ found rest.
+    and_then (as_var (var_of found) rest) (λ v others. r.vars p (before ++ v ∷ []) others)))
     else read before words
 
 abbrev pub assignment_to : Readers → Place → Var → List Word → Answer StatKind
@@ -493,7 +493,7 @@ arms_behind r p before words =
 abbrev pub else_behind : Readers → Place → List Word → Answer (Option Block)
 else_behind r p words =
     if begins terminal.Else words then
-        and_then (taken p words) (λ _ inside. and_then (r.block (within p) inside) (λ body rest. read (Some body) rest))
+    and_then (taken p words) (λ _ inside. and_then (r.block (within p) inside) (λ body rest. read (Some body) rest))
     else read None words
 
 abbrev pub read_if : Readers → Place → List Word → Answer StatKind
@@ -507,7 +507,7 @@ read_if r p words =
 abbrev pub step_behind : Readers → Place → List Word → Answer (Option Exp)
 step_behind r p words =
     if begins terminal.Comma words then
-        and_then (taken p words) (λ _ second. and_then (r.exp p precedence.Or second) (λ value rest. read (Some value) rest))
+    and_then (taken p words) (λ _ second. and_then (r.exp p precedence.Or second) (λ value rest. read (Some value) rest))
     else read None words
 
 abbrev pub numeric_for_behind : Readers → Place → LocalName → List Word → Answer StatKind
@@ -587,7 +587,7 @@ abbrev pub stats_behind : Readers → Place → List Stat → List Word → Answ
 stats_behind r p before [] = read before []
 stats_behind r p before (o ∷ words) =
     if begins_statement o.is then
-        and_then (kind_at r p o.is (o ∷ words)) (λ kind rest. r.stats p (before ++ record { line = o.line; kind = kind } ∷ []) rest)
+    and_then (kind_at r p o.is (o ∷ words)) (λ kind rest. r.stats p (before ++ record { line = o.line; kind = kind } ∷ []) rest)
     else read before (o ∷ words)
 
 -- [;]
@@ -615,9 +615,9 @@ returned_behind r p words = if ends_returned words then read [] words else read_
 abbrev pub last_behind : Readers → Place → List Word → Answer (Option Return)
 last_behind r p words =
     if begins terminal.Return words then
-        and_then (taken p words) (λ o second.
-        and_then (returned_behind r p second) (λ values behind.
-        and_then (semicolon_behind p behind) (λ _ rest. read (Some (record { line = o.line; values = values })) rest)))
+    and_then (taken p words) (λ o second.
+    and_then (returned_behind r p second) (λ values behind.
+    and_then (semicolon_behind p behind) (λ _ rest. read (Some (record { line = o.line; values = values })) rest)))
     else read None words
 
 abbrev pub block_at : Readers → Place → List Word → Answer Block

@@ -1,5 +1,9 @@
 //! Which operators bind tighter than others.
 
+ghost use Rattle.std.specs.Prelude.{◌≡◌, ◌+◌, ◌<◌, nat_eq};
+ghost use Rattle.ntx_parse.specs.Grammar as grammar;
+ghost use Rattle.ntx_parse.specs.Reading as reading;
+
 /// The precedence of operators (Lua 5.3 Reference Manual, section 3.4.8), from the one that binds least.
 #[derive(Clone, Copy, Debug, PartialEq, Eq)]
 pub enum Precedence {
@@ -25,4 +29,57 @@ pub enum Precedence {
     Multiplicative,
     /// `not`, `#`, and `-` and `~` before an operand
     Unary,
+}
+
+/// The next tighter precedence.
+pub fn tighter(precedence: Precedence) -> Precedence
+    ensures { result ≡ grammar.tighter precedence }
+{
+    match precedence {
+        Precedence::Or => Precedence::And,
+        Precedence::And => Precedence::Comparison,
+        Precedence::Comparison => Precedence::BitOr,
+        Precedence::BitOr => Precedence::BitXor,
+        Precedence::BitXor => Precedence::BitAnd,
+        Precedence::BitAnd => Precedence::Shift,
+        Precedence::Shift => Precedence::Concat,
+        Precedence::Concat => Precedence::Additive,
+        Precedence::Additive => Precedence::Multiplicative,
+        Precedence::Multiplicative | Precedence::Unary => Precedence::Unary,
+    }
+}
+
+/// The next looser precedence.
+pub fn looser(precedence: Precedence) -> Precedence
+    requires { 0 < reading.rank precedence }
+    ensures tighter { grammar.tighter result ≡ precedence }
+    ensures rank { reading.rank result + 1 ≡ reading.rank precedence }
+{
+    match precedence {
+        Precedence::Or => unreachable!(),
+        Precedence::And => Precedence::Or,
+        Precedence::Comparison => Precedence::And,
+        Precedence::BitOr => Precedence::Comparison,
+        Precedence::BitXor => Precedence::BitOr,
+        Precedence::BitAnd => Precedence::BitXor,
+        Precedence::Shift => Precedence::BitAnd,
+        Precedence::Concat => Precedence::Shift,
+        Precedence::Additive => Precedence::Concat,
+        Precedence::Multiplicative => Precedence::Additive,
+        Precedence::Unary => Precedence::Multiplicative,
+    }
+}
+
+/// The number of a precedence, from the one that binds least.
+fn rank(precedence: Precedence) -> u8
+    ensures { result ≡ reading.rank precedence }
+{
+    precedence as u8
+}
+
+/// Whether both are the same.
+pub fn is_same(left: Precedence, right: Precedence) -> bool
+    ensures { result ≡ nat_eq (reading.rank left) (reading.rank right) }
+{
+    rank(left) == rank(right)
 }

@@ -1,0 +1,70 @@
+-- What is taken of the words that a parser has.
+use Rattle.std.proofs.Common.{rules, arith, ◌≡◌, ◌<◌, ◌≤◌, ℕ, length, map, take, drop, List, [], ◌∷◌, refl, ap, ◌∙◌, sym, Err, Ok, Result, Some, None, slice_index_or, nat_le, ◌-◌, true, false}
+use Rattle.std.proofs.lemmas.Grind.{common_steps}
+use Rattle.ntx_num.specs.declared.answer.Fail.{Fail}
+use Rattle.ntx_num.specs.declared.answer.Fail.TheVariants.{NoMemory, Is}
+use Rattle.ntx_syntax.specs.declared.fault.SyntaxFault.{SyntaxFault}
+use Rattle.ntx_syntax.specs.declared.fault.SyntaxWhy.TheVariants as why
+use Rattle.ntx_parse.specs.declared.word.Word as code
+use Rattle.ntx_parse.specs.declared.place.Place.{Place}
+use Rattle.ntx_parse.specs.Words.{Word}
+use Rattle.ntx_parse.specs.Reading.{Stop, taken}
+use Rattle.ntx_parse.specs.Input.{Input, seen, line_of}
+use Rattle.ntx_parse.specs.Reads.{Reads}
+use Rattle.ntx_parse.proofs.ReadsLemmas.{at_once, stops_at_once}
+
+nothing_seen : (xs : List code.Word) → length xs < 1 → map seen xs ≡ []
+nothing_seen [] short = refl
+nothing_seen (x ∷ xs) short = absurd (omega (arith, short))
+
+some_seen : (xs : List code.Word) → 1 ≤ length xs → (o : Word) × (rest : List Word) × (map seen xs ≡ o ∷ rest)
+some_seen [] some = absurd (omega (arith, some))
+some_seen (x ∷ xs) some = (seen x, map seen xs, refl)
+
+take_all : (xs : List code.Word) (n : ℕ) → n ≡ length xs → take n xs ≡ xs
+take_all xs n is = rw is (search (rules, common_steps))
+
+pub first_seen : (xs : List code.Word) (d : code.Word) → 1 ≤ length xs
+    → map seen xs ≡ seen (slice_index_or xs 0 d) ∷ map seen (take (length xs - 1) (drop 1 xs))
+first_seen [] d some = absurd (omega (arith, some))
+first_seen (x ∷ xs) d some =
+    let all : take (length (x ∷ xs) - 1) xs ≡ xs = take_all xs (length (x ∷ xs) - 1) (grind arith) in
+    ap (λ others. seen x ∷ map seen others) (sym all)
+
+pub taken_nothing : (p : Place) {now : Input} (xs : List code.Word) {last : ℕ} {e : Fail SyntaxFault}
+    → record { words = map seen xs; last_line = last } ≡ now → length xs < 1
+    → e ≡ Is (record { line = line_of now.last_line now.words; why = why.Expected }) → Reads (λ _. taken p now.words) now (Err e) now
+taken_nothing p {now = now} xs is short fault =
+    let none : now.words ≡ [] = sym (ap (λ i. i.words) is) ∙ nothing_seen xs short in
+    let same : taken p now.words ≡ taken p [] = ap (taken p) none in
+    let stop : Stop = record { why = why.Expected; words = [] } in
+    let line : line_of now.last_line now.words ≡ line_of now.last_line [] = ap (line_of now.last_line) none in
+    rw fault (stops_at_once {old = now} {new = now} stop same (ap (λ l. record { line = l; why = why.Expected }) line))
+
+taken_too_deep : (p : Place) (words : List Word) (o : Word) (rest : List Word) → words ≡ o ∷ rest → 200 < p.nesting
+    → taken p words ≡ Some (Err (record { why = why.Depth; words = words }))
+taken_too_deep p words o rest is deep =
+    let above : nat_le p.nesting 200 ≡ false = search (rules, arith) in
+    rw is (rw above refl)
+
+taken_one : (p : Place) (words : List Word) (o : Word) (rest : List Word) → words ≡ o ∷ rest → p.nesting ≤ 200
+    → taken p words ≡ Some (Ok (o, rest))
+taken_one p words o rest is fits =
+    let within : nat_le p.nesting 200 ≡ true = search (rules, arith) in
+    rw is (rw within refl)
+
+pub taken_deep : (p : Place) {now : Input} (xs : List code.Word) {last : ℕ} {e : Fail SyntaxFault}
+    → record { words = map seen xs; last_line = last } ≡ now → 1 ≤ length xs → 200 < p.nesting
+    → e ≡ Is (record { line = line_of now.last_line now.words; why = why.Depth }) → Reads (λ _. taken p now.words) now (Err e) now
+taken_deep p {now = now} xs is some deep fault =
+    let parts = some_seen xs some in
+    let words : now.words ≡ parts.0 ∷ parts.1 = sym (ap (λ i. i.words) is) ∙ parts.2 in
+    rw fault (stops_at_once {old = now} {new = now} _ (taken_too_deep p now.words _ _ words deep) refl)
+
+pub taken_word : (p : Place) {now new : Input} (xs : List code.Word) (o : Word) {last : ℕ}
+    → record { words = map seen xs; last_line = last } ≡ now → p.nesting ≤ 200
+    → map seen xs ≡ o ∷ new.words → new.last_line ≡ last → Reads (λ _. taken p now.words) now (Ok o) new
+taken_word p {now = now} {new = new} xs o is fits parts line =
+    let words : now.words ≡ o ∷ new.words = sym (ap (λ i. i.words) is) ∙ parts in
+    let longer : length now.words ≡ length (o ∷ new.words) = ap length words in
+    at_once (taken_one p now.words o new.words words fits) (line ∙ ap (λ i. i.last_line) is) (grind (arith, longer))

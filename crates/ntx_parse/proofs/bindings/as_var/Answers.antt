@@ -1,0 +1,9 @@
+use Rattle.std.proofs.Common.{refl, ap, ◌∙◌, sym}
+use Rattle.ntx_parse.proofs.ReadsLemmas.{ok, err_by, no_memory_by, done, later, when, unless, with_equal, stops_at_once}
+use Rattle.ntx_parse.proofs.bindings.as_var.Goals as goal
+
+pub returns-in-Some : goal.returns-in-Some
+returns-in-Some c = rw c.in-Some.is done
+
+pub returns-in-None : goal.returns-in-None
+returns-in-None c = rw (c.in-None.is, c.fault.ensures) (stops_at_once _ refl refl)

@@ -1,0 +1,16 @@
+use Rattle.std.proofs.Common.{List, ℕ, length, [], ◌∷◌, Result}
+use Rattle.ntx_num.specs.declared.answer.Fail.{Fail}
+use Rattle.ntx_syntax.specs.declared.fault.SyntaxFault.{SyntaxFault}
+use Rattle.ntx_syntax.specs.declared.tree.LocalName.{LocalName}
+use Rattle.ntx_parse.specs.Reading.{readers}
+use Rattle.ntx_parse.specs.Input.{Input}
+use Rattle.ntx_parse.specs.Reads.{Reads}
+use Rattle.ntx_parse.proofs.names.names_behind.Given as goal
+
+-- what is read from here on is what is read from the start
+abbrev pub invariant-loop-alloc : goal.invariant-loop-alloc
+invariant-loop-alloc l = (r : Result (List LocalName) (Fail SyntaxFault)) (new : Input)
+    → Reads (λ n. (readers n).names l.place l.names l.parser.words) l.parser r new → Reads (λ n. (readers n).names l.place (l.fn.first ∷ []) l.fn.parser.words) l.fn.parser r new
+
+abbrev pub decreases-loop-alloc : goal.decreases-loop-alloc
+decreases-loop-alloc l = length l.parser.words

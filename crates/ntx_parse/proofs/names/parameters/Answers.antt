@@ -1,0 +1,28 @@
+use Rattle.std.proofs.Common.{refl, ap, ◌∙◌, sym}
+use Rattle.ntx_parse.proofs.ReadsLemmas.{ok, err_by, no_memory_by, done, later, when, unless, with_equal, stops_at_once}
+use Rattle.ntx_parse.proofs.names.parameters.Goals as goal
+
+pub returns-in_err-expected-clause-reads : goal.returns-in_err-expected-clause-reads
+returns-in_err-expected-clause-reads c = err_by _ _ c.from_residual.ensures.1 c.in_err-expected.ensures.reads
+
+pub returns-in_err-taken-clause-reads : goal.returns-in_err-taken-clause-reads
+returns-in_err-taken-clause-reads c =
+    ok _ c.in_ok-expected.ensures.reads (when _ (sym c.begins.ensures ∙ c.if-begins.true) (err_by _ _ c.from_residual-in_err-taken.ensures.1 c.in_err-taken.ensures.reads))
+
+pub returns-then-begins-clause-reads : goal.returns-then-begins-clause-reads
+returns-then-begins-clause-reads c =
+    ok _ c.in_ok-expected.ensures.reads (when _ (sym c.begins.ensures ∙ c.if-begins.true) (ok _ c.in_ok-taken.ensures.reads (rw c.new.ensures done)))
+
+pub returns-in_err-names-clause-reads : goal.returns-in_err-names-clause-reads
+returns-in_err-names-clause-reads c =
+    ok _ c.in_ok-expected.ensures.reads (unless _ (sym c.begins.ensures ∙ c.if-begins.false) (err_by _ _ c.from_residual-in_err-names.ensures.1 c.in_err-names.ensures))
+
+pub returns-in_err-expected-2-clause-reads : goal.returns-in_err-expected-2-clause-reads
+returns-in_err-expected-2-clause-reads c =
+    ok _ c.in_ok-expected.ensures.reads (unless _ (sym c.begins.ensures ∙ c.if-begins.false)
+    (ok _ c.in_ok-names.ensures (err_by _ _ c.from_residual-in_err-expected-2.ensures.1 c.in_err-expected-2.ensures.reads)))
+
+pub returns-clause-reads : goal.returns-clause-reads
+returns-clause-reads c =
+    ok _ c.in_ok-expected.ensures.reads (unless _ (sym c.begins.ensures ∙ c.if-begins.false)
+    (ok _ c.in_ok-names.ensures (ok _ c.in_ok-expected-2.ensures.reads done)))

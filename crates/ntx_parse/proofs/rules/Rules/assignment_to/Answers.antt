@@ -1,0 +1,16 @@
+use Rattle.std.proofs.Common.{arith, refl, ap, ◌∙◌, sym, [], ◌∷◌, ◌++◌}
+use Rattle.ntx_parse.specs.Reading.{readers}
+use Rattle.ntx_parse.proofs.ReadsLemmas.{ok, err_by, no_memory_by, done, later, when, unless, with_equal, stops_at_once, shorter_of, stays_shorter, line_kept}
+use Rattle.ntx_parse.proofs.rules.Rules.assignment_to.Goals as goal
+
+pub returns-in_err-vars : goal.returns-in_err-vars
+returns-in_err-vars g c = err_by _ _ c.from_residual.ensures.1 c.in_err-vars.ensures
+
+pub returns-in_err-expected : goal.returns-in_err-expected
+returns-in_err-expected g c = ok _ c.in_ok-vars.ensures (err_by _ _ c.from_residual-in_err-expected.ensures.1 c.in_err-expected.ensures.reads)
+
+pub returns-in_err-values : goal.returns-in_err-values
+returns-in_err-values g c = ok _ c.in_ok-vars.ensures (ok _ c.in_ok-expected.ensures.reads (err_by _ _ c.from_residual-in_err-values.ensures.1 c.in_err-values.ensures))
+
+pub returns : goal.returns
+returns g c = ok _ c.in_ok-vars.ensures (ok _ c.in_ok-expected.ensures.reads (ok _ c.in_ok-values.ensures (done)))

@@ -1,0 +1,13 @@
+use Rattle.std.proofs.Common.{arith, refl, ap, ◌∙◌, sym, [], ◌∷◌, ◌++◌}
+use Rattle.ntx_parse.specs.Reading.{readers}
+use Rattle.ntx_parse.proofs.ReadsLemmas.{ok, err_by, no_memory_by, done, later, when, unless, with_equal, stops_at_once, shorter_of, stays_shorter, line_kept}
+use Rattle.ntx_parse.proofs.rules.Rules.block_to_end.Goals as goal
+
+pub returns-in_err-body : goal.returns-in_err-body
+returns-in_err-body g c = err_by _ _ c.from_residual.ensures.1 c.in_err-body.ensures
+
+pub returns-in_err-expected : goal.returns-in_err-expected
+returns-in_err-expected g c = ok _ c.in_ok-body.ensures (err_by _ _ c.from_residual-in_err-expected.ensures.1 c.in_err-expected.ensures.reads)
+
+pub returns : goal.returns
+returns g c = ok _ c.in_ok-body.ensures (ok _ c.in_ok-expected.ensures.reads (done))

@@ -1,0 +1,16 @@
+use Rattle.std.proofs.Common.{arith, refl, ap, ◌∙◌, sym, [], ◌∷◌, ◌++◌}
+use Rattle.ntx_parse.specs.Reading.{readers}
+use Rattle.ntx_parse.proofs.ReadsLemmas.{ok, err_by, no_memory_by, done, later, when, unless, with_equal, stops_at_once, shorter_of, stays_shorter, line_kept}
+use Rattle.ntx_parse.proofs.rules.Rules.body.Goals as goal
+
+pub returns-in_err-parameters : goal.returns-in_err-parameters
+returns-in_err-parameters g c = rw (sym c.within.ensures.is) (err_by _ _ c.from_residual.ensures.1 c.in_err-parameters.ensures.reads)
+
+pub returns-in_err-block : goal.returns-in_err-block
+returns-in_err-block g c = rw (sym c.within.ensures.is) (ok _ c.in_ok-parameters.ensures.reads (rw (sym c.within_function.ensures.is) (err_by _ _ c.from_residual-in_err-block.ensures.1 c.in_err-block.ensures)))
+
+pub returns-in_err-expected : goal.returns-in_err-expected
+returns-in_err-expected g c = rw (sym c.within.ensures.is) (ok _ c.in_ok-parameters.ensures.reads (rw (sym c.within_function.ensures.is) (ok _ c.in_ok-block.ensures (err_by _ _ c.from_residual-in_err-expected.ensures.1 c.in_err-expected.ensures.reads))))
+
+pub returns : goal.returns
+returns g c = rw (sym c.within.ensures.is) (ok _ c.in_ok-parameters.ensures.reads (rw (sym c.within_function.ensures.is) (ok _ c.in_ok-block.ensures (ok _ c.in_ok-expected.ensures.reads (done)))))

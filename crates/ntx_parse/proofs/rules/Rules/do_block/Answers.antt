@@ -1,0 +1,16 @@
+use Rattle.std.proofs.Common.{arith, refl, ap, ◌∙◌, sym, [], ◌∷◌, ◌++◌}
+use Rattle.ntx_parse.specs.Reading.{readers}
+use Rattle.ntx_parse.proofs.ReadsLemmas.{ok, err_by, no_memory_by, done, later, when, unless, with_equal, stops_at_once, shorter_of, stays_shorter, line_kept}
+use Rattle.ntx_parse.proofs.rules.Rules.do_block.Goals as goal
+
+pub returns-in_err-taken-clause-reads : goal.returns-in_err-taken-clause-reads
+returns-in_err-taken-clause-reads g c = err_by _ _ c.from_residual.ensures.1 c.in_err-taken.ensures.reads
+
+pub returns-in_err-body-clause-reads : goal.returns-in_err-body-clause-reads
+returns-in_err-body-clause-reads g c = ok _ c.in_ok-taken.ensures.reads (rw (sym c.within.ensures.is) (err_by _ _ c.from_residual-in_err-body.ensures.1 c.in_err-body.ensures))
+
+pub returns-clause-reads : goal.returns-clause-reads
+returns-clause-reads g c = ok _ c.in_ok-taken.ensures.reads (rw (sym c.within.ensures.is) (ok _ c.in_ok-body.ensures (done)))
+
+pub returns-clause-shorter : goal.returns-clause-shorter
+returns-clause-shorter g c = omega (arith, c.in_ok-taken.ensures.shorter, shorter_of c.in_ok-body.ensures)

@@ -1,0 +1,16 @@
+use Rattle.std.proofs.Common.{List, ℕ, length, [], ◌∷◌, Result}
+use Rattle.ntx_num.specs.declared.answer.Fail.{Fail}
+use Rattle.ntx_syntax.specs.declared.fault.SyntaxFault.{SyntaxFault}
+use Rattle.ntx_syntax.specs.declared.tree.Exp.{Exp}
+use Rattle.ntx_parse.specs.Reading.{readers}
+use Rattle.ntx_parse.specs.Input.{Input}
+use Rattle.ntx_parse.specs.Reads.{Reads}
+use Rattle.ntx_parse.proofs.rules.Rules.exps_behind.Given as goal
+
+-- what is read from here on is what is read from the start
+abbrev pub invariant-loop-place : goal.invariant-loop-place
+invariant-loop-place g l = (r : Result (List Exp) (Fail SyntaxFault)) (new : Input)
+    → Reads (λ n. (readers n).exps l.place l.exps l.parser.words) l.parser r new → Reads (λ n. (readers n).exps l.place (l.fn.first ∷ []) l.fn.parser.words) l.fn.parser r new
+
+abbrev pub decreases-loop-place : goal.decreases-loop-place
+decreases-loop-place g l = length l.parser.words

@@ -1,0 +1,22 @@
+use Rattle.std.proofs.Common.{arith, refl, ap, ◌∙◌, sym, [], ◌∷◌, ◌++◌}
+use Rattle.ntx_parse.specs.Reading.{readers}
+use Rattle.ntx_parse.proofs.ReadsLemmas.{ok, err_by, no_memory_by, done, later, when, unless, with_equal, stops_at_once, shorter_of, stays_shorter, line_kept}
+use Rattle.ntx_parse.proofs.rules.Rules.if_stat.Goals as goal
+
+pub returns-in_err-first-clause-reads : goal.returns-in_err-first-clause-reads
+returns-in_err-first-clause-reads g c = err_by _ _ c.from_residual.ensures.1 c.in_err-first.ensures.reads
+
+pub returns-in_err-arms-clause-reads : goal.returns-in_err-arms-clause-reads
+returns-in_err-arms-clause-reads g c = ok _ c.in_ok-first.ensures.reads (err_by _ _ c.from_residual-in_err-arms.ensures.1 c.in_err-arms.ensures)
+
+pub returns-in_err-other-clause-reads : goal.returns-in_err-other-clause-reads
+returns-in_err-other-clause-reads g c = ok _ c.in_ok-first.ensures.reads (ok _ c.in_ok-arms.ensures (err_by _ _ c.from_residual-in_err-other.ensures.1 c.in_err-other.ensures))
+
+pub returns-in_err-expected-clause-reads : goal.returns-in_err-expected-clause-reads
+returns-in_err-expected-clause-reads g c = ok _ c.in_ok-first.ensures.reads (ok _ c.in_ok-arms.ensures (ok _ c.in_ok-other.ensures (err_by _ _ c.from_residual-in_err-expected.ensures.1 c.in_err-expected.ensures.reads)))
+
+pub returns-clause-reads : goal.returns-clause-reads
+returns-clause-reads g c = ok _ c.in_ok-first.ensures.reads (ok _ c.in_ok-arms.ensures (ok _ c.in_ok-other.ensures (ok _ c.in_ok-expected.ensures.reads (done))))
+
+pub returns-clause-shorter : goal.returns-clause-shorter
+returns-clause-shorter g c = omega (arith, c.in_ok-first.ensures.shorter, shorter_of c.in_ok-arms.ensures, shorter_of c.in_ok-other.ensures, c.in_ok-expected.ensures.shorter)

@@ -1,0 +1,19 @@
+use Rattle.std.proofs.Common.{arith, refl, ap, ◌∙◌, sym, [], ◌∷◌, ◌++◌}
+use Rattle.ntx_parse.specs.Reading.{readers}
+use Rattle.ntx_parse.proofs.ReadsLemmas.{ok, err_by, no_memory_by, done, later, when, unless, with_equal, stops_at_once, shorter_of, stays_shorter, line_kept}
+use Rattle.ntx_parse.proofs.rules.Rules.index.Goals as goal
+
+pub returns-in_err-expected-clause-reads : goal.returns-in_err-expected-clause-reads
+returns-in_err-expected-clause-reads g c = err_by _ _ c.from_residual.ensures.1 c.in_err-expected.ensures.reads
+
+pub returns-in_err-key-clause-reads : goal.returns-in_err-key-clause-reads
+returns-in_err-key-clause-reads g c = ok _ c.in_ok-expected.ensures.reads (err_by _ _ c.from_residual-in_err-key.ensures.1 c.in_err-key.ensures)
+
+pub returns-in_err-expected-2-clause-reads : goal.returns-in_err-expected-2-clause-reads
+returns-in_err-expected-2-clause-reads g c = ok _ c.in_ok-expected.ensures.reads (ok _ c.in_ok-key.ensures (err_by _ _ c.from_residual-in_err-expected-2.ensures.1 c.in_err-expected-2.ensures.reads))
+
+pub returns-clause-reads : goal.returns-clause-reads
+returns-clause-reads g c = ok _ c.in_ok-expected.ensures.reads (ok _ c.in_ok-key.ensures (ok _ c.in_ok-expected-2.ensures.reads (done)))
+
+pub returns-clause-shorter : goal.returns-clause-shorter
+returns-clause-shorter g c = omega (arith, c.in_ok-expected.ensures.shorter, shorter_of c.in_ok-key.ensures, c.in_ok-expected-2.ensures.shorter)

@@ -1,0 +1,16 @@
+use Rattle.std.proofs.Common.{arith, refl, ap, ◌∙◌, sym, [], ◌∷◌, ◌++◌}
+use Rattle.ntx_parse.specs.Reading.{readers}
+use Rattle.ntx_parse.proofs.ReadsLemmas.{ok, err_by, no_memory_by, done, later, when, unless, with_equal, stops_at_once, shorter_of, stays_shorter, line_kept}
+use Rattle.ntx_parse.proofs.rules.Rules.step_behind.Goals as goal
+
+pub returns-then-not-begins : goal.returns-then-not-begins
+returns-then-not-begins g c = unless _ (sym c.begins.ensures ∙ c.if-not-begins.true) (done)
+
+pub returns-in_err-taken : goal.returns-in_err-taken
+returns-in_err-taken g c = when _ (sym c.begins.ensures ∙ c.if-not-begins.false) (err_by _ _ c.from_residual.ensures.1 c.in_err-taken.ensures.reads)
+
+pub returns-in_err-value : goal.returns-in_err-value
+returns-in_err-value g c = when _ (sym c.begins.ensures ∙ c.if-not-begins.false) (ok _ c.in_ok-taken.ensures.reads (err_by _ _ c.from_residual-in_err-value.ensures.1 c.in_err-value.ensures))
+
+pub returns : goal.returns
+returns g c = when _ (sym c.begins.ensures ∙ c.if-not-begins.false) (ok _ c.in_ok-taken.ensures.reads (ok _ c.in_ok-value.ensures (done)))

@@ -1,0 +1,255 @@
+//! Expressions.
+
+ghost use Rattle.std.specs.Prelude.{◌≡◌, ◌≤◌, ◌<◌, ◌+◌, ◌*◌, length, [], ◌∷◌, Some, IfOk, OnOk};
+ghost use Rattle.ntx_syntax.specs.declared.tree.Exp.TheVariants as exp;
+ghost use Rattle.ntx_syntax.specs.declared.tree.BinaryOp.TheVariants as binary;
+ghost use Rattle.ntx_parse.specs.Grammar as grammar;
+ghost use Rattle.ntx_parse.specs.Nests.{Nests};
+ghost use Rattle.ntx_parse.specs.Reading as reading;
+ghost use Rattle.ntx_parse.specs.Reading.{readers};
+ghost use Rattle.ntx_parse.specs.Reads.{Reads};
+ghost use Rattle.ntx_parse.specs.Steps.{behind_at};
+
+use crate::names::parameters;
+use crate::parser::Parser;
+use crate::part::joined;
+use crate::place::{Place, within, within_function};
+use crate::precedence::{Precedence, is_same, looser, tighter};
+use crate::rules::Rules;
+use crate::terminal::Terminal;
+use ntx_num::Fail;
+use ntx_syntax::{BinaryOp, Block, Exp, FunctionBody, Operation, SyntaxFault, SyntaxWhy, UnaryOp};
+use sqlite_items::{Boxed, Items};
+use std::alloc::{AllocError, Global};
+
+/// A run of operators: one operand alone is itself.
+fn run_of(alloc: Global, first: Exp, others: Items<Operation>) -> Result<Exp, AllocError>
+    ensures { IfOk result (λ e. e ≡ grammar.run_of first others) }
+{
+    if others.is_empty() {
+        Ok(first)
+    } else {
+        Ok(Exp::Binary(Boxed::new(alloc, first)?, others))
+    }
+}
+
+/// `left .. right`
+fn concat_of(alloc: Global, left: Exp, right: Exp) -> Result<Exp, AllocError>
+    ensures { IfOk result (λ e. e ≡ exp.Binary left (record { operator = binary.Concat; operand = right } ∷ [])) }
+{
+    let mut operations = Items::new(alloc);
+    operations.push(Operation {
+        operator: BinaryOp::Concat,
+        operand: right,
+    })?;
+    Ok(Exp::Binary(Boxed::new(alloc, left)?, operations))
+}
+
+impl<
+    E: Fn(Global, &mut Parser<'_>, u64, Place, Precedence) -> Result<Exp, Fail<SyntaxFault>>,
+    B: Fn(Global, &mut Parser<'_>, u64, Place) -> Result<Block, Fail<SyntaxFault>>,
+> Rules<E, B> {
+    /// `exp`, whose own operators bind as tight as this precedence or tighter: an operand, and behind it the operators of
+    /// each precedence, from the tightest.
+    pub fn level(
+        &self,
+        parser: &mut Parser<'_>,
+        place: Place,
+        precedence: Precedence,
+    ) -> Result<Exp, Fail<SyntaxFault>>
+        requires nests { Nests self.now.depth (E.pre self.now.exp) (E.post self.now.exp) (B.pre self.now.block) (B.post self.now.block) }
+        requires shallow { place.nesting ≤ 201 }
+        requires room { 404 ≤ self.now.depth + 2 * place.nesting }
+        ensures { Reads (λ n. (readers n).exp place precedence parser.old.words) parser.old result parser.new }
+    {
+        let mut exp = self.operand(parser, place)?;
+        let mut reached = Precedence::Unary;
+        while !is_same(reached, precedence) {
+            reached = looser(reached);
+            exp = self.behind(parser, place, reached, exp)?;
+        }
+        Ok(exp)
+    }
+
+    /// The operators of this precedence and their operands, behind this expression of tighter ones.
+    fn behind(
+        &self,
+        parser: &mut Parser<'_>,
+        place: Place,
+        precedence: Precedence,
+        first: Exp,
+    ) -> Result<Exp, Fail<SyntaxFault>>
+        requires nests { Nests self.now.depth (E.pre self.now.exp) (E.post self.now.exp) (B.pre self.now.block) (B.post self.now.block) }
+        requires shallow { place.nesting ≤ 201 }
+        requires room { 404 ≤ self.now.depth + 2 * place.nesting }
+        requires binary { reading.rank precedence < 10 }
+        ensures { Reads (λ n. behind_at (readers n) place precedence first parser.old.words) parser.old result parser.new }
+    {
+        if is_same(precedence, Precedence::Concat) {
+            self.concat_behind(parser, place, first)
+        } else {
+            let others = self.operations_behind(parser, place, precedence)?;
+            Ok(run_of(self.alloc, first, others)?)
+        }
+    }
+
+    /// `unop exp`, or an expression without operators of its own.
+    fn operand(&self, parser: &mut Parser<'_>, place: Place) -> Result<Exp, Fail<SyntaxFault>>
+        requires nests { Nests self.now.depth (E.pre self.now.exp) (E.post self.now.exp) (B.pre self.now.block) (B.post self.now.block) }
+        requires shallow { place.nesting ≤ 201 }
+        requires room { 404 ≤ self.now.depth + 2 * place.nesting }
+        ensures { Reads (λ n. reading.read_operand (readers n) place (reading.sign_at parser.old.words) parser.old.words) parser.old result parser.new }
+    {
+        match parser.sign_at() {
+            None => self.simple(parser, place),
+            Some(operator) => self.unary(parser, place, operator),
+        }
+    }
+
+    /// `unop exp`, with this operator.
+    fn unary(
+        &self,
+        parser: &mut Parser<'_>,
+        place: Place,
+        operator: UnaryOp,
+    ) -> Result<Exp, Fail<SyntaxFault>>
+        requires nests { Nests self.now.depth (E.pre self.now.exp) (E.post self.now.exp) (B.pre self.now.block) (B.post self.now.block) }
+        requires shallow { place.nesting ≤ 201 }
+        requires room { 404 ≤ self.now.depth + 2 * place.nesting }
+        ensures { Reads (λ n. reading.read_operand (readers n) place (Some operator) parser.old.words) parser.old result parser.new }
+    {
+        parser.taken(place)?;
+        let operand = self.exp(parser, within(place), Precedence::Unary)?;
+        Ok(Exp::Unary(operator, Boxed::new(self.alloc, operand)?))
+    }
+
+    /// `[.. exp]`, behind this expression.
+    fn concat_behind(
+        &self,
+        parser: &mut Parser<'_>,
+        place: Place,
+        left: Exp,
+    ) -> Result<Exp, Fail<SyntaxFault>>
+        requires nests { Nests self.now.depth (E.pre self.now.exp) (E.post self.now.exp) (B.pre self.now.block) (B.post self.now.block) }
+        requires shallow { place.nesting ≤ 201 }
+        requires room { 404 ≤ self.now.depth + 2 * place.nesting }
+        ensures { Reads (λ n. reading.concat_behind (readers n) place left parser.old.words) parser.old result parser.new }
+    {
+        if !parser.begins(Terminal::DoubleDot) {
+            return Ok(left);
+        }
+        parser.taken(place)?;
+        let right = self.exp(parser, within(place), Precedence::Concat)?;
+        Ok(concat_of(self.alloc, left, right)?)
+    }
+
+    /// `{binop exp}`, with operators of this precedence.
+    fn operations_behind(
+        &self,
+        parser: &mut Parser<'_>,
+        place: Place,
+        precedence: Precedence,
+    ) -> Result<Items<Operation>, Fail<SyntaxFault>>
+        requires nests { Nests self.now.depth (E.pre self.now.exp) (E.post self.now.exp) (B.pre self.now.block) (B.post self.now.block) }
+        requires shallow { place.nesting ≤ 201 }
+        requires room { 404 ≤ self.now.depth + 2 * place.nesting }
+        ensures { Reads (λ n. (readers n).operations place precedence [] parser.old.words) parser.old result parser.new }
+    {
+        let mut operations = Items::new(self.alloc);
+        while let Some(operator) = parser.operator_at(precedence) {
+            parser.taken(place)?;
+            let operand = self.exp(parser, within(place), tighter(precedence))?;
+            operations.push(Operation { operator, operand })?;
+        }
+        Ok(operations)
+    }
+
+    /// An expression without operators of its own.
+    fn simple(&self, parser: &mut Parser<'_>, place: Place) -> Result<Exp, Fail<SyntaxFault>>
+        requires nests { Nests self.now.depth (E.pre self.now.exp) (E.post self.now.exp) (B.pre self.now.block) (B.post self.now.block) }
+        requires shallow { place.nesting ≤ 201 }
+        requires room { 404 ≤ self.now.depth + 2 * place.nesting }
+        ensures { Reads (λ n. reading.read_simple (readers n) place parser.old.words) parser.old result parser.new }
+    {
+        match parser.next() {
+            Some(Terminal::Nil) => {
+                parser.taken(place)?;
+                Ok(Exp::Nil)
+            }
+            Some(Terminal::False) => {
+                parser.taken(place)?;
+                Ok(Exp::False)
+            }
+            Some(Terminal::True) => {
+                parser.taken(place)?;
+                Ok(Exp::True)
+            }
+            Some(Terminal::Numeral) => parser.numeral(place),
+            Some(Terminal::Text) => parser.text(self.alloc, place),
+            Some(Terminal::Function) => {
+                parser.taken(place)?;
+                Ok(Exp::Function(self.body(parser, within(place))?))
+            }
+            Some(Terminal::LeftBrace) => Ok(Exp::Table(self.table(parser, within(place))?)),
+            Some(Terminal::Name | Terminal::LeftParenthesis) => {
+                let found = self.prefix(parser, place)?;
+                Ok(Exp::Prefix(joined(self.alloc, found)?))
+            }
+            _ => Err(parser.fault(SyntaxWhy::Expected)),
+        }
+    }
+
+    /// `exp {, exp}`
+    pub fn exps(
+        &self,
+        parser: &mut Parser<'_>,
+        place: Place,
+    ) -> Result<Items<Exp>, Fail<SyntaxFault>>
+        requires nests { Nests self.now.depth (E.pre self.now.exp) (E.post self.now.exp) (B.pre self.now.block) (B.post self.now.block) }
+        requires shallow { place.nesting ≤ 201 }
+        requires room { 405 ≤ self.now.depth + 2 * place.nesting }
+        ensures { Reads (λ n. reading.read_exps (readers n) place parser.old.words) parser.old result parser.new }
+    {
+        let first = self.exp(parser, place, Precedence::Or)?;
+        self.exps_behind(parser, place, first)
+    }
+
+    /// `{, exp}`, behind this expression, which is the first of the list.
+    fn exps_behind(
+        &self,
+        parser: &mut Parser<'_>,
+        place: Place,
+        first: Exp,
+    ) -> Result<Items<Exp>, Fail<SyntaxFault>>
+        requires nests { Nests self.now.depth (E.pre self.now.exp) (E.post self.now.exp) (B.pre self.now.block) (B.post self.now.block) }
+        requires shallow { place.nesting ≤ 201 }
+        requires room { 405 ≤ self.now.depth + 2 * place.nesting }
+        ensures { Reads (λ n. (readers n).exps place (first ∷ []) parser.old.words) parser.old result parser.new }
+    {
+        let mut exps = Items::new(self.alloc);
+        exps.push(first)?;
+        while parser.begins(Terminal::Comma) {
+            parser.taken(place)?;
+            exps.push(self.exp(parser, place, Precedence::Or)?)?;
+        }
+        Ok(exps)
+    }
+
+    /// `( [namelist] ) block end`, at the place of the body, which is counted already. The part in parentheses and the block
+    /// are each one deeper.
+    pub fn body(
+        &self,
+        parser: &mut Parser<'_>,
+        place: Place,
+    ) -> Result<FunctionBody, Fail<SyntaxFault>>
+        requires nests { Nests self.now.depth (E.pre self.now.exp) (E.post self.now.exp) (B.pre self.now.block) (B.post self.now.block) }
+        requires shallow { place.nesting ≤ 202 }
+        requires room { 405 ≤ self.now.depth + 2 * place.nesting }
+        ensures { Reads (λ n. reading.read_body (readers n) place parser.old.words) parser.old result parser.new }
+    {
+        let parameters = parameters(self.alloc, parser, within(place))?;
+        let block = self.block(parser, within_function(place))?;
+        parser.expected(place, Terminal::End)?;
+        Ok(FunctionBody { parameters, block })
+    }
+}

@@ -1,0 +1,84 @@
+//! Tables.
+
+ghost use Rattle.std.specs.Prelude.{◌≡◌, ◌≤◌, ◌<◌, ◌+◌, ◌*◌, length, [], ◌∷◌, Some, OnOk};
+ghost use Rattle.ntx_parse.specs.Nests.{Nests};
+ghost use Rattle.ntx_parse.specs.Reading as reading;
+ghost use Rattle.ntx_parse.specs.Reading.{readers};
+ghost use Rattle.ntx_parse.specs.Reads.{Reads};
+
+use crate::parser::Parser;
+use crate::place::{Place, within};
+use crate::precedence::Precedence;
+use crate::rules::Rules;
+use crate::terminal::Terminal;
+use ntx_num::Fail;
+use ntx_syntax::{Block, Exp, Field, SyntaxFault};
+use sqlite_items::Items;
+use std::alloc::Global;
+
+impl<
+    E: Fn(Global, &mut Parser<'_>, u64, Place, Precedence) -> Result<Exp, Fail<SyntaxFault>>,
+    B: Fn(Global, &mut Parser<'_>, u64, Place) -> Result<Block, Fail<SyntaxFault>>,
+> Rules<E, B> {
+    /// `{ [field {(,|;) field} [,|;]] }`, at the place of the braces.
+    pub fn table(
+        &self,
+        parser: &mut Parser<'_>,
+        place: Place,
+    ) -> Result<Items<Field>, Fail<SyntaxFault>>
+        requires nests { Nests self.now.depth (E.pre self.now.exp) (E.post self.now.exp) (B.pre self.now.block) (B.post self.now.block) }
+        requires shallow { place.nesting ≤ 202 }
+        requires room { 405 ≤ self.now.depth + 2 * place.nesting }
+        ensures { Reads (λ n. reading.read_table (readers n) place parser.old.words) parser.old result parser.new }
+    {
+        parser.expected(place, Terminal::LeftBrace)?;
+        let fields = self.fields(parser, place)?;
+        parser.expected(place, Terminal::RightBrace)?;
+        Ok(fields)
+    }
+
+    /// `[field {(,|;) field} [,|;]]`, up to the closing brace.
+    fn fields(
+        &self,
+        parser: &mut Parser<'_>,
+        place: Place,
+    ) -> Result<Items<Field>, Fail<SyntaxFault>>
+        requires nests { Nests self.now.depth (E.pre self.now.exp) (E.post self.now.exp) (B.pre self.now.block) (B.post self.now.block) }
+        requires shallow { place.nesting ≤ 201 }
+        requires room { 405 ≤ self.now.depth + 2 * place.nesting }
+        ensures { Reads (λ n. (readers n).fields place [] parser.old.words) parser.old result parser.new }
+    {
+        let mut fields = Items::new(self.alloc);
+        while !parser.begins(Terminal::RightBrace) {
+            fields.push(self.field(parser, place)?)?;
+            if !parser.begins_separator() {
+                return Ok(fields);
+            }
+            parser.taken(place)?;
+        }
+        Ok(fields)
+    }
+
+    /// `[ exp ] = exp`, `Name = exp` or `exp`.
+    fn field(&self, parser: &mut Parser<'_>, place: Place) -> Result<Field, Fail<SyntaxFault>>
+        requires nests { Nests self.now.depth (E.pre self.now.exp) (E.post self.now.exp) (B.pre self.now.block) (B.post self.now.block) }
+        requires shallow { place.nesting ≤ 201 }
+        requires room { 405 ≤ self.now.depth + 2 * place.nesting }
+        ensures { Reads (λ n. reading.read_field (readers n) place parser.old.words) parser.old result parser.new }
+    {
+        if parser.begins(Terminal::LeftBracket) {
+            let key = self.index(parser, within(place))?;
+            parser.expected(place, Terminal::Assign)?;
+            let value = self.exp(parser, place, Precedence::Or)?;
+            Ok(Field::Keyed(key, value))
+        } else if parser.names_a_field() {
+            let name = parser.name(self.alloc, place)?;
+            parser.expected(place, Terminal::Assign)?;
+            let value = self.exp(parser, place, Precedence::Or)?;
+            Ok(Field::Named(name, value))
+        } else {
+            let value = self.exp(parser, place, Precedence::Or)?;
+            Ok(Field::Positional(value))
+        }
+    }
+}
