@@ -7,6 +7,7 @@ use Rattle.ntx_syntax.specs.declared.tree.Stat.{Stat}
 use Rattle.ntx_syntax.specs.declared.tree.StatKind.{StatKind}
 use Rattle.ntx_parse.specs.declared.part.Part.{Part}
 use Rattle.ntx_parse.specs.declared.part.Tail.{Tail}
+use Rattle.ntx_parse.specs.declared.part.Tail.TheVariants as tail
 use Rattle.ntx_parse.specs.declared.place.Place.{Place}
 use Rattle.ntx_parse.specs.declared.precedence.Precedence.{Precedence}
 use Rattle.ntx_parse.specs.declared.precedence.Precedence.TheVariants as precedence
@@ -14,8 +15,8 @@ use Rattle.ntx_parse.specs.declared.terminal.Terminal.{Terminal}
 use Rattle.ntx_parse.specs.declared.terminal.Terminal.TheVariants as terminal
 use Rattle.ntx_syntax.specs.declared.fault.SyntaxWhy.TheVariants as why
 use Rattle.ntx_parse.specs.Words.{Word}
-use Rattle.ntx_parse.specs.Grammar.{tighter, run_of}
-use Rattle.ntx_parse.specs.Reading.{Answer, Readers, and_then, read, stopped, begins, begins_statement, kind_at, stats_behind, suffixes_behind, joined, simple_at, read_simple, rank, readers, concat_behind, read_expression_statement}
+use Rattle.ntx_parse.specs.Grammar.{within, tighter, run_of}
+use Rattle.ntx_parse.specs.Reading.{Answer, Readers, and_then, read, stopped, begins, begins_statement, kind_at, stats_behind, suffixes_behind, joined, simple_at, read_simple, taken, read_name, read_index, read_arguments, rank, readers, concat_behind, read_expression_statement}
 use Rattle.ntx_parse.specs.Input.{Input, next_of, statement_at}
 use Rattle.ntx_parse.specs.Steps.{behind_at, tail_at, extended}
 use Rattle.ntx_parse.specs.Reads.{Reads}
@@ -27,9 +28,9 @@ none_not_some is = cc
 some_injective : {X : Type 0} {x y : X} → Some x ≡ Some y → x ≡ y
 some_injective is = cc
 
-no_test : {X : Type 0} (b : Bool) {x : X} → (if b then Some x else None) ≡ None → b ≡ false
-no_test true is = absurd (none_not_some (sym is))
-no_test false is = refl
+no_test : {X : Type 0} (b : Bool) (x : X) → (if b then Some x else None) ≡ None → b ≡ false
+no_test true x is = absurd (none_not_some (sym is))
+no_test false x is = refl
 
 by_test : {X : Type 0} (b : Bool) {x y : X} → (if b then Some x else None) ≡ Some y → (b ≡ true) × (Some x ≡ Some y)
 by_test true is = (refl, is)
@@ -45,7 +46,7 @@ stat_by r p before (o ∷ words) t line is =
 
 pub stats_end : (r : Readers) (p : Place) (before : List Stat) (words : List Word) → statement_at words ≡ None → stats_behind r p before words ≡ read before words
 stats_end r p before [] is = refl
-stats_end r p before (o ∷ words) is = rw (no_test (begins_statement o.is) is) refl
+stats_end r p before (o ∷ words) is = rw (no_test (begins_statement o.is) (o.is, o.line) is) refl
 
 assoc : {A B C : Type 0} (a : Answer A) (f : A → B) (next : B → List Word → Answer C)
     → and_then (and_then a (λ x rest. read (f x) rest)) next ≡ and_then a (λ x rest. next (f x) rest)
@@ -58,6 +59,35 @@ assoc_twice : {A B C D : Type 0} (a : Answer A) (g : A → List Word → Answer 
 assoc_twice None g f next = refl
 assoc_twice (Some (Err stop)) g f next = refl
 assoc_twice (Some (Ok found)) g f next = assoc (g found.0 found.1) f next
+
+pick : {A B : Type 0} (b1 b2 b3 : Bool) (x y z w : Answer B) (t1 t2 t3 : Answer A) (next : A → List Word → Answer B)
+    → x ≡ and_then t1 next → y ≡ and_then t2 next → z ≡ and_then t3 next → (b1 || b2 || b3) ≡ true
+    → (if b1 then x else if b2 then y else if b3 then z else w) ≡ and_then (if b1 then t1 else if b2 then t2 else t3) next
+pick true b2 b3 x y z w t1 t2 t3 next e1 e2 e3 is = e1
+pick false true b3 x y z w t1 t2 t3 next e1 e2 e3 is = e2
+pick false false true x y z w t1 t2 t3 next e1 e2 e3 is = e3
+pick false false false x y z w t1 t2 t3 next e1 e2 e3 is = absurd (cc)
+
+pick_none : {B : Type 0} (b1 b2 b3 : Bool) (x y z w : Answer B) → (b1 || b2 || b3) ≡ false → (if b1 then x else if b2 then y else if b3 then z else w) ≡ w
+pick_none true b2 b3 x y z w is = absurd (cc)
+pick_none false true b3 x y z w is = absurd (cc)
+pick_none false false true x y z w is = absurd (cc)
+pick_none false false false x y z w is = refl
+
+pub suffix_by : (r : Readers) (p : Place) (before : Part) (words : List Word)
+    → (begins terminal.LeftBracket words || begins terminal.Dot words || begins terminal.LeftParenthesis words) ≡ true
+    → suffixes_behind r p before words ≡ and_then (tail_at r p words) (λ t rest. r.suffixes p (extended before t) rest)
+suffix_by r p before words is =
+    let next : Tail → List Word → Answer Part = λ t rest. r.suffixes p (extended before t) rest in
+    pick (begins terminal.LeftBracket words) (begins terminal.Dot words) (begins terminal.LeftParenthesis words) _ _ _ _ _ _ _ next
+        (sym (assoc (read_index r (within p) words) tail.Index next))
+        (sym (assoc_twice (taken p words) (λ _ behind. read_name p behind) tail.Field next))
+        (sym (assoc (read_arguments r (within p) words) tail.Call next)) is
+
+pub suffix_end : (r : Readers) (p : Place) (before : Part) (words : List Word)
+    → (begins terminal.LeftBracket words || begins terminal.Dot words || begins terminal.LeftParenthesis words) ≡ false
+    → suffixes_behind r p before words ≡ read before words
+suffix_end r p before words is = pick_none (begins terminal.LeftBracket words) (begins terminal.Dot words) (begins terminal.LeftParenthesis words) _ _ _ _ is
 
 pub kind_other : (r : Readers) (p : Place) (t : Terminal) (words : List Word)
     → t ≢ terminal.Semicolon → t ≢ terminal.Break → t ≢ terminal.Do → t ≢ terminal.While → t ≢ terminal.Repeat → t ≢ terminal.If → t ≢ terminal.For → t ≢ terminal.Function → t ≢ terminal.Local
