@@ -80,9 +80,9 @@ pub suffix_by : (r : Readers) (p : Place) (before : Part) (words : List Word)
 suffix_by r p before words is =
     let next : Tail → List Word → Answer Part = λ t rest. r.suffixes p (extended before t) rest in
     pick (begins terminal.LeftBracket words) (begins terminal.Dot words) (begins terminal.LeftParenthesis words) _ _ _ _ _ _ _ next
-        (sym (assoc (read_index r (within p) words) tail.Index next))
-        (sym (assoc_twice (taken p words) (λ _ behind. read_name p behind) tail.Field next))
-        (sym (assoc (read_arguments r (within p) words) tail.Call next)) is
+    (sym (assoc (read_index r (within p) words) tail.Index next))
+    (sym (assoc_twice (taken p words) (λ _ behind. read_name p behind) tail.Field next))
+    (sym (assoc (read_arguments r (within p) words) tail.Call next)) is
 
 pub suffix_end : (r : Readers) (p : Place) (before : Part) (words : List Word)
     → (begins terminal.LeftBracket words || begins terminal.Dot words || begins terminal.LeftParenthesis words) ≡ false

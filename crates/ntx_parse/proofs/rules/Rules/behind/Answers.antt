@@ -14,7 +14,7 @@ returns-then-is_same g c =
 pub returns-in_err-others : goal.returns-in_err-others
 returns-in_err-others g c =
     same (λ n. behind_others (readers n) c.args.place c.args.precedence c.args.first c.args.parser.now.words
-        (unequal_numbers _ _ (sym c.is_same.ensures ∙ c.if-is_same.false)) c.requires.binary)
+    (unequal_numbers _ _ (sym c.is_same.ensures ∙ c.if-is_same.false)) c.requires.binary)
     (err_by _ _ c.from_residual.ensures.1 c.in_err-others.ensures)
 
 pub returns-in_err-run_of : goal.returns-in_err-run_of
@@ -23,5 +23,5 @@ returns-in_err-run_of g c = no_memory_by _ c.from_residual-in_err-run_of.ensures
 pub returns-in_ok-run_of : goal.returns-in_ok-run_of
 returns-in_ok-run_of g c =
     same (λ n. behind_others (readers n) c.args.place c.args.precedence c.args.first c.args.parser.now.words
-        (unequal_numbers _ _ (sym c.is_same.ensures ∙ c.if-is_same.false)) c.requires.binary)
+    (unequal_numbers _ _ (sym c.is_same.ensures ∙ c.if-is_same.false)) c.requires.binary)
     (ok _ c.in_ok-others.ensures (rw c.in_ok-run_of.ensures done))
