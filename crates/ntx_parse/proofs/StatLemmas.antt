@@ -149,3 +149,64 @@ kind_other r p terminal.DoubleDot words h0 h1 h2 h3 h4 h5 h6 h7 h8 = refl
 pub simple_by : (r : Readers) (p : Place) (t : Terminal) (words : List Word) → next_of words ≡ Some t → read_simple r p words ≡ simple_at r p t words
 simple_by r p t [] is = absurd (none_not_some is)
 simple_by r p t (o ∷ words) is = ap (λ (q : Terminal). simple_at r p q (o ∷ words)) (some_injective is)
+
+pub simple_none : (r : Readers) (p : Place) (words : List Word) → next_of words ≡ None → read_simple r p words ≡ stopped why.Expected words
+simple_none r p [] is = refl
+simple_none r p (o ∷ words) is = absurd (none_not_some (sym is))
+
+pub simple_other : (r : Readers) (p : Place) (t : Terminal) (words : List Word)
+    → (t ≡ terminal.Nil → ⊥) → (t ≡ terminal.False → ⊥) → (t ≡ terminal.True → ⊥) → (t ≡ terminal.Numeral → ⊥) → (t ≡ terminal.Text → ⊥) → (t ≡ terminal.Function → ⊥) → (t ≡ terminal.LeftBrace → ⊥) → (t ≡ terminal.Name → ⊥) → (t ≡ terminal.LeftParenthesis → ⊥)
+    → simple_at r p t words ≡ stopped why.Expected words
+simple_other r p terminal.Name words h0 h1 h2 h3 h4 h5 h6 h7 h8 = absurd (h7 refl)
+simple_other r p terminal.Numeral words h0 h1 h2 h3 h4 h5 h6 h7 h8 = absurd (h3 refl)
+simple_other r p terminal.Text words h0 h1 h2 h3 h4 h5 h6 h7 h8 = absurd (h4 refl)
+simple_other r p terminal.And words h0 h1 h2 h3 h4 h5 h6 h7 h8 = refl
+simple_other r p terminal.Break words h0 h1 h2 h3 h4 h5 h6 h7 h8 = refl
+simple_other r p terminal.Do words h0 h1 h2 h3 h4 h5 h6 h7 h8 = refl
+simple_other r p terminal.Else words h0 h1 h2 h3 h4 h5 h6 h7 h8 = refl
+simple_other r p terminal.Elseif words h0 h1 h2 h3 h4 h5 h6 h7 h8 = refl
+simple_other r p terminal.End words h0 h1 h2 h3 h4 h5 h6 h7 h8 = refl
+simple_other r p terminal.False words h0 h1 h2 h3 h4 h5 h6 h7 h8 = absurd (h1 refl)
+simple_other r p terminal.For words h0 h1 h2 h3 h4 h5 h6 h7 h8 = refl
+simple_other r p terminal.Function words h0 h1 h2 h3 h4 h5 h6 h7 h8 = absurd (h5 refl)
+simple_other r p terminal.Goto words h0 h1 h2 h3 h4 h5 h6 h7 h8 = refl
+simple_other r p terminal.If words h0 h1 h2 h3 h4 h5 h6 h7 h8 = refl
+simple_other r p terminal.In words h0 h1 h2 h3 h4 h5 h6 h7 h8 = refl
+simple_other r p terminal.Local words h0 h1 h2 h3 h4 h5 h6 h7 h8 = refl
+simple_other r p terminal.Nil words h0 h1 h2 h3 h4 h5 h6 h7 h8 = absurd (h0 refl)
+simple_other r p terminal.Not words h0 h1 h2 h3 h4 h5 h6 h7 h8 = refl
+simple_other r p terminal.Or words h0 h1 h2 h3 h4 h5 h6 h7 h8 = refl
+simple_other r p terminal.Repeat words h0 h1 h2 h3 h4 h5 h6 h7 h8 = refl
+simple_other r p terminal.Return words h0 h1 h2 h3 h4 h5 h6 h7 h8 = refl
+simple_other r p terminal.Then words h0 h1 h2 h3 h4 h5 h6 h7 h8 = refl
+simple_other r p terminal.True words h0 h1 h2 h3 h4 h5 h6 h7 h8 = absurd (h2 refl)
+simple_other r p terminal.Until words h0 h1 h2 h3 h4 h5 h6 h7 h8 = refl
+simple_other r p terminal.While words h0 h1 h2 h3 h4 h5 h6 h7 h8 = refl
+simple_other r p terminal.Plus words h0 h1 h2 h3 h4 h5 h6 h7 h8 = refl
+simple_other r p terminal.Minus words h0 h1 h2 h3 h4 h5 h6 h7 h8 = refl
+simple_other r p terminal.Star words h0 h1 h2 h3 h4 h5 h6 h7 h8 = refl
+simple_other r p terminal.DoubleSlash words h0 h1 h2 h3 h4 h5 h6 h7 h8 = refl
+simple_other r p terminal.Percent words h0 h1 h2 h3 h4 h5 h6 h7 h8 = refl
+simple_other r p terminal.Ampersand words h0 h1 h2 h3 h4 h5 h6 h7 h8 = refl
+simple_other r p terminal.Tilde words h0 h1 h2 h3 h4 h5 h6 h7 h8 = refl
+simple_other r p terminal.Bar words h0 h1 h2 h3 h4 h5 h6 h7 h8 = refl
+simple_other r p terminal.ShiftLeft words h0 h1 h2 h3 h4 h5 h6 h7 h8 = refl
+simple_other r p terminal.ShiftRight words h0 h1 h2 h3 h4 h5 h6 h7 h8 = refl
+simple_other r p terminal.Hash words h0 h1 h2 h3 h4 h5 h6 h7 h8 = refl
+simple_other r p terminal.Equal words h0 h1 h2 h3 h4 h5 h6 h7 h8 = refl
+simple_other r p terminal.NotEqual words h0 h1 h2 h3 h4 h5 h6 h7 h8 = refl
+simple_other r p terminal.LessEqual words h0 h1 h2 h3 h4 h5 h6 h7 h8 = refl
+simple_other r p terminal.GreaterEqual words h0 h1 h2 h3 h4 h5 h6 h7 h8 = refl
+simple_other r p terminal.Less words h0 h1 h2 h3 h4 h5 h6 h7 h8 = refl
+simple_other r p terminal.Greater words h0 h1 h2 h3 h4 h5 h6 h7 h8 = refl
+simple_other r p terminal.Assign words h0 h1 h2 h3 h4 h5 h6 h7 h8 = refl
+simple_other r p terminal.LeftParenthesis words h0 h1 h2 h3 h4 h5 h6 h7 h8 = absurd (h8 refl)
+simple_other r p terminal.RightParenthesis words h0 h1 h2 h3 h4 h5 h6 h7 h8 = refl
+simple_other r p terminal.LeftBrace words h0 h1 h2 h3 h4 h5 h6 h7 h8 = absurd (h6 refl)
+simple_other r p terminal.RightBrace words h0 h1 h2 h3 h4 h5 h6 h7 h8 = refl
+simple_other r p terminal.LeftBracket words h0 h1 h2 h3 h4 h5 h6 h7 h8 = refl
+simple_other r p terminal.RightBracket words h0 h1 h2 h3 h4 h5 h6 h7 h8 = refl
+simple_other r p terminal.Semicolon words h0 h1 h2 h3 h4 h5 h6 h7 h8 = refl
+simple_other r p terminal.Comma words h0 h1 h2 h3 h4 h5 h6 h7 h8 = refl
+simple_other r p terminal.Dot words h0 h1 h2 h3 h4 h5 h6 h7 h8 = refl
+simple_other r p terminal.DoubleDot words h0 h1 h2 h3 h4 h5 h6 h7 h8 = refl

@@ -32,4 +32,5 @@ pub returns-in-Local-clause-reads : goal.returns-in-Local-clause-reads
 returns-in-Local-clause-reads g c = rw c.in-Local.is c.local.ensures.reads
 
 pub returns-in_default-clause-reads : goal.returns-in_default-clause-reads
-returns-in_default-clause-reads g c = ?
+returns-in_default-clause-reads g c =
+    same (λ n. kind_other (readers n) c.args.place c.args.begins c.args.parser.now.words c.in_default.not-Semicolon c.in_default.not-Break c.in_default.not-Do c.in_default.not-While c.in_default.not-Repeat c.in_default.not-If c.in_default.not-For c.in_default.not-Function c.in_default.not-Local) c.call_or_assignment.ensures.reads

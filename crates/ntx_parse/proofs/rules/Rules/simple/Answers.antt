@@ -2,8 +2,9 @@ use Rattle.std.proofs.Common.{ap, ◌∙◌, sym, Some}
 use Rattle.ntx_parse.specs.declared.terminal.Terminal.TheVariants as terminal
 use Rattle.ntx_parse.specs.Reading.{readers}
 use Rattle.ntx_parse.proofs.ReadsLemmas.{same, stops_at_once}
-use Rattle.ntx_parse.proofs.StatLemmas.{simple_by}
+use Rattle.ntx_parse.proofs.StatLemmas.{simple_by, simple_none, simple_other}
 use Rattle.ntx_parse.proofs.rules.Rules.simple.Goals as goal
+use Rattle.ntx_parse.proofs.rules.Rules.simple.Goals.{in_default-via-in-Some+in_default, in_default-via-in_default}
 
 pub returns-in-Some-Nil : goal.returns-in-Some-Nil
 returns-in-Some-Nil g c =
@@ -42,4 +43,4 @@ returns-in-Some-LeftParenthesis g c =
     same (λ n. simple_by (readers n) c.args.place terminal.LeftParenthesis c.args.parser.now.words (sym c.next.ensures ∙ c.in-Some-LeftParenthesis.is ∙ ap Some c.in-Some-LeftParenthesis.field-0-is)) c.prefix_exp-in-Some-LeftParenthesis.ensures
 
 pub returns-in_default : goal.returns-in_default
-returns-in_default g c = ?
+returns-in_default g c = elim c.in_default.branch [ in_default-via-in-Some+in_default w ↦ ? | in_default-via-in_default w ↦ ? ]
