@@ -5,6 +5,7 @@ ghost use Rattle.ntx_syntax.specs.declared.tree.Exp.TheVariants as exp;
 ghost use Rattle.ntx_syntax.specs.declared.tree.BinaryOp.TheVariants as binary;
 ghost use Rattle.ntx_parse.specs.declared.terminal.Terminal.TheVariants as terminal;
 ghost use Rattle.ntx_parse.specs.Grammar as grammar;
+ghost use Rattle.ntx_parse.specs.Input.{next_of};
 ghost use Rattle.ntx_parse.specs.Nests.{Nests};
 ghost use Rattle.ntx_parse.specs.Reading as reading;
 ghost use Rattle.ntx_parse.specs.Reading.{readers};
@@ -181,15 +182,34 @@ impl<
         ensures { Reads (λ n. reading.read_simple (readers n) place parser.old.words) parser.old result parser.new }
     {
         match parser.next() {
-            Some(Terminal::Nil) => constant(parser, place, Exp::Nil),
-            Some(Terminal::False) => constant(parser, place, Exp::False),
-            Some(Terminal::True) => constant(parser, place, Exp::True),
-            Some(Terminal::Numeral) => parser.numeral(place),
-            Some(Terminal::Text) => parser.text(self.alloc, place),
-            Some(Terminal::Function) => self.function_exp(parser, place),
-            Some(Terminal::LeftBrace) => self.table_exp(parser, place),
-            Some(Terminal::Name) => self.prefix_exp(parser, place),
-            Some(Terminal::LeftParenthesis) => self.prefix_exp(parser, place),
+            None => Err(parser.fault(SyntaxWhy::Expected)),
+            Some(terminal) => self.simple_at(parser, place, terminal),
+        }
+    }
+
+    /// The expression without operators of its own that begins with this.
+    fn simple_at(
+        &self,
+        parser: &mut Parser<'_>,
+        place: Place,
+        begins: Terminal,
+    ) -> Result<Exp, Fail<SyntaxFault>>
+        requires nests { Nests self.now.depth (E.pre self.now.exp) (E.post self.now.exp) (B.pre self.now.block) (B.post self.now.block) }
+        requires shallow { place.nesting ≤ 201 }
+        requires room { 404 ≤ self.now.depth + 2 * place.nesting }
+        requires begins { next_of parser.old.words ≡ Some begins }
+        ensures { Reads (λ n. reading.simple_at (readers n) place begins parser.old.words) parser.old result parser.new }
+    {
+        match begins {
+            Terminal::Nil => constant(parser, place, Exp::Nil),
+            Terminal::False => constant(parser, place, Exp::False),
+            Terminal::True => constant(parser, place, Exp::True),
+            Terminal::Numeral => parser.numeral(place),
+            Terminal::Text => parser.text(self.alloc, place),
+            Terminal::Function => self.function_exp(parser, place),
+            Terminal::LeftBrace => self.table_exp(parser, place),
+            Terminal::Name => self.prefix_exp(parser, place),
+            Terminal::LeftParenthesis => self.prefix_exp(parser, place),
             _ => Err(parser.fault(SyntaxWhy::Expected)),
         }
     }

@@ -26,5 +26,5 @@ returns-in-Field-clause-reads g c = ok _ c.in_ok-found.ensures.reads (rw c.in-Fi
 pub returns-in-Field-clause-shorter : goal.returns-in-Field-clause-shorter
 returns-in-Field-clause-shorter g c = stays_shorter c.assignment_to-in-Field.ensures c.in_ok-found.ensures.shorter
 
-pub returns-in-Call-clause-reads : goal.returns-in-Call-clause-reads
-returns-in-Call-clause-reads g c = ok _ c.in_ok-found.ensures.reads (rw c.in-Call.is done)
+pub returns-clause-reads : goal.returns-clause-reads
+returns-clause-reads g c = ok _ c.in_ok-found.ensures.reads (rw c.in-Call.is done)
