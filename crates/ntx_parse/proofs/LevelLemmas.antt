@@ -48,6 +48,7 @@ of_rank (suc (suc (suc (suc (suc (suc (suc (suc (suc zero))))))))) = precedence.
 of_rank _ = precedence.Unary
 
 of_its_rank : (at : Precedence) → of_rank (rank at) ≡ at
+unfolding of_rank
 of_its_rank precedence.Or = refl
 of_its_rank precedence.And = refl
 of_its_rank precedence.Comparison = refl
@@ -132,3 +133,9 @@ fails_looser zero p at goal words old new e is h =
 fails_looser (suc k) p at goal words old new e is h =
     let loose : rank goal < 10 = omega (arith, is, rank_most at) in
     fails_step p goal loose (fails_looser k p at (tighter goal) words old new e (omega (arith, is, tighter_rank goal loose)) h)
+
+pub equal_numbers : (m n : ℕ) → nat_eq m n ≡ true → m ≡ n
+equal_numbers m n is = search (rules, arith)
+
+pub unequal_numbers : (m n : ℕ) → nat_eq m n ≡ false → m ≢ n
+unequal_numbers m n is = search (rules, arith)

@@ -8,9 +8,14 @@ use Rattle.ntx_syntax.specs.declared.fault.SyntaxWhy.TheVariants as why
 use Rattle.ntx_parse.specs.declared.word.Word as code
 use Rattle.ntx_parse.specs.declared.place.Place.{Place}
 use Rattle.ntx_parse.specs.Words.{Word}
-use Rattle.ntx_parse.specs.Reading.{Stop, taken}
-use Rattle.ntx_parse.specs.Input.{Input, seen, line_of}
-use Rattle.ntx_parse.specs.Reads.{Reads}
+use Rattle.ntx_parse.specs.Reading.{Answer, Stop, taken}
+use Rattle.std.specs.Prelude.{IsSome, is_some, Bool, Option, ◌&&◌, if◌then◌else◌}
+use Rattle.std.specs.List.{list_all}
+use Rattle.ntx_syntax.specs.Values.{numeral_value, text_value}
+use Rattle.ntx_parse.specs.declared.terminal.Terminal.{Terminal}
+use Rattle.ntx_parse.specs.declared.terminal.Terminal.TheVariants as terminal
+use Rattle.ntx_parse.specs.Input.{Input, seen, line_of, next_of, has_value, value_test, HaveValues}
+use Rattle.ntx_parse.specs.Reads.{Reads, went}
 use Rattle.ntx_parse.proofs.ReadsLemmas.{at_once, stops_at_once}
 
 nothing_seen : (xs : List code.Word) → length xs < 1 → map seen xs ≡ []
@@ -68,3 +73,38 @@ taken_word p {now = now} {new = new} xs o is fits parts line =
     let words : now.words ≡ o ∷ new.words = sym (ap (λ i. i.words) is) ∙ parts in
     let longer : length now.words ≡ length (o ∷ new.words) = ap length words in
     at_once (taken_one p now.words o new.words words fits) (line ∙ ap (λ i. i.last_line) is) (grind (arith, longer))
+
+-- What is taken is the first word.
+read_is : {A : Type 0} (b : Bool) (x y : A) (s : Stop) → (if b then Some (Ok x) else Some (Err s)) ≡ Some (Ok y) → x ≡ y
+read_is true x y s is = cc
+read_is false x y s is = absurd (cc)
+
+taken_front : (p : Place) (words : List Word) (o : Word) (rest : List Word) → taken p words ≡ Some (Ok (o, rest)) → words ≡ o ∷ rest
+taken_front p [] o rest is = absurd (cc)
+taken_front p (x ∷ xs) o rest is = ap (λ (q : Word × List Word). q.0 ∷ q.1) (read_is (nat_le p.nesting 200) (x, xs) (o, rest) _ is)
+
+reads_now : {A : Type 0} {a : Answer A} {x : A} {old new : Input} → Reads (λ _. a) old (Ok x) new → a ≡ Some (Ok (x, new.words))
+reads_now (went settles line shorter) = settles.gives settles.from (omega arith)
+
+both : (a b : Bool) → (a && b) ≡ true → a ≡ true
+both true b is = refl
+both false b is = absurd (cc)
+
+first_holds : (o : Word) (rest : List Word) → list_all has_value (o ∷ rest) ≡ true → has_value o ≡ true
+first_holds o rest all = both (has_value o) (list_all has_value rest) all
+
+some_is : {X : Type 0} (x : Option X) → is_some x ≡ true → IsSome x
+some_is None is = absurd (cc)
+some_is (Some v) is = tt
+
+same_some : (a b : Terminal) → Some a ≡ Some b → a ≡ b
+same_some a b is = cc
+
+pub value_kept : (p : Place) (old new : Input) (xs : List code.Word) {last : ℕ} (o : Word) → record { words = map seen xs; last_line = last } ≡ old
+    → HaveValues (map seen xs) → next_of old.words ≡ Some terminal.Numeral → Reads (λ _. taken p old.words) old (Ok o) new → IsSome (numeral_value o.spelled)
+value_kept p old new xs o view all next reads =
+    let front : old.words ≡ o ∷ new.words = taken_front p old.words o new.words (reads_now reads) in
+    let words : map seen xs ≡ o ∷ new.words = ap (λ i. i.words) view ∙ front in
+    let is : terminal.Numeral ≡ o.is = same_some _ _ (sym next ∙ ap next_of front) in
+    let holds : has_value o ≡ true = first_holds o new.words (sym (ap (list_all has_value) words) ∙ all) in
+    some_is (numeral_value o.spelled) (ap (λ t. value_test t o.spelled) is ∙ holds)

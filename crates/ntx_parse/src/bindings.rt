@@ -134,7 +134,8 @@ impl<
         ensures reads { Reads (λ n. reading.read_expression_statement (readers n) place parser.old.words) parser.old result parser.new }
         ensures shorter { OnOk result (length parser.new.words < length parser.old.words) }
     {
-        match self.prefix(parser, place)? {
+        let found = self.prefix(parser, place)?;
+        match found {
             Part::Name(name) => self.assignment_to(parser, place, Var::Name(name)),
             Part::Parenthesized(_) => Err(parser.fault(SyntaxWhy::Expected)),
             Part::Index(before, key) => self.assignment_to(parser, place, Var::Index(before, key)),

@@ -3,7 +3,9 @@
 ghost use Rattle.std.specs.Prelude.{◌≡◌, ◌≤◌, ◌<◌, ◌+◌, ◌*◌, length, [], ◌∷◌, Some, IfOk, OnOk};
 ghost use Rattle.ntx_syntax.specs.declared.tree.Exp.TheVariants as exp;
 ghost use Rattle.ntx_syntax.specs.declared.tree.BinaryOp.TheVariants as binary;
+ghost use Rattle.ntx_parse.specs.declared.terminal.Terminal.TheVariants as terminal;
 ghost use Rattle.ntx_parse.specs.Grammar as grammar;
+ghost use Rattle.ntx_parse.specs.Input.{next_of};
 ghost use Rattle.ntx_parse.specs.Nests.{Nests};
 ghost use Rattle.ntx_parse.specs.Reading as reading;
 ghost use Rattle.ntx_parse.specs.Reading.{readers};
@@ -43,6 +45,14 @@ fn concat_of(alloc: Global, left: Exp, right: Exp) -> Result<Exp, AllocError>
         operand: right,
     })?;
     Ok(Exp::Binary(Boxed::new(alloc, left)?, operations))
+}
+
+/// The next word, which alone is this expression.
+fn constant(parser: &mut Parser<'_>, place: Place, value: Exp) -> Result<Exp, Fail<SyntaxFault>>
+    ensures { Reads (λ _. reading.and_then (reading.taken place parser.old.words) (λ _ rest. reading.read value rest)) parser.old result parser.new }
+{
+    parser.taken(place)?;
+    Ok(value)
 }
 
 impl<
@@ -172,31 +182,71 @@ impl<
         ensures { Reads (λ n. reading.read_simple (readers n) place parser.old.words) parser.old result parser.new }
     {
         match parser.next() {
-            Some(Terminal::Nil) => {
-                parser.taken(place)?;
-                Ok(Exp::Nil)
-            }
-            Some(Terminal::False) => {
-                parser.taken(place)?;
-                Ok(Exp::False)
-            }
-            Some(Terminal::True) => {
-                parser.taken(place)?;
-                Ok(Exp::True)
-            }
-            Some(Terminal::Numeral) => parser.numeral(place),
-            Some(Terminal::Text) => parser.text(self.alloc, place),
-            Some(Terminal::Function) => {
-                parser.taken(place)?;
-                Ok(Exp::Function(self.body(parser, within(place))?))
-            }
-            Some(Terminal::LeftBrace) => Ok(Exp::Table(self.table(parser, within(place))?)),
-            Some(Terminal::Name | Terminal::LeftParenthesis) => {
-                let found = self.prefix(parser, place)?;
-                Ok(Exp::Prefix(joined(self.alloc, found)?))
-            }
+            None => Err(parser.fault(SyntaxWhy::Expected)),
+            Some(terminal) => self.simple_at(parser, place, terminal),
+        }
+    }
+
+    /// The expression without operators of its own that begins with this.
+    fn simple_at(
+        &self,
+        parser: &mut Parser<'_>,
+        place: Place,
+        begins: Terminal,
+    ) -> Result<Exp, Fail<SyntaxFault>>
+        requires nests { Nests self.now.depth (E.pre self.now.exp) (E.post self.now.exp) (B.pre self.now.block) (B.post self.now.block) }
+        requires shallow { place.nesting ≤ 201 }
+        requires room { 404 ≤ self.now.depth + 2 * place.nesting }
+        requires begins { next_of parser.old.words ≡ Some begins }
+        ensures { Reads (λ n. reading.simple_at (readers n) place begins parser.old.words) parser.old result parser.new }
+    {
+        match begins {
+            Terminal::Nil => constant(parser, place, Exp::Nil),
+            Terminal::False => constant(parser, place, Exp::False),
+            Terminal::True => constant(parser, place, Exp::True),
+            Terminal::Numeral => parser.numeral(place),
+            Terminal::Text => parser.text(self.alloc, place),
+            Terminal::Function => self.function_exp(parser, place),
+            Terminal::LeftBrace => self.table_exp(parser, place),
+            Terminal::Name => self.prefix_exp(parser, place),
+            Terminal::LeftParenthesis => self.prefix_exp(parser, place),
             _ => Err(parser.fault(SyntaxWhy::Expected)),
         }
+    }
+
+    /// `function body`
+    fn function_exp(&self, parser: &mut Parser<'_>, place: Place) -> Result<Exp, Fail<SyntaxFault>>
+        requires nests { Nests self.now.depth (E.pre self.now.exp) (E.post self.now.exp) (B.pre self.now.block) (B.post self.now.block) }
+        requires shallow { place.nesting ≤ 201 }
+        requires room { 404 ≤ self.now.depth + 2 * place.nesting }
+        ensures { Reads (λ n. reading.simple_at (readers n) place terminal.Function parser.old.words) parser.old result parser.new }
+    {
+        parser.taken(place)?;
+        let body = self.body(parser, within(place))?;
+        Ok(Exp::Function(body))
+    }
+
+    /// A table.
+    fn table_exp(&self, parser: &mut Parser<'_>, place: Place) -> Result<Exp, Fail<SyntaxFault>>
+        requires nests { Nests self.now.depth (E.pre self.now.exp) (E.post self.now.exp) (B.pre self.now.block) (B.post self.now.block) }
+        requires shallow { place.nesting ≤ 201 }
+        requires room { 404 ≤ self.now.depth + 2 * place.nesting }
+        ensures { Reads (λ n. reading.simple_at (readers n) place terminal.LeftBrace parser.old.words) parser.old result parser.new }
+    {
+        let fields = self.table(parser, within(place))?;
+        Ok(Exp::Table(fields))
+    }
+
+    /// A variable, a call or a parenthesized expression.
+    fn prefix_exp(&self, parser: &mut Parser<'_>, place: Place) -> Result<Exp, Fail<SyntaxFault>>
+        requires nests { Nests self.now.depth (E.pre self.now.exp) (E.post self.now.exp) (B.pre self.now.block) (B.post self.now.block) }
+        requires shallow { place.nesting ≤ 201 }
+        requires room { 404 ≤ self.now.depth + 2 * place.nesting }
+        ensures { Reads (λ n. reading.simple_at (readers n) place terminal.Name parser.old.words) parser.old result parser.new }
+    {
+        let found = self.prefix(parser, place)?;
+        let prefix = joined(self.alloc, found)?;
+        Ok(Exp::Prefix(prefix))
     }
 
     /// `exp {, exp}`

@@ -1,6 +1,7 @@
 //! Statements.
 
 ghost use Rattle.std.specs.Prelude.{◌≡◌, ◌≤◌, ◌<◌, ◌+◌, ◌*◌, length, [], ◌∷◌, Some, OnOk};
+ghost use Rattle.ntx_syntax.specs.declared.tree.StatKind.TheVariants as stat;
 ghost use Rattle.ntx_parse.specs.Nests.{Nests};
 ghost use Rattle.ntx_parse.specs.Reading as reading;
 ghost use Rattle.ntx_parse.specs.Reading.{readers};
@@ -15,6 +16,15 @@ use ntx_num::Fail;
 use ntx_syntax::{Block, Exp, IfArm, StatKind, SyntaxFault, SyntaxWhy};
 use sqlite_items::Items;
 use std::alloc::Global;
+
+/// `;`
+fn empty(parser: &mut Parser<'_>, place: Place) -> Result<StatKind, Fail<SyntaxFault>>
+    ensures reads { Reads (λ _. reading.and_then (reading.taken place parser.old.words) (λ _ rest. reading.read stat.Empty rest)) parser.old result parser.new }
+    ensures shorter { OnOk result (length parser.new.words < length parser.old.words) }
+{
+    parser.taken(place)?;
+    Ok(StatKind::Empty)
+}
 
 /// `break`. It is refused outside of a loop (Break).
 fn break_stat(parser: &mut Parser<'_>, place: Place) -> Result<StatKind, Fail<SyntaxFault>>
@@ -48,10 +58,7 @@ impl<
         ensures shorter { OnOk result (length parser.new.words < length parser.old.words) }
     {
         match begins {
-            Terminal::Semicolon => {
-                parser.taken(place)?;
-                Ok(StatKind::Empty)
-            }
+            Terminal::Semicolon => empty(parser, place),
             Terminal::Break => break_stat(parser, place),
             Terminal::Do => self.do_block(parser, place),
             Terminal::While => self.while_loop(parser, place),

@@ -1,5 +1,5 @@
 use Rattle.std.proofs.Common.{arith, refl, ap, ◌∙◌, sym, [], ◌∷◌, ◌++◌}
-use Rattle.ntx_parse.specs.Reading.{readers}
+use Rattle.ntx_parse.specs.Reading.{readers, read_body, as_var}
 use Rattle.ntx_parse.proofs.ReadsLemmas.{ok, err_by, no_memory_by, done, later, when, unless, with_equal, stops_at_once, shorter_of, stays_shorter, line_kept}
 use Rattle.ntx_parse.proofs.rules.Rules.function.Goals as goal
 
@@ -13,10 +13,10 @@ pub returns-in_err-fields-clause-reads : goal.returns-in_err-fields-clause-reads
 returns-in_err-fields-clause-reads g c = ok _ c.in_ok-taken.ensures.reads (ok _ c.in_ok-name.ensures.reads (err_by _ _ c.from_residual-in_err-fields.ensures.1 c.in_err-fields.ensures))
 
 pub returns-in_err-body-clause-reads : goal.returns-in_err-body-clause-reads
-returns-in_err-body-clause-reads g c = ok _ c.in_ok-taken.ensures.reads (ok _ c.in_ok-name.ensures.reads (ok _ c.in_ok-fields.ensures (rw (sym c.within.ensures.is) (err_by _ _ c.from_residual-in_err-body.ensures.1 c.in_err-body.ensures))))
+returns-in_err-body-clause-reads g c = ok _ c.in_ok-taken.ensures.reads (ok _ c.in_ok-name.ensures.reads (ok _ c.in_ok-fields.ensures (err_by _ _ c.from_residual-in_err-body.ensures.1 (with_equal (λ q n. read_body (readers n) q c.path.new.parser.words) c.within.ensures.is _ _ c.in_err-body.ensures))))
 
 pub returns-clause-reads : goal.returns-clause-reads
-returns-clause-reads g c = ok _ c.in_ok-taken.ensures.reads (ok _ c.in_ok-name.ensures.reads (ok _ c.in_ok-fields.ensures (rw (sym c.within.ensures.is) (ok _ c.in_ok-body.ensures (done)))))
+returns-clause-reads g c = ok _ c.in_ok-taken.ensures.reads (ok _ c.in_ok-name.ensures.reads (ok _ c.in_ok-fields.ensures (ok _ (with_equal (λ q n. read_body (readers n) q c.path.new.parser.words) c.within.ensures.is _ _ c.in_ok-body.ensures) (done))))
 
 pub returns-clause-shorter : goal.returns-clause-shorter
 returns-clause-shorter g c = omega (arith, c.in_ok-taken.ensures.shorter, c.in_ok-name.ensures.shorter, shorter_of c.in_ok-fields.ensures, shorter_of c.in_ok-body.ensures)

@@ -4,11 +4,11 @@ use Rattle.ntx_parse.specs.Reads.{Reads}
 use Rattle.ntx_parse.proofs.rules.Rules.level.Given as goal
 
 -- What is read up to here has the operators of this precedence and of tighter ones.
-abbrev pub invariant-loop-reached : goal.invariant-loop-reached
-invariant-loop-reached g l = record {
+abbrev pub invariant-loop-place : goal.invariant-loop-place
+invariant-loop-place g l = record {
   reads : Reads (λ n. (readers n).exp l.place l.reached l.fn.parser.words) l.fn.parser (Ok l.exp) l.parser;
   rank : rank l.precedence ≤ rank l.reached;
 }
 
-abbrev pub decreases-loop-reached : goal.decreases-loop-reached
-decreases-loop-reached g l = rank l.reached
+abbrev pub decreases-loop-place : goal.decreases-loop-place
+decreases-loop-place g l = rank l.reached

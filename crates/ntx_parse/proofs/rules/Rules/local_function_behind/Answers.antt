@@ -1,5 +1,5 @@
 use Rattle.std.proofs.Common.{arith, refl, ap, ◌∙◌, sym, [], ◌∷◌, ◌++◌}
-use Rattle.ntx_parse.specs.Reading.{readers}
+use Rattle.ntx_parse.specs.Reading.{readers, read_body, as_var}
 use Rattle.ntx_parse.proofs.ReadsLemmas.{ok, err_by, no_memory_by, done, later, when, unless, with_equal, stops_at_once, shorter_of, stays_shorter, line_kept}
 use Rattle.ntx_parse.proofs.rules.Rules.local_function_behind.Goals as goal
 
@@ -10,7 +10,7 @@ pub returns-in_err-name : goal.returns-in_err-name
 returns-in_err-name g c = ok _ c.in_ok-taken.ensures.reads (err_by _ _ c.from_residual-in_err-name.ensures.1 c.in_err-name.ensures.reads)
 
 pub returns-in_err-body : goal.returns-in_err-body
-returns-in_err-body g c = ok _ c.in_ok-taken.ensures.reads (ok _ c.in_ok-name.ensures.reads (rw (sym c.within.ensures.is) (err_by _ _ c.from_residual-in_err-body.ensures.1 c.in_err-body.ensures)))
+returns-in_err-body g c = ok _ c.in_ok-taken.ensures.reads (ok _ c.in_ok-name.ensures.reads (err_by _ _ c.from_residual-in_err-body.ensures.1 (with_equal (λ q n. read_body (readers n) q c.local_name.new.self.words) c.within.ensures.is _ _ c.in_err-body.ensures)))
 
 pub returns : goal.returns
-returns g c = ok _ c.in_ok-taken.ensures.reads (ok _ c.in_ok-name.ensures.reads (rw (sym c.within.ensures.is) (ok _ c.in_ok-body.ensures (done))))
+returns g c = ok _ c.in_ok-taken.ensures.reads (ok _ c.in_ok-name.ensures.reads (ok _ (with_equal (λ q n. read_body (readers n) q c.local_name.new.self.words) c.within.ensures.is _ _ c.in_ok-body.ensures) (done)))

@@ -9,16 +9,16 @@ loop-terminal-init g c = with_equal (λ before n. (readers n).stats c.args.place
 
 pub returns-in_err-kind : goal.returns-in_err-kind
 returns-in_err-kind g c =
-    c.loop-terminal.invariant _ _ (later (λ n. refl) (same (λ n. stat_by (readers n) _ _ _ _ _ (sym c.statement_at.ensures ∙ c.in-Some.is))
+    c.loop-terminal.invariant _ _ (later (λ n. refl) (same (λ n. stat_by (readers n) c.args.place c.loop-terminal.stats c.loop-terminal.parser.words c.in-Some.terminal c.in-Some.line (sym c.statement_at.ensures ∙ c.in-Some.is))
     (err_by _ _ c.from_residual.ensures.1 c.in_err-kind.ensures.reads)))
 
 pub loop-terminal-preserved : goal.loop-terminal-preserved
 loop-terminal-preserved g c = λ r new h.
-    c.loop-terminal.invariant r new (later (λ n. refl) (same (λ n. stat_by (readers n) _ _ _ _ _ (sym c.statement_at.ensures ∙ c.in-Some.is))
+    c.loop-terminal.invariant r new (later (λ n. refl) (same (λ n. stat_by (readers n) c.args.place c.loop-terminal.stats c.loop-terminal.parser.words c.in-Some.terminal c.in-Some.line (sym c.statement_at.ensures ∙ c.in-Some.is))
     (ok _ c.in_ok-kind.ensures.reads (with_equal (λ before n. (readers n).stats c.args.place before c.kind.new.parser.words) c.in_ok-push.ensures.ok r new h))))
 
 pub returns-in_err-push : goal.returns-in_err-push
 returns-in_err-push g c = no_memory_by _ c.from_residual-in_err-push.ensures.1
 
 pub returns : goal.returns
-returns g c = c.loop-terminal.invariant _ _ (later (λ n. refl) (same (λ n. stats_end (readers n) _ _ _ (sym c.statement_at.ensures ∙ c.in_default.is)) done))
+returns g c = c.loop-terminal.invariant _ _ (later (λ n. refl) (same (λ n. stats_end (readers n) c.args.place c.loop-terminal.stats c.loop-terminal.parser.words (sym c.statement_at.ensures ∙ c.in_default.is)) done))

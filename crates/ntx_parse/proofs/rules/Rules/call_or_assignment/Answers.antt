@@ -1,0 +1,30 @@
+use Rattle.std.proofs.Common.{refl, ap, ◌∙◌, sym}
+use Rattle.ntx_parse.proofs.ReadsLemmas.{ok, err_by, done, stops_at_once, stays_shorter}
+use Rattle.ntx_parse.proofs.rules.Rules.call_or_assignment.Goals as goal
+
+pub returns-in_err-found-clause-reads : goal.returns-in_err-found-clause-reads
+returns-in_err-found-clause-reads g c = err_by _ _ c.from_residual.ensures.1 c.in_err-found.ensures.reads
+
+pub returns-in-Name-clause-reads : goal.returns-in-Name-clause-reads
+returns-in-Name-clause-reads g c = ok _ c.in_ok-found.ensures.reads (rw c.in-Name.is c.assignment_to.ensures)
+
+pub returns-in-Name-clause-shorter : goal.returns-in-Name-clause-shorter
+returns-in-Name-clause-shorter g c = stays_shorter c.assignment_to.ensures c.in_ok-found.ensures.shorter
+
+pub returns-in-Parenthesized-clause-reads : goal.returns-in-Parenthesized-clause-reads
+returns-in-Parenthesized-clause-reads g c = ok _ c.in_ok-found.ensures.reads (rw (c.in-Parenthesized.is, c.fault.ensures) (stops_at_once _ refl refl))
+
+pub returns-in-Index-clause-reads : goal.returns-in-Index-clause-reads
+returns-in-Index-clause-reads g c = ok _ c.in_ok-found.ensures.reads (rw c.in-Index.is c.assignment_to-in-Index.ensures)
+
+pub returns-in-Index-clause-shorter : goal.returns-in-Index-clause-shorter
+returns-in-Index-clause-shorter g c = stays_shorter c.assignment_to-in-Index.ensures c.in_ok-found.ensures.shorter
+
+pub returns-in-Field-clause-reads : goal.returns-in-Field-clause-reads
+returns-in-Field-clause-reads g c = ok _ c.in_ok-found.ensures.reads (rw c.in-Field.is c.assignment_to-in-Field.ensures)
+
+pub returns-in-Field-clause-shorter : goal.returns-in-Field-clause-shorter
+returns-in-Field-clause-shorter g c = stays_shorter c.assignment_to-in-Field.ensures c.in_ok-found.ensures.shorter
+
+pub returns-clause-reads : goal.returns-clause-reads
+returns-clause-reads g c = ok _ c.in_ok-found.ensures.reads (rw c.in-Call.is done)

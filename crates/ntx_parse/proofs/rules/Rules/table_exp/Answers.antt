@@ -1,0 +1,10 @@
+use Rattle.std.proofs.Common.{arith, refl, ap, ◌∙◌, sym, [], ◌∷◌, ◌++◌}
+use Rattle.ntx_parse.specs.Reading.{readers}
+use Rattle.ntx_parse.proofs.ReadsLemmas.{ok, err_by, no_memory_by, done, later, when, unless, with_equal, stops_at_once, shorter_of, stays_shorter, line_kept}
+use Rattle.ntx_parse.proofs.rules.Rules.table_exp.Goals as goal
+
+pub returns-in_err-fields : goal.returns-in_err-fields
+returns-in_err-fields g c = rw (sym c.within.ensures.is) (err_by _ _ c.from_residual.ensures.1 c.in_err-fields.ensures)
+
+pub returns : goal.returns
+returns g c = rw (sym c.within.ensures.is) (ok _ c.in_ok-fields.ensures (done))
