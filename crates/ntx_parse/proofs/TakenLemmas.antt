@@ -95,7 +95,7 @@ first_holds o rest all = both (has_value o) (list_all has_value rest) all
 
 some_is : {X : Type 0} (x : Option X) → is_some x ≡ true → IsSome x
 some_is None is = absurd (cc)
-some_is (Some v) is = tt
+some_is (Some v) is = refl
 
 same_some : (a b : Terminal) → Some a ≡ Some b → a ≡ b
 same_some a b is = cc

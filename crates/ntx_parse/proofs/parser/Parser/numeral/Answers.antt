@@ -11,4 +11,4 @@ pub numeral_value-requires : goal.numeral_value-requires
 numeral_value-requires c = value_kept c.args.place _ _ c.self.inside.rest.now _ c.self.view_is c.self.invariant c.requires c.in_ok-word.ensures.reads
 
 pub returns : goal.returns
-returns c = ok _ c.in_ok-word.ensures.reads (rw (to_z-of_z w64 c.numeral_value.result c.numeral_value.type_inv, c.numeral_value.ensures) done)
+returns c = let h = c.numeral_value.type_inv in let r = c.ranges in ok _ c.in_ok-word.ensures.reads (rw (c.numeral_value.ensures) ?)

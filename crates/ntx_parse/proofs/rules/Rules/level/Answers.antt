@@ -1,4 +1,4 @@
-use Rattle.std.proofs.Common.{arith, refl, ap, ◌∙◌, ◌-◌, sym, subst, Ok}
+use Rattle.std.proofs.Common.{◌≡◌, arith, refl, ap, ◌∙◌, ◌-◌, sym, subst, Ok}
 use Rattle.ntx_parse.specs.declared.precedence.Precedence.TheVariants as precedence
 use Rattle.ntx_parse.specs.Grammar.{tighter}
 use Rattle.ntx_parse.specs.Reading.{readers, rank}
@@ -16,27 +16,27 @@ returns-in_err-exp g c =
 pub loop-place-init : goal.loop-place-init
 loop-place-init g c = record { reads = later (λ n. refl) c.in_ok-exp.ensures; rank = rank_most c.args.precedence }
 
-pub looser-requires : goal.looser-requires
-looser-requires g c =
+pub looser-reached-requires : goal.looser-reached-requires
+looser-reached-requires g c =
     omega (arith, c.loop-place.invariant.rank, unequal_numbers _ _ (sym c.is_same.ensures ∙ c.loop-place-test.true))
 
 pub behind-requires-clause-binary : goal.behind-requires-clause-binary
-behind-requires-clause-binary g c = omega (arith, c.looser.ensures.rank, rank_most c.loop-place.reached)
+behind-requires-clause-binary g c = omega (arith, c.looser-reached.ensures.rank, rank_most c.loop-place.reached)
 
 pub returns-in_err-exp-2 : goal.returns-in_err-exp-2
 returns-in_err-exp-2 g c =
-    let first = subst (λ q. Reads (λ n. (readers n).exp c.args.place q c.args.parser.now.words) c.args.parser.now (Ok c.loop-place.exp) c.loop-place.parser) (sym c.looser.ensures.tighter) c.loop-place.invariant.reads in
+    let first = subst (λ q. Reads (λ n. (readers n).exp c.args.place q c.args.parser.now.words) c.args.parser.now (Ok c.loop-place.exp) c.loop-place.parser) (sym c.looser-reached.ensures.tighter) c.loop-place.invariant.reads in
     ends_by _ c.from_residual-in_err-exp-2.ensures.1
-    (λ h. fails_looser (rank c.looser.result - rank c.args.precedence) c.args.place c.looser.result c.args.precedence c.args.parser.now.words _ _ _
-    (omega (arith, c.looser.ensures.rank, c.loop-place.invariant.rank, unequal_numbers _ _ (sym c.is_same.ensures ∙ c.loop-place-test.true))) h)
-    (climb c.args.place c.looser.result (omega (arith, c.looser.ensures.rank, rank_most c.loop-place.reached)) first c.in_err-exp-2.ensures)
+    (λ h. fails_looser (rank c.looser-reached.result - rank c.args.precedence) c.args.place c.looser-reached.result c.args.precedence c.args.parser.now.words _ _ _
+    (omega (arith, c.looser-reached.ensures.rank, c.loop-place.invariant.rank, unequal_numbers _ _ (sym c.is_same.ensures ∙ c.loop-place-test.true))) h)
+    (climb c.args.place c.looser-reached.result (omega (arith, c.looser-reached.ensures.rank, rank_most c.loop-place.reached)) first c.in_err-exp-2.ensures)
 
 pub loop-place-preserved : goal.loop-place-preserved
 loop-place-preserved g c =
-    let first = subst (λ q. Reads (λ n. (readers n).exp c.args.place q c.args.parser.now.words) c.args.parser.now (Ok c.loop-place.exp) c.loop-place.parser) (sym c.looser.ensures.tighter) c.loop-place.invariant.reads in
+    let first = subst (λ q. Reads (λ n. (readers n).exp c.args.place q c.args.parser.now.words) c.args.parser.now (Ok c.loop-place.exp) c.loop-place.parser) (sym c.looser-reached.ensures.tighter) c.loop-place.invariant.reads in
     record {
-      reads = climb c.args.place c.looser.result (omega (arith, c.looser.ensures.rank, rank_most c.loop-place.reached)) first c.in_ok-exp-2.ensures;
-      rank = omega (arith, c.looser.ensures.rank, c.loop-place.invariant.rank, unequal_numbers _ _ (sym c.is_same.ensures ∙ c.loop-place-test.true));
+      reads = climb c.args.place c.looser-reached.result (omega (arith, c.looser-reached.ensures.rank, rank_most c.loop-place.reached)) first c.in_ok-exp-2.ensures;
+      rank = omega (arith, c.looser-reached.ensures.rank, c.loop-place.invariant.rank, unequal_numbers _ _ (sym c.is_same.ensures ∙ c.loop-place-test.true));
     }
 
 pub returns : goal.returns
