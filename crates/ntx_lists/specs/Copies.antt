@@ -6,7 +6,7 @@
 --     with_copies                  a heap with such copies
 --     room, why_no_more            how many copies can be made, and why not more
 --     copy_list_step, copy_tree_step, Copies      what the calls do, and what they leave
-use Rattle.std.specs.Prelude.{◌≡◌, ◌<◌, ℕ, ◌+◌, ◌-◌, min, nat_le, List, [], ◌∷◌, length, nat_eq, if◌then◌else◌, Option, None, Some, Result, Ok, Err}
+use Rattle.std.specs.Prelude.{◌≡◌, ◌≤◌, ◌<◌, ℕ, ◌+◌, ◌-◌, min, nat_le, List, [], ◌∷◌, length, nat_eq, if◌then◌else◌, Option, None, Some, Result, Ok, Err}
 use Rattle.std.specs.Option.{option_and_then, option_map}
 use Rattle.std.specs.Ordering.{nat_cmp}
 use Rattle.std.specs.FinMap as map
@@ -109,9 +109,9 @@ copy_list_step head heap = copies_left heap (list_copy heap.next) (option_map (�
 abbrev pub copy_tree_step : ℕ → Heap → Left ℕ
 copy_tree_step n heap = copies_left heap (tree_copy n heap.next) heap.next (tree_walk heap n)
 
--- Fewer copies than there are names were made, and are gone again.
+-- Fewer copies than there are names were made, and no more than there was room for; they are gone again.
 abbrev pub Unfinished : Heap → Heap → Result (List ℕ) Trouble → Type 0
-Unfinished old new (Ok names) = (made : ℕ) × (made < length names) × (new ≡ moved_on old made)
+Unfinished old new (Ok names) = (made : ℕ) × (made < length names) × (made ≤ room old) × (new ≡ moved_on old made)
 Unfinished old new (Err why) = ⊥
 
 -- The call that copies what a walk reaches gives or refuses what the step does, and leaves its heap. Where memory runs out the walk has come to
