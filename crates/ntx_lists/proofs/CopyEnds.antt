@@ -126,7 +126,7 @@ unfinished whole h new copy names (Is why) lawful live left back m =
     (subst (λ x. x < length names) count less, f.why_is, back s.made part s.left ∙ ap (moved_on whole) count)
 unfinished whole h new copy names NoMemory lawful live left back s =
     let part : AllLive whole s.made = part_live whole names s.made (s.n ∷ s.rest) s.is live in
-    (length s.made, length_part s.made s.n s.rest names s.is, back s.made part s.left)
+    (length s.made, length_part s.made s.n s.rest names s.is, fits whole s.made lawful part (subst IsLawful s.left left), back s.made part s.left)
 
 -- the nodes that the whole walk reaches are live
 all_live : (heap : Heap) (n : ℕ) (node : Node) (one two three names : List ℕ) (lists : Inner) (next : Option ℕ) → map.get heap.nodes n ≡ Some node

@@ -1,12 +1,12 @@
--- What copying does to a heap ("TeX: The Program", sections 203 to 206). The nodes that a walk reaches are copied in its order, each under the
--- next name, so that the i-th, counted from 0, is copied under the next name + i. A link that the walk followed leads in the copy to the copy of
--- what it led to; a copy has no other link. All else of the heap stays, its nodes and the current attributes.
+-- What copying does to a heap ("TeX: The Program", sections 203 to 206). The nodes that a walk reaches are copied in its order. The copy of the
+-- i-th of them, counted from 0, takes the name that is i above the old heap's next name. A link that the walk followed leads in the copy to the
+-- copy of what it led to; a copy has no other link. All else of the heap stays, its nodes and the current attributes.
 --     copy_name, copied_link       the name of a node's copy, and the copy of a link
 --     list_copy, tree_copy         the copy of a node, where a list is copied, and where one node is copied with its inner lists
 --     with_copies                  a heap with such copies
 --     room, why_no_more            how many copies can be made, and why not more
 --     copy_list_step, copy_tree_step, Copies      what the calls do, and what they leave
-use Rattle.std.specs.Prelude.{◌≡◌, ◌<◌, ℕ, ◌+◌, ◌-◌, min, nat_le, List, [], ◌∷◌, length, nat_eq, if◌then◌else◌, Option, None, Some, Result, Ok, Err}
+use Rattle.std.specs.Prelude.{◌≡◌, ◌≤◌, ◌<◌, ℕ, ◌+◌, ◌-◌, min, nat_le, List, [], ◌∷◌, length, nat_eq, if◌then◌else◌, Option, None, Some, Result, Ok, Err}
 use Rattle.std.specs.Option.{option_and_then, option_map}
 use Rattle.std.specs.Ordering.{nat_cmp}
 use Rattle.std.specs.FinMap as map
@@ -23,12 +23,12 @@ use Rattle.ntx_lists.specs.Trees.{inner_of}
 use Rattle.ntx_lists.specs.declared.links.Inner.{Inner}
 
 -- ---- names and links
--- The copies of these names take one name after another, from first on: which one that of n takes.
+-- Copies of these names take one name after another, from first on: the name of the copy of n, if n is among them.
 abbrev pub copy_name : ℕ → List ℕ → ℕ → Option ℕ
 copy_name first [] n = None
 copy_name first (m ∷ ms) n = if nat_eq n m then Some first else copy_name (first + 1) ms n
 
--- the copy of what a link leads to, or nothing
+-- the copy of what a link leads to, or nothing where it leads to nothing that was copied
 abbrev pub copied_link : ℕ → List ℕ → Option ℕ → Option ℕ
 copied_link first names to = option_and_then (copy_name first names) to
 
@@ -39,7 +39,7 @@ with_lists (contents.Vlist b) lists = contents.Vlist (record b { list = lists.fi
 with_lists (contents.Disc d) lists = contents.Disc (record { pre = lists.first; post = lists.second; replace = lists.third })
 with_lists c lists = c
 
--- a node of the same kind, subtype, numbers and attributes, with these inner lists, which this follows
+-- a node of the same kind, subtype, numbers and attributes, with these inner lists, and followed by this
 abbrev pub relinked : Node → Inner → Option ℕ → Node
 relinked node lists next = record { fields = record { subtype = node.fields.subtype; next = next; contents = with_lists node.fields.contents lists }; attributes = node.attributes }
 
@@ -48,7 +48,7 @@ relinked node lists next = record { fields = record { subtype = node.fields.subt
 abbrev pub copied_lists : ℕ → List ℕ → Inner → Inner
 copied_lists first names lists = record { first = copied_link first names lists.first; second = copied_link first names lists.second; third = copied_link first names lists.third }
 
--- The copy of a node has the copies of its inner lists, and the copy of this follows it.
+-- The copy of a node has the copies of its inner lists, and is followed by the copy of this.
 abbrev pub copy_before : ℕ → List ℕ → Option ℕ → Node → Node
 copy_before first names next node = relinked node (copied_lists first names (inner_of node.fields.contents)) (copied_link first names next)
 
@@ -80,11 +80,11 @@ abbrev pub moved_on : Heap → ℕ → Heap
 moved_on heap count = record heap { next = heap.next + count }
 
 -- ---- how many
--- As many copies can be made: until as many nodes are live as may be, or no name is left,
+-- How many copies can be made, until as many nodes are live as may be or no name is left.
 abbrev pub room : Heap → ℕ
 room heap = min (max_nodes - map.len heap.nodes) (name_limit - heap.next)
 
--- and why the next cannot be made then. That nodes are full counts first.
+-- Why no more can be made then: that nodes are full comes before that names are out.
 abbrev pub why_no_more : Heap → Trouble
 why_no_more heap = if nat_le (max_nodes - map.len heap.nodes) (name_limit - heap.next) then NodesFull else NamesOut
 
@@ -93,8 +93,8 @@ why_no_more heap = if nat_le (max_nodes - map.len heap.nodes) (name_limit - heap
 abbrev pub Left : Type 0 → Type 0
 Left A = Result A Trouble × Heap
 
--- What a walk reaches is copied. Where it stops, nothing is made. Where not all copies can be made, those that can have taken their names,
--- and are gone again.
+-- What a walk reaches is copied. Where the walk stops, nothing is made. Where there is not room for all copies, as many as there is room for
+-- have been made, and are gone again: their names alone stay given.
 abbrev pub copies_left : {A : Type 0} → Heap → (List ℕ → ℕ → Node → Node) → A → Result (List ℕ) Trouble → Left A
 copies_left heap copy answer (Ok names) =
     if nat_le (length names) (room heap) then (Ok answer, with_copies heap (copy names) names)
@@ -109,9 +109,9 @@ copy_list_step head heap = copies_left heap (list_copy heap.next) (option_map (�
 abbrev pub copy_tree_step : ℕ → Heap → Left ℕ
 copy_tree_step n heap = copies_left heap (tree_copy n heap.next) heap.next (tree_walk heap n)
 
--- Fewer copies than there are names were made, and are gone again.
+-- Fewer copies than there are names were made, and no more than there was room for; they are gone again.
 abbrev pub Unfinished : Heap → Heap → Result (List ℕ) Trouble → Type 0
-Unfinished old new (Ok names) = (made : ℕ) × (made < length names) × (new ≡ moved_on old made)
+Unfinished old new (Ok names) = (made : ℕ) × (made < length names) × (made ≤ room old) × (new ≡ moved_on old made)
 Unfinished old new (Err why) = ⊥
 
 -- The call that copies what a walk reaches gives or refuses what the step does, and leaves its heap. Where memory runs out the walk has come to

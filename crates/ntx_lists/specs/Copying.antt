@@ -158,7 +158,7 @@ LinksRest old new lists next first =
 abbrev pub LeavesCopies : Heap → Heap → (ℕ → Node → Node) → List ℕ → Result ℕ (Fail Trouble) → Type 0
 LeavesCopies old new copy names (Ok first) = (first ≡ old.next) × (length names ≤ room old) × (new ≡ with_copies old copy names)
 LeavesCopies old new copy names (Err (Is why)) = (room old < length names) × (why ≡ why_no_more old) × (new ≡ moved_on old (room old))
-LeavesCopies old new copy names (Err NoMemory) = (made : ℕ) × (made < length names) × (new ≡ moved_on old made)
+LeavesCopies old new copy names (Err NoMemory) = (made : ℕ) × (made < length names) × (made ≤ room old) × (new ≡ moved_on old made)
 
 -- A node is copied with its inner lists and what is to follow it.
 abbrev pub CopiesNode : Heap → Heap → ℕ → Option ℕ → Result ℕ (Fail Trouble) → Type 0

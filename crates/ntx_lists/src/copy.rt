@@ -200,13 +200,16 @@ fn copy_node<N: Nodes>(nodes: &mut N, n: u64, next: Option<u64>) -> Result<u64, 
     }
 }
 
-/// Copies all that the list at a head reaches, with the lists inside it, and gives the copy of the head. The copies take one
-/// name after another, in the order of the walk. A link that the walk followed leads from copy to copy, and a copy has no
-/// other link. The heap itself takes the memory for the copies, and the allocator is not used.
+/// Copies all that the list at a head reaches, with the lists inside it, and gives the copy of the head, or nothing where
+/// there is no head. The copies take one name after another, in the order of the walk. A link that the walk followed leads
+/// from copy to copy, and a copy has no other link. The heap itself takes the memory for the copies, and the allocator is
+/// not used.
 ///
-/// At each node it refuses with Stale where it is dead, Loop where the walk reached it before, and Nest at depth 101, in
-/// this order, and makes nothing then; and else with NodesFull and NamesOut at the first copy that cannot be made. What was
-/// made until then is freed again, also where memory runs out, and its names are not given a second time.
+/// The walk comes first. At each node it refuses with Stale where the node is dead, Loop where the walk reached it before,
+/// and Nest at depth 101, in this order, and makes nothing then. Memory is taken for the copies alone, after the walk: what
+/// the walk refuses it refuses with or without memory. After it, copying refuses with NodesFull where 2^18 nodes are live at
+/// the making of a copy, else with NamesOut where the next name is 2^48 then. The copies made until then are freed again,
+/// also where memory runs out, and their names are not given a second time.
 pub fn copy_list<N: Nodes>(
     _alloc: Global,
     nodes: &mut N,
@@ -228,7 +231,7 @@ pub fn copy_list<N: Nodes>(
 }
 
 /// Copies a node with its inner lists, without what follows it, and gives its copy, which nothing follows. Refuses as
-/// `copy_list`.
+/// `copy_list`; what follows the node itself is not looked at.
 pub fn copy_tree<N: Nodes>(_alloc: Global, nodes: &mut N, n: u64) -> Result<u64, Fail<Trouble>>
     ensures copies { Copies result (N.heap nodes.old) (N.heap nodes.new) (tree_walk (N.heap nodes.old) n) (copy_tree_step n (N.heap nodes.old)) }
 {

@@ -2,7 +2,8 @@
 //! "Nodes"; "TeX: The Program", sections 199 to 206).
 //!
 //! Each call is one step of the heap: `specs/Lists.antt` states those along one list, `specs/Trees.antt` freeing, and
-//! `specs/Copies.antt` copying. A call that refuses leaves the heap as it was, but that names once given to copies stay given.
+//! `specs/Copies.antt` copying. A call that refuses leaves the heap as it was, except that names once given to copies stay
+//! given.
 //!
 //! It stands on `ntx_num` and `ntx_nodes`.
 #![tactic(auto)]
