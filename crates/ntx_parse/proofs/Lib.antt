@@ -21,6 +21,7 @@ pub mod NamedLemmas
 pub mod OperatorLemmas
 pub mod ReadsLemmas
 pub mod Refused
+pub mod ScriptLemmas
 pub mod Sound
 pub mod SoundAnswers
 pub mod SoundAssignments

@@ -2,8 +2,10 @@
 -- same word). Words can stand at the front of a script if some words behind them make them a script.
 --     IsRefusedAt why words behind   a script of these words is refused for this reason at the first of the words behind
 --     IsRefused bytes words fault    the same with the line
-use Rattle.std.specs.Prelude.{◌≡◌, ◌<◌, ◌≤◌, ℕ, ◌+◌, false, List, [], ◌∷◌, ◌++◌, map}
+use Rattle.std.specs.Prelude.{◌≡◌, ◌<◌, ◌≤◌, ℕ, ◌+◌, false, List, [], ◌∷◌, ◌++◌, map, Result, Ok, Err}
 use Rattle.std.specs.List.{AllByRecursion}
+use Rattle.ntx_num.specs.declared.answer.Fail.{Fail}
+use Rattle.ntx_num.specs.declared.answer.Fail.TheVariants.{NoMemory, Is}
 use Rattle.ntx_syntax.specs.declared.fault.SyntaxFault.{SyntaxFault}
 use Rattle.ntx_syntax.specs.declared.fault.SyntaxWhy.{SyntaxWhy}
 use Rattle.ntx_syntax.specs.declared.fault.SyntaxWhy.TheVariants.{Expected, Depth, Break}
@@ -62,3 +64,9 @@ pub record IsRefused (bytes : List ℕ) (words : List Word) (fault : SyntaxFault
   pub behind : List Word
   pub at : IsRefusedAt fault.why words behind
   pub line : fault.line ≡ line_at bytes behind
+
+-- It is so of the fault with which a call refuses, if it does.
+abbrev pub IfRefused : {A : Type 0} → Result A (Fail SyntaxFault) → (SyntaxFault → Type 0) → Type 0
+IfRefused (Ok a) holds = Unit {0}
+IfRefused (Err NoMemory) holds = Unit {0}
+IfRefused (Err (Is fault)) holds = holds fault

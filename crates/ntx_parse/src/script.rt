@@ -1,17 +1,27 @@
 //! Reading a script.
 
-ghost use Rattle.std.specs.Prelude.{◌≡◌, ◌≤◌, ◌+◌, ◌*◌};
+ghost use Rattle.std.specs.Prelude.{◌≡◌, ◌≤◌, ◌+◌, ◌*◌, [], List, map, Ok, IfOk};
+ghost use Rattle.ntx_num.specs.Answer.{Answers};
 ghost use Rattle.ntx_syntax.specs.Lexes.{Lexes, line_ends};
-ghost use Rattle.ntx_parse.specs.Reading.{readers};
+ghost use Rattle.ntx_syntax.specs.declared.tree.Chunk.{Chunk};
+ghost use Rattle.ntx_parse.specs.Faults.{IfRefused, IsRefused};
+ghost use Rattle.ntx_parse.specs.Grammar.{Accepts};
+ghost use Rattle.ntx_parse.specs.Input.{HaveValues, seen};
+ghost use Rattle.ntx_parse.specs.Reading.{readers, script_by};
 ghost use Rattle.ntx_parse.specs.Reads.{Reads};
+ghost use Rattle.ntx_parse.specs.Words as words;
+ghost use Rattle.ntx_parse.specs.Words.{words_of};
 
 use crate::parser::Parser;
 use crate::place::{Place, outermost};
 use crate::precedence::Precedence;
 use crate::rules::Rules;
-use crate::word::words_of;
+use crate::word::{Word, words_of};
 use ntx_num::Fail;
-use ntx_syntax::{Block, Chunk, Exp, SyntaxFault, SyntaxWhy, Token};
+use ntx_syntax::{
+    Block, Chunk, Exp, SyntaxFault, SyntaxWhy, Token, numerals_have_values, texts_have_values,
+    tokens_stand_in_order,
+};
 use std::alloc::Global;
 
 /// How deep expressions and blocks can lie in one another in a script whose words lie no deeper than they may.
@@ -67,14 +77,61 @@ fn last_line(bytes: &[u8]) -> u64
     1 + bytes.iter().filter(|b| **b == b'\n').count() as u64
 }
 
-/// The tree of a script, of its tokens.
-pub fn parse(alloc: Global, bytes: &[u8], tokens: &[Token]) -> Result<Chunk, Fail<SyntaxFault>> {
-    let words = words_of(alloc, bytes, tokens)?;
-    let mut parser = Parser::new(words.as_slice(), last_line(bytes));
+/// The block of a script of these words, with this last line.
+fn whole(
+    alloc: Global,
+    words: &[Word<'_>],
+    last_line: u64,
+) -> Result<Block, Fail<SyntaxFault>>
+    requires { HaveValues (map seen words.now) }
+    ensures { Reads (λ n. script_by n (map seen words.now)) (record { words = map seen words.now; last_line = last_line }) result (record { words = []; last_line = last_line }) }
+{
+    let mut parser = Parser::new(words, last_line);
     let block = block(alloc, &mut parser, MAX_DEPTH, outermost())?;
     if parser.is_at_end() {
-        Ok(Chunk { block })
+        Ok(block)
     } else {
         Err(parser.fault(SyntaxWhy::Expected))
     }
 }
+
+/// The tree of a script (Lua 5.3 Reference Manual, section 9), of its tokens.
+///
+/// Operators of one precedence that associate to the left, the suffixes of one prefix and the arms of one `if` are lists in
+/// the tree. A statement has the line of its first token, and a name that is declared local that of its token.
+///
+/// # Refusals
+///
+/// A script that has no tree is refused at the first token that cannot stand where it does, with the line of that token, or
+/// with the last line where the script ends too early: Expected where the tokens before it can be the front of a script, and
+/// with it they cannot; Depth where it lies in more than 200 blocks, function bodies, tables, parts in brackets and operands
+/// after operators; Break where it is a `break` outside of any loop of its function.
+///
+/// # Examples
+///
+/// ```text
+/// x = 1 + 2 * 3      a tree
+/// x = = 1            Expected in line 1
+/// break              Break in line 1
+/// ```
+pub fn parse(alloc: Global, bytes: &[u8], tokens: &[Token]) -> Result<Chunk, Fail<SyntaxFault>>
+    requires { Lexes bytes.now tokens.now }
+    // What it gives is the script's tree.
+    ensures accepts { IfOk result (λ chunk. Accepts (words_of bytes.now tokens.now) chunk) }
+    // A script that has a tree is given it, unless memory runs out.
+    ensures only { (chunk : Chunk) → Accepts (words_of bytes.now tokens.now) chunk → Answers result (Ok chunk) }
+    // What it refuses is refused rightly.
+    ensures refused { IfRefused result (λ fault. IsRefused bytes.now (words_of bytes.now tokens.now) fault) }
+{
+    tokens_stand_in_order();
+    numerals_have_values();
+    texts_have_values();
+    let words = words_of(alloc, bytes, tokens)?;
+    let block = whole(alloc, words.as_slice(), last_line(bytes))?;
+    Ok(Chunk { block })
+}
+
+/// No script has two trees.
+pub fn scripts_have_one_tree()
+    ensures { (words : List words.Word) (a b : Chunk) → Accepts words a → Accepts words b → a ≡ b }
+{}
