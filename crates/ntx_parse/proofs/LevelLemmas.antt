@@ -1,25 +1,18 @@
 -- Operators by their precedences.
-use Rattle.std.proofs.Common.{rules, arith, ◌≡◌, ◌≢◌, ◌<◌, ◌≤◌, ℕ, zero, suc, ◌+◌, Bool, true, false, ◌||◌, nat_eq, List, [], ◌∷◌, ◌++◌, refl, ap, subst, sym, ◌∙◌, Option, None, Some, Result, Ok, Err, if◌then◌else◌}
+use Rattle.std.proofs.Common.{rules, arith, ◌≡◌, ◌≢◌, ◌<◌, ◌≤◌, ℕ, zero, suc, ◌+◌, true, false, nat_eq, List, [], refl, ap, subst, sym, ◌∙◌, Result, Ok, Err}
 use Rattle.ntx_num.specs.declared.answer.Fail.{Fail}
 use Rattle.ntx_syntax.specs.declared.fault.SyntaxFault.{SyntaxFault}
 use Rattle.ntx_syntax.specs.declared.tree.Exp.{Exp}
-use Rattle.ntx_syntax.specs.declared.tree.Stat.{Stat}
-use Rattle.ntx_syntax.specs.declared.tree.StatKind.{StatKind}
-use Rattle.ntx_parse.specs.declared.part.Part.{Part}
-use Rattle.ntx_parse.specs.declared.part.Tail.{Tail}
 use Rattle.ntx_parse.specs.declared.place.Place.{Place}
 use Rattle.ntx_parse.specs.declared.precedence.Precedence.{Precedence}
 use Rattle.ntx_parse.specs.declared.precedence.Precedence.TheVariants as precedence
-use Rattle.ntx_parse.specs.declared.terminal.Terminal.{Terminal}
-use Rattle.ntx_parse.specs.declared.terminal.Terminal.TheVariants as terminal
-use Rattle.ntx_syntax.specs.declared.fault.SyntaxWhy.TheVariants as why
 use Rattle.ntx_parse.specs.Words.{Word}
 use Rattle.ntx_parse.specs.Grammar.{tighter, run_of}
-use Rattle.ntx_parse.specs.Reading.{Answer, Readers, and_then, read, stopped, begins, begins_statement, kind_at, stats_behind, suffixes_behind, joined, simple_at, read_simple, rank, readers, concat_behind, read_expression_statement}
-use Rattle.ntx_parse.specs.Input.{Input, next_of, statement_at}
-use Rattle.ntx_parse.specs.Steps.{behind_at, tail_at, extended}
+use Rattle.ntx_parse.specs.Reading.{Readers, and_then, read, rank, readers, concat_behind}
+use Rattle.ntx_parse.specs.Input.{Input}
+use Rattle.ntx_parse.specs.Steps.{behind_at}
 use Rattle.ntx_parse.specs.Reads.{Reads}
-use Rattle.ntx_parse.proofs.ReadsLemmas.{ok, err, later, same}
+use Rattle.ntx_parse.proofs.ReadsLemmas.{ok, err, later}
 
 pub rank_most : (at : Precedence) → rank at ≤ 10
 rank_most precedence.Or = omega arith

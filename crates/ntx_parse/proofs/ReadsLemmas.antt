@@ -1,11 +1,11 @@
 -- How readings follow one another.
-use Rattle.std.proofs.Common.{◌≡◌, ◌≤◌, ◌<◌, ℕ, zero, suc, ◌+◌, ◌-◌, Bool, true, false, List, length, Option, None, Some, Result, Ok, Err, refl, ap, subst, sym, OnOk, ◌∙◌, arith, if◌then◌else◌}
+use Rattle.std.proofs.Common.{◌≡◌, ◌≤◌, ◌<◌, ℕ, suc, ◌+◌, ◌-◌, Bool, true, false, List, length, Some, Result, Ok, Err, refl, ap, subst, sym, OnOk, ◌∙◌, arith, if◌then◌else◌}
 use Rattle.ntx_num.specs.declared.answer.Fail.{Fail}
 use Rattle.ntx_num.specs.declared.answer.Fail.TheVariants.{NoMemory, Is}
 use Rattle.ntx_syntax.specs.declared.fault.SyntaxFault.{SyntaxFault}
 use Rattle.ntx_parse.specs.Words.{Word}
-use Rattle.ntx_parse.specs.Reading.{Stop, Answer, and_then, read, stopped}
-use Rattle.ntx_parse.specs.Input.{Input, line_of}
+use Rattle.ntx_parse.specs.Reading.{Stop, Answer, and_then, read}
+use Rattle.ntx_parse.specs.Input.{Input}
 use Rattle.std.specs.Result.{IsErrAnd}
 use Rattle.ntx_parse.specs.Reads.{Settles, Reads, went, stops, out_of_memory, fault_at}
 

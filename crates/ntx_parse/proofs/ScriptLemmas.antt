@@ -1,12 +1,12 @@
 -- Whole scripts: what their reading says of the grammar.
-use Rattle.std.proofs.Common.{◌≡◌, ◌≤◌, ℕ, zero, suc, ◌+◌, List, [], ◌∷◌, length, Option, None, Some, Result, Ok, Err, refl, sym, ap, ◌∙◌, subst, arith, le_refl}
+use Rattle.std.proofs.Common.{◌≡◌, ℕ, ◌+◌, List, [], ◌∷◌, Some, Result, Ok, Err, refl, sym, ap, ◌∙◌, subst, arith, le_refl}
 use Rattle.std.specs.Prelude.{IsSome, true, false, Bool, ◌&&◌}
 use Rattle.std.specs.Result.{IsErrAnd}
 use Rattle.std.proofs.lemmas.Bool.{false≢true}
 use Rattle.std.specs.List.{list_all}
 use Rattle.ntx_num.specs.Answer.{Answers}
 use Rattle.ntx_num.specs.declared.answer.Fail.{Fail}
-use Rattle.ntx_num.specs.declared.answer.Fail.TheVariants.{NoMemory, Is}
+use Rattle.ntx_num.specs.declared.answer.Fail.TheVariants.{Is}
 use Rattle.ntx_syntax.specs.declared.fault.SyntaxFault.{SyntaxFault}
 use Rattle.ntx_syntax.specs.declared.fault.SyntaxWhy.TheVariants as why
 use Rattle.ntx_syntax.specs.declared.tree.Block.{Block}
@@ -19,7 +19,7 @@ use Rattle.ntx_parse.specs.declared.terminal.Terminal.{Terminal}
 use Rattle.ntx_parse.specs.declared.terminal.Terminal.TheVariants as terminal
 use Rattle.ntx_parse.specs.Grammar.{Accepts, outermost}
 use Rattle.ntx_parse.specs.Input.{Input, line_of, value_test, has_value, HaveValues}
-use Rattle.ntx_parse.specs.Reading.{Answer, Stop, read, stopped, ended, readers, script_by}
+use Rattle.ntx_parse.specs.Reading.{Answer, stopped, ended, readers, script_by}
 use Rattle.ntx_parse.specs.Reads.{Reads, went, stops, out_of_memory, fault_at}
 use Rattle.ntx_parse.specs.Words.{Word}
 use Rattle.ntx_parse.proofs.Complete.{one_tree, stopped_is_none}

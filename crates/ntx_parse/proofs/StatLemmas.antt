@@ -1,26 +1,18 @@
 -- Statements and suffixes, one after the other.
-use Rattle.std.proofs.Common.{rules, arith, ◌≡◌, ◌≢◌, ◌<◌, ◌≤◌, ℕ, zero, suc, ◌+◌, Bool, true, false, ◌||◌, nat_eq, List, [], ◌∷◌, ◌++◌, refl, ap, subst, sym, ◌∙◌, Option, None, Some, Result, Ok, Err, if◌then◌else◌}
-use Rattle.ntx_num.specs.declared.answer.Fail.{Fail}
-use Rattle.ntx_syntax.specs.declared.fault.SyntaxFault.{SyntaxFault}
-use Rattle.ntx_syntax.specs.declared.tree.Exp.{Exp}
+use Rattle.std.proofs.Common.{◌≡◌, ◌≢◌, ℕ, Bool, true, false, ◌||◌, List, [], ◌∷◌, ◌++◌, refl, ap, sym, None, Some, Ok, Err, if◌then◌else◌}
 use Rattle.ntx_syntax.specs.declared.tree.Stat.{Stat}
-use Rattle.ntx_syntax.specs.declared.tree.StatKind.{StatKind}
 use Rattle.ntx_parse.specs.declared.part.Part.{Part}
 use Rattle.ntx_parse.specs.declared.part.Tail.{Tail}
 use Rattle.ntx_parse.specs.declared.part.Tail.TheVariants as tail
 use Rattle.ntx_parse.specs.declared.place.Place.{Place}
-use Rattle.ntx_parse.specs.declared.precedence.Precedence.{Precedence}
-use Rattle.ntx_parse.specs.declared.precedence.Precedence.TheVariants as precedence
 use Rattle.ntx_parse.specs.declared.terminal.Terminal.{Terminal}
 use Rattle.ntx_parse.specs.declared.terminal.Terminal.TheVariants as terminal
 use Rattle.ntx_syntax.specs.declared.fault.SyntaxWhy.TheVariants as why
 use Rattle.ntx_parse.specs.Words.{Word}
-use Rattle.ntx_parse.specs.Grammar.{within, tighter, run_of}
-use Rattle.ntx_parse.specs.Reading.{Answer, Readers, and_then, read, stopped, begins, begins_statement, kind_at, stats_behind, suffixes_behind, joined, simple_at, read_simple, taken, read_name, read_index, read_arguments, rank, readers, concat_behind, read_expression_statement}
-use Rattle.ntx_parse.specs.Input.{Input, next_of, statement_at}
-use Rattle.ntx_parse.specs.Steps.{behind_at, tail_at, extended}
-use Rattle.ntx_parse.specs.Reads.{Reads}
-use Rattle.ntx_parse.proofs.ReadsLemmas.{ok, err, later, same}
+use Rattle.ntx_parse.specs.Grammar.{within}
+use Rattle.ntx_parse.specs.Reading.{Answer, Readers, and_then, read, stopped, begins, begins_statement, kind_at, stats_behind, suffixes_behind, simple_at, read_simple, taken, read_name, read_index, read_arguments, read_expression_statement}
+use Rattle.ntx_parse.specs.Input.{next_of, statement_at}
+use Rattle.ntx_parse.specs.Steps.{tail_at, extended}
 
 none_not_some : {X : Type 0} {x : X} → None ≡ Some x → ⊥
 none_not_some is = cc

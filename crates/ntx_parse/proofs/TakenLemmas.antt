@@ -1,8 +1,8 @@
 -- What is taken of the words that a parser has.
-use Rattle.std.proofs.Common.{rules, arith, ◌≡◌, ◌<◌, ◌≤◌, ℕ, length, map, take, drop, List, [], ◌∷◌, refl, ap, ◌∙◌, sym, Err, Ok, Result, Some, None, slice_index_or, nat_le, ◌-◌, true, false}
+use Rattle.std.proofs.Common.{rules, arith, ◌≡◌, ◌<◌, ◌≤◌, ℕ, length, map, take, drop, List, [], ◌∷◌, refl, ap, ◌∙◌, sym, Err, Ok, Some, None, slice_index_or, nat_le, ◌-◌, true, false}
 use Rattle.std.proofs.lemmas.Grind.{common_steps}
 use Rattle.ntx_num.specs.declared.answer.Fail.{Fail}
-use Rattle.ntx_num.specs.declared.answer.Fail.TheVariants.{NoMemory, Is}
+use Rattle.ntx_num.specs.declared.answer.Fail.TheVariants.{Is}
 use Rattle.ntx_syntax.specs.declared.fault.SyntaxFault.{SyntaxFault}
 use Rattle.ntx_syntax.specs.declared.fault.SyntaxWhy.TheVariants as why
 use Rattle.ntx_parse.specs.declared.word.Word as code
@@ -11,7 +11,7 @@ use Rattle.ntx_parse.specs.Words.{Word}
 use Rattle.ntx_parse.specs.Reading.{Answer, Stop, taken}
 use Rattle.std.specs.Prelude.{IsSome, is_some, Bool, Option, ◌&&◌, if◌then◌else◌}
 use Rattle.std.specs.List.{list_all}
-use Rattle.ntx_syntax.specs.Values.{numeral_value, text_value}
+use Rattle.ntx_syntax.specs.Values.{numeral_value}
 use Rattle.ntx_parse.specs.declared.terminal.Terminal.{Terminal}
 use Rattle.ntx_parse.specs.declared.terminal.Terminal.TheVariants as terminal
 use Rattle.ntx_parse.specs.Input.{Input, seen, line_of, next_of, has_value, value_test, HaveValues}

@@ -1,7 +1,7 @@
 -- How words are read from the left, one phrase after the other (Lua 5.3 Reference Manual, section 9): the tree of the phrase at their front and the
 -- words that are left, or the word at which the reading stops and why. `readers n` reads with calls that lie n deep at most, and tells nothing where
 -- that is too few.
-use Rattle.std.specs.Prelude.{◌≡◌, ◌≤◌, ℕ, zero, suc, ◌+◌, ◌*◌, nat_le, nat_eq, Bool, true, false, ◌||◌, ◌&&◌, List, [], ◌∷◌, ◌++◌, length, ℤ, Option, None, Some, Result, Ok, Err, if◌then◌else◌}
+use Rattle.std.specs.Prelude.{ℕ, zero, suc, nat_le, nat_eq, Bool, true, false, ◌||◌, ◌&&◌, List, [], ◌∷◌, ◌++◌, Option, None, Some, Result, Ok, Err, if◌then◌else◌}
 use Rattle.ntx_syntax.specs.declared.fault.SyntaxWhy.{SyntaxWhy}
 use Rattle.ntx_syntax.specs.declared.fault.SyntaxWhy.TheVariants as why
 use Rattle.ntx_syntax.specs.declared.tree.Block.{Block, roll-Block}
@@ -14,7 +14,6 @@ use Rattle.ntx_syntax.specs.declared.tree.FunctionBody.{FunctionBody, roll-Funct
 use Rattle.ntx_syntax.specs.declared.tree.LocalName.{LocalName}
 use Rattle.ntx_syntax.specs.declared.tree.Var.{Var}
 use Rattle.ntx_syntax.specs.declared.tree.Var.TheVariants as var
-use Rattle.ntx_syntax.specs.declared.tree.Call.{Call}
 use Rattle.ntx_syntax.specs.declared.tree.Prefix.{Prefix}
 use Rattle.ntx_syntax.specs.declared.tree.Head.TheVariants as head
 use Rattle.ntx_syntax.specs.declared.tree.Suffix.TheVariants as suffix

@@ -1,6 +1,6 @@
 -- What a reading function of the parser ensures.
 --     Reads read old result new    what is read of the words in `old` is the result, with the words in `new` left, unless memory runs out
-use Rattle.std.specs.Prelude.{◌≡◌, ◌≤◌, ℕ, length, List, Option, Some, Result, Ok, Err}
+use Rattle.std.specs.Prelude.{◌≡◌, ◌≤◌, ℕ, length, List, Some, Result, Ok, Err}
 use Rattle.ntx_num.specs.declared.answer.Fail.{Fail}
 use Rattle.ntx_num.specs.declared.answer.Fail.TheVariants.{NoMemory, Is}
 use Rattle.ntx_syntax.specs.declared.fault.SyntaxFault.{SyntaxFault}

@@ -26,7 +26,6 @@ mod tables;
 mod terminal;
 mod word;
 
-pub use part::Part;
 pub use place::Place;
 pub use precedence::Precedence;
 pub use script::{parse, scripts_have_one_tree};

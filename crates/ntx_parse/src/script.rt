@@ -78,11 +78,7 @@ fn last_line(bytes: &[u8]) -> u64
 }
 
 /// The block of a script of these words, with this last line.
-fn whole(
-    alloc: Global,
-    words: &[Word<'_>],
-    last_line: u64,
-) -> Result<Block, Fail<SyntaxFault>>
+fn whole(alloc: Global, words: &[Word<'_>], last_line: u64) -> Result<Block, Fail<SyntaxFault>>
     requires { HaveValues (map seen words.now) }
     ensures { Reads (λ n. script_by n (map seen words.now)) (record { words = map seen words.now; last_line = last_line }) result (record { words = []; last_line = last_line }) }
 {

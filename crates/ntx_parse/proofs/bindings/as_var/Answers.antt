@@ -1,5 +1,5 @@
-use Rattle.std.proofs.Common.{refl, ap, ◌∙◌, sym}
-use Rattle.ntx_parse.proofs.ReadsLemmas.{ok, err_by, no_memory_by, done, later, when, unless, with_equal, stops_at_once}
+use Rattle.std.proofs.Common.{refl}
+use Rattle.ntx_parse.proofs.ReadsLemmas.{done, stops_at_once}
 use Rattle.ntx_parse.proofs.bindings.as_var.Goals as goal
 
 pub returns-in-Some : goal.returns-in-Some

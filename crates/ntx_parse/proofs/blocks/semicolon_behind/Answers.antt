@@ -1,5 +1,5 @@
-use Rattle.std.proofs.Common.{refl, ap, ◌∙◌, sym}
-use Rattle.ntx_parse.proofs.ReadsLemmas.{ok, err_by, no_memory_by, done, later, when, unless, with_equal, stops_at_once}
+use Rattle.std.proofs.Common.{◌∙◌, sym}
+use Rattle.ntx_parse.proofs.ReadsLemmas.{ok, err_by, done, when, unless}
 use Rattle.ntx_parse.proofs.blocks.semicolon_behind.Goals as goal
 
 pub returns-then-not-begins : goal.returns-then-not-begins

@@ -1,6 +1,4 @@
-use Rattle.std.proofs.Common.{refl, ap, ◌∙◌, sym, [], ◌∷◌, ◌++◌}
-use Rattle.ntx_parse.specs.Reading.{readers}
-use Rattle.ntx_parse.proofs.ReadsLemmas.{ok, err_by, no_memory_by, done, later, when, unless, with_equal}
+use Rattle.ntx_parse.proofs.ReadsLemmas.{ok, err_by}
 use Rattle.ntx_parse.proofs.names.names.Goals as goal
 
 pub returns-in_err-first : goal.returns-in_err-first

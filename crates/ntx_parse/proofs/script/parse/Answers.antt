@@ -23,7 +23,7 @@ pub returns-in_err-block-clause-refused : goal.returns-in_err-block-clause-refus
 returns-in_err-block-clause-refused c =
     let same : map seen c.as_slice.result.now ≡ words_of c.args.bytes.now c.args.tokens.now = ap (map seen) c.as_slice.ensures.value ∙ c.in_ok-words.ensures in
     let values : stuck.HaveValues (words_of c.args.bytes.now c.args.tokens.now) =
-        words_have_values c.numerals_have_values.ensures c.texts_have_values.ensures c.args.bytes.now 0 c.args.tokens.now (c.tokens_stand_in_order.ensures _ _ c.requires) in
+    words_have_values c.numerals_have_values.ensures c.texts_have_values.ensures c.args.bytes.now 0 c.args.tokens.now (c.tokens_stand_in_order.ensures _ _ c.requires) in
     subst (λ words. IfRefused c.from_residual-in_err-block.result (λ fault. IsRefused c.args.bytes.now words fault)) same
     (refused_by _ c.args.bytes.now c.from_residual-in_err-block.ensures.1 (subst stuck.HaveValues (sym same) values) c.last_line.ensures c.in_err-block.ensures)
 

@@ -1,6 +1,5 @@
-use Rattle.std.proofs.Common.{arith, refl, ap, ◌∙◌, sym, [], ◌∷◌, ◌++◌}
-use Rattle.ntx_parse.specs.Reading.{readers}
-use Rattle.ntx_parse.proofs.ReadsLemmas.{ok, err_by, no_memory_by, done, later, when, unless, with_equal, stops_at_once, shorter_of, stays_shorter, line_kept}
+use Rattle.std.proofs.Common.{refl, ap}
+use Rattle.ntx_parse.proofs.ReadsLemmas.{ok, err_by, done, when, unless, stops_at_once, line_kept}
 use Rattle.ntx_syntax.specs.declared.fault.SyntaxWhy.TheVariants.{Break}
 use Rattle.ntx_parse.specs.Input.{line_of}
 use Rattle.ntx_parse.proofs.statements.break_stat.Goals as goal

@@ -1,4 +1,4 @@
-use Rattle.std.proofs.Common.{rules, arith, refl, ◌∙◌, sym}
+use Rattle.std.proofs.Common.{refl, ◌∙◌, sym}
 use Rattle.ntx_parse.proofs.ReadsLemmas.{when, unless, stops_at_once}
 use Rattle.ntx_parse.proofs.parser.Parser.expected.Goals as goal
 

@@ -1,4 +1,4 @@
-use Rattle.std.proofs.Common.{refl, ap, ◌∙◌, sym, w64, lt→ltb}
+use Rattle.std.proofs.Common.{w64, lt→ltb}
 use Rattle.std.proofs.lemmas.Int.{to_z-of_z}
 use Rattle.std.proofs.Math.Facts.{sfits_lit}
 use Rattle.ntx_parse.proofs.ReadsLemmas.{ok, err_by, done}

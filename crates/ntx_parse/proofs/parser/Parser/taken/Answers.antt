@@ -1,4 +1,4 @@
-use Rattle.std.proofs.Common.{rules, arith, refl}
+use Rattle.std.proofs.Common.{refl}
 use Rattle.ntx_parse.proofs.TakenLemmas.{taken_nothing, taken_deep, taken_word, first_seen}
 use Rattle.ntx_parse.proofs.parser.Parser.taken.Goals as goal
 

@@ -1,4 +1,4 @@
-use Rattle.std.proofs.Common.{refl, ap, ◌∙◌, sym}
+use Rattle.std.proofs.Common.{sym}
 use Rattle.ntx_parse.proofs.ReadsLemmas.{ok, err_by, no_memory_by, done}
 use Rattle.ntx_parse.proofs.parser.Parser.text.Goals as goal
 

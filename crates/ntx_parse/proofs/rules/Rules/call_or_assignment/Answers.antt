@@ -1,4 +1,4 @@
-use Rattle.std.proofs.Common.{refl, ap, ◌∙◌, sym}
+use Rattle.std.proofs.Common.{refl}
 use Rattle.ntx_parse.proofs.ReadsLemmas.{ok, err_by, done, stops_at_once, stays_shorter}
 use Rattle.ntx_parse.proofs.rules.Rules.call_or_assignment.Goals as goal
 

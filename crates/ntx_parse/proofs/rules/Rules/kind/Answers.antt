@@ -1,4 +1,3 @@
-use Rattle.std.proofs.Common.{ap, ◌∙◌, sym}
 use Rattle.ntx_parse.specs.Reading.{readers}
 use Rattle.ntx_parse.proofs.ReadsLemmas.{same}
 use Rattle.ntx_parse.proofs.StatLemmas.{kind_other}

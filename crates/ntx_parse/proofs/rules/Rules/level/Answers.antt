@@ -1,6 +1,5 @@
-use Rattle.std.proofs.Common.{◌≡◌, arith, refl, ap, ◌∙◌, ◌-◌, sym, subst, Ok}
+use Rattle.std.proofs.Common.{◌≡◌, arith, refl, ◌∙◌, ◌-◌, sym, subst, Ok}
 use Rattle.ntx_parse.specs.declared.precedence.Precedence.TheVariants as precedence
-use Rattle.ntx_parse.specs.Grammar.{tighter}
 use Rattle.ntx_parse.specs.Reading.{readers, rank}
 use Rattle.ntx_parse.specs.Reads.{Reads}
 use Rattle.ntx_parse.proofs.ReadsLemmas.{later, ends_by}

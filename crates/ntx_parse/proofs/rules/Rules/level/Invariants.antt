@@ -1,4 +1,4 @@
-use Rattle.std.proofs.Common.{ℕ, ◌≤◌, Ok}
+use Rattle.std.proofs.Common.{◌≤◌, Ok}
 use Rattle.ntx_parse.specs.Reading.{readers, rank}
 use Rattle.ntx_parse.specs.Reads.{Reads}
 use Rattle.ntx_parse.proofs.rules.Rules.level.Given as goal

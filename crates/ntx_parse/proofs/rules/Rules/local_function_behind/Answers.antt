@@ -1,6 +1,5 @@
-use Rattle.std.proofs.Common.{arith, refl, ap, ◌∙◌, sym, [], ◌∷◌, ◌++◌}
-use Rattle.ntx_parse.specs.Reading.{readers, read_body, as_var}
-use Rattle.ntx_parse.proofs.ReadsLemmas.{ok, err_by, no_memory_by, done, later, when, unless, with_equal, stops_at_once, shorter_of, stays_shorter, line_kept}
+use Rattle.ntx_parse.specs.Reading.{readers, read_body}
+use Rattle.ntx_parse.proofs.ReadsLemmas.{ok, err_by, done, with_equal}
 use Rattle.ntx_parse.proofs.rules.Rules.local_function_behind.Goals as goal
 
 pub returns-in_err-taken : goal.returns-in_err-taken

@@ -1,4 +1,4 @@
-use Rattle.std.proofs.Common.{ap, ◌∙◌, sym, refl}
+use Rattle.std.proofs.Common.{refl}
 use Rattle.ntx_parse.specs.Reading.{readers}
 use Rattle.ntx_parse.proofs.ReadsLemmas.{same, stops_at_once}
 use Rattle.ntx_parse.proofs.StatLemmas.{simple_other}

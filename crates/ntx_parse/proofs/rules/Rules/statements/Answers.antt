@@ -1,6 +1,4 @@
-use Rattle.std.proofs.Common.{arith, refl, ap, ◌∙◌, sym, [], ◌∷◌, ◌++◌}
-use Rattle.ntx_parse.specs.Reading.{readers}
-use Rattle.ntx_parse.proofs.ReadsLemmas.{ok, err_by, no_memory_by, done, later, when, unless, with_equal, stops_at_once, shorter_of, stays_shorter, line_kept}
+use Rattle.ntx_parse.proofs.ReadsLemmas.{ok, err_by, done}
 use Rattle.ntx_parse.proofs.rules.Rules.statements.Goals as goal
 
 pub returns-in_err-stats : goal.returns-in_err-stats

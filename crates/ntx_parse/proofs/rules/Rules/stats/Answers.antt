@@ -1,4 +1,4 @@
-use Rattle.std.proofs.Common.{arith, refl, ap, ◌∙◌, sym, [], ◌∷◌, ◌++◌}
+use Rattle.std.proofs.Common.{refl, ◌∙◌, sym}
 use Rattle.ntx_parse.specs.Reading.{readers}
 use Rattle.ntx_parse.proofs.ReadsLemmas.{ok, err_by, no_memory_by, done, later, same, with_equal}
 use Rattle.ntx_parse.proofs.StatLemmas.{stat_by, stats_end}

@@ -1,4 +1,4 @@
-use Rattle.std.proofs.Common.{List, ℕ, length, [], ◌∷◌, Result}
+use Rattle.std.proofs.Common.{length, Result}
 use Rattle.ntx_num.specs.declared.answer.Fail.{Fail}
 use Rattle.ntx_syntax.specs.declared.fault.SyntaxFault.{SyntaxFault}
 use Rattle.ntx_parse.specs.declared.part.Part.{Part}
