@@ -2,6 +2,7 @@
 
 mod accepted;
 mod depth;
+mod operators;
 mod refused;
 mod show;
 

@@ -1,8 +1,9 @@
 //! A tree as a text: operators and their operands in parentheses, and each line before an at sign.
 
+use super::operators::{binary_text, unary_text};
 use ntx_syntax::{
-    BinaryOp, Block, Chunk, Exp, Field, FunctionBody, Head, IfArm, LocalName, Name, Operation,
-    Prefix, Stat, StatKind, Suffix, UnaryOp, Var,
+    Block, Chunk, Exp, Field, FunctionBody, Head, IfArm, LocalName, Name, Operation, Prefix, Stat,
+    StatKind, Suffix, Var,
 };
 use std::alloc::{AllocError, Global};
 
@@ -357,39 +358,6 @@ const END: Part<'static> = Part::Bytes(b"end");
 const COMMA: Part<'static> = Part::Bytes(b",");
 
 const QUOTE: Part<'static> = Part::Bytes(b"\"");
-
-fn binary_text(operator: BinaryOp) -> &'static [u8] {
-    match operator {
-        BinaryOp::Or => b" or ",
-        BinaryOp::And => b" and ",
-        BinaryOp::Less => b"<",
-        BinaryOp::Greater => b">",
-        BinaryOp::LessEqual => b"<=",
-        BinaryOp::GreaterEqual => b">=",
-        BinaryOp::NotEqual => b"~=",
-        BinaryOp::Equal => b"==",
-        BinaryOp::BitOr => b"|",
-        BinaryOp::BitXor => b"~",
-        BinaryOp::BitAnd => b"&",
-        BinaryOp::ShiftLeft => b"<<",
-        BinaryOp::ShiftRight => b">>",
-        BinaryOp::Concat => b"..",
-        BinaryOp::Add => b"+",
-        BinaryOp::Subtract => b"-",
-        BinaryOp::Multiply => b"*",
-        BinaryOp::FloorDivide => b"//",
-        BinaryOp::Modulo => b"%",
-    }
-}
-
-fn unary_text(operator: UnaryOp) -> &'static [u8] {
-    match operator {
-        UnaryOp::Not => b"not ",
-        UnaryOp::Length => b"#",
-        UnaryOp::Minus => b"-",
-        UnaryOp::BitNot => b"~",
-    }
-}
 
 /// A tree as a text.
 pub fn shown(alloc: Global, chunk: &Chunk) -> Result<Vec<u8>, AllocError> {
