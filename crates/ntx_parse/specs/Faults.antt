@@ -1,6 +1,7 @@
--- Where a script is refused, and why: at the first word that cannot stand there (Lua 5.3 Reference Manual, section 9; its implementation tells the
--- same word). Words can stand at the front of a script if some words behind them make them a script.
---     IsRefusedAt why words behind   a script of these words is refused for this reason at the first of the words behind
+-- Where a script is refused, and why: at the first word that cannot follow those before it, lies too deep, or is a `break` outside of any loop of
+-- its function. Words can stand at the front of a script if some words after them make it a script; how deep they lie does not matter for that, nor
+-- whether a `break` is in a loop.
+--     IsRefusedAt why words behind   a script of these words is refused for this reason at the first of the words behind, or at the end if there are none
 --     IsRefused bytes words fault    the same with the line
 use Rattle.std.specs.Prelude.{◌≡◌, ◌<◌, ◌≤◌, ℕ, ◌+◌, false, List, [], ◌∷◌, ◌++◌, map, Result, Ok, Err}
 use Rattle.std.specs.List.{AllByRecursion}
@@ -20,7 +21,8 @@ use Rattle.ntx_parse.specs.Grammar.{Placed, IsChunk, IsFine, max_nesting}
 abbrev pub CanBegin : List Placed → Type 0
 CanBegin front = (others : List Placed) × (chunk : Chunk) × IsChunk chunk (front ++ others)
 
--- Words at places at which they can stand at the front of a script, none of them too deep, and each `break` in a loop.
+-- Words at places at which they can stand at the front of a script, none of them too deep, and each `break` in a loop of its
+-- function.
 pub record Stand (words : List Word) : Type 0 where
   pub placed : List Placed
   pub words_are : map (λ o. o.word) placed ≡ words
@@ -39,7 +41,8 @@ abbrev pub at_place : Word → Place → Placed
 at_place o p = record { word = o; place = p }
 
 -- What is wrong with the first of the words behind those that stand, which have these places: it cannot follow them, or the script cannot end
--- there; it lies too deep; it is a `break` outside of any loop, and does not lie too deep.
+-- there; it lies too deep; it is a `break` outside of any loop of its function, and does not
+-- lie too deep.
 abbrev pub IsWrong : SyntaxWhy → List Word → List Placed → List Word → Type 0
 IsWrong Expected front placed [] = IsNoScript front
 IsWrong Expected front placed (o ∷ behind) = CannotStand (front ++ o ∷ [])

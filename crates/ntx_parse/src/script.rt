@@ -98,16 +98,18 @@ fn whole(alloc: Global, words: &[Word<'_>], last_line: u64) -> Result<Block, Fai
 ///
 /// # Refusals
 ///
-/// A script that has no tree is refused at the first token that cannot stand where it does, with the line of that token, or
-/// with the last line where the script ends too early: Expected where the tokens before it can be the front of a script, and
-/// with it they cannot; Depth where it lies in more than 200 blocks, function bodies, tables, parts in brackets and operands
-/// after operators; Break where it is a `break` outside of any loop of its function.
+/// A script is refused at its first wrong token, with the line of that token, or with the last line, the one after its last
+/// line feed, where it ends too early. Expected: the tokens before it can be the front of a script, and with it they cannot,
+/// or the script cannot end there. Depth: it is no such token, and it lies in more than 200 blocks (the script's own not
+/// counted), bodies of functions, tables, parts in `( )` or `[ ]`, and operands of unary and right operands of binary
+/// operators. Break: it is neither of these, and it is a `break` outside of any loop of its function.
 ///
 /// # Examples
 ///
 /// ```text
 /// x = 1 + 2 * 3      a tree
 /// x = = 1            Expected in line 1
+/// x =                Expected in line 1
 /// break              Break in line 1
 /// ```
 pub fn parse(alloc: Global, bytes: &[u8], tokens: &[Token]) -> Result<Chunk, Fail<SyntaxFault>>
