@@ -18,11 +18,10 @@ at_end_behind {words = words} {o = o} h = record { front = h.front ++ o ∷ []; 
 pub ends_of : List Word → View
 ends_of whole = record {
   Lost = IsAtEnd whole;
-  LostStop = λ reason words. IsAtEnd whole words;
+  CanBeShort = ⊥;
   Alike = λ words others. ⊥;
   shorter = λ h. at_end_behind h;
-  stops = λ h. h;
-  deep = λ same h. absurd same;
+  short = λ same h. same;
   begin = λ h. absurd h;
 }
 

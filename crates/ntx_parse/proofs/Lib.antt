@@ -12,6 +12,7 @@ pub mod CompletePhrases
 pub mod CompletePrefixes
 pub mod CompleteStatements
 pub mod CompleteTables
+pub mod DeepNames
 pub mod Exact
 pub mod FollowLemmas
 pub mod LevelLemmas

@@ -6,7 +6,7 @@ use Rattle.std.proofs.Common.{◌≡◌, ◌≤◌, ℕ, max, List, [], ◌∷�
 use Rattle.ntx_syntax.specs.declared.tree.Block.{Block}
 use Rattle.ntx_parse.specs.Words.{Word}
 use Rattle.ntx_parse.specs.Reading.{Answer, Stop, read, stopped, readers, script_by}
-use Rattle.ntx_parse.proofs.Views.{Begin, both_end, then_alike, View, alike, at_alike, Tells, Goes}
+use Rattle.ntx_parse.proofs.Views.{Begin, both_end, then_alike, View, alike, at_alike, stop_lost, same_stop, too_few, Tells, Goes}
 use Rattle.ntx_parse.proofs.ViewedLists.{Go}
 use Rattle.ntx_parse.proofs.Viewed.{go_readers, goes_script}
 
@@ -19,11 +19,10 @@ begin_same (o ∷ words) = then_alike refl
 pub all_words : View
 all_words = record {
   Lost = λ words. ⊥;
-  LostStop = λ reason words. ⊥;
+  CanBeShort = ⊥;
   Alike = λ words others. words ≡ others;
   shorter = λ h. h;
-  stops = λ h. h;
-  deep = λ same h. absurd h;
+  short = λ same h. h;
   begin = λ {words} same. subst (λ others. Begin (λ words. ⊥) (λ words others. words ≡ others) words others) same (begin_same words);
 }
 
@@ -32,8 +31,9 @@ unfolding all_words
 told None b h x e = absurd cc
 told (Some (Ok found)) b (inl h) x e = absurd h
 told (Some (Ok found)) b (inr h) x e = h.2 ∙ ap (read found.0) (sym h.1) ∙ e
-told (Some (Err stop)) b (inl h) x e = absurd h
-told (Some (Err stop)) b (inr h) x e = h.2 ∙ ap (stopped stop.why) (sym h.1) ∙ e
+told (Some (Err stop)) b (stop_lost h) x e = absurd h
+told (Some (Err stop)) b (same_stop same h) x e = h ∙ ap (stopped stop.why) (sym same) ∙ e
+told (Some (Err stop)) b (too_few short h) x e = absurd short
 
 pub same_answer : {A : Type 0} {a b : Answer A} → Goes all_words alike a b → (x : Result (A × List Word) Stop) → a ≡ Some x → b ≡ Some x
 same_answer {a = a} {b = b} h x e = told a b h.tells x e

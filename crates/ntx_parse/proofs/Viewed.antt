@@ -6,6 +6,7 @@ use Rattle.ntx_syntax.specs.declared.tree.Block.{Block}
 use Rattle.ntx_parse.specs.Words.{Word}
 use Rattle.ntx_parse.specs.Grammar.{outermost}
 use Rattle.ntx_parse.specs.Reading.{Readers, nothing, over, readers, ended, script_by}
+use Rattle.ntx_parse.proofs.DeepNames.{AreDeep, deep_nothing, deep_over, deep_readers}
 use Rattle.ntx_parse.proofs.Views.{View, Situation, At, Goes, goes_nothing, goes_read, goes_stopped, goes_then, Firsts, no_first, first, firsts}
 use Rattle.ntx_parse.proofs.ViewedLists.{Go, goes_path, goes_names, goes_exps}
 use Rattle.ntx_parse.proofs.ViewedPrefixes.{goes_suffixes}
@@ -15,8 +16,8 @@ use Rattle.ntx_parse.proofs.ViewedNames.{lost_exp}
 use Rattle.ntx_parse.proofs.ViewedStatements.{goes_vars, goes_arms}
 use Rattle.ntx_parse.proofs.ViewedBlocks.{goes_stats, goes_block}
 
-go_nothing : {V : View} {other : Readers} → Go V nothing other
-go_nothing = record {
+go_nothing : {V : View} {other : Readers} → AreDeep other → Go V nothing other
+go_nothing other_deep = record {
   block = λ p h. goes_nothing;
   stats = λ p before h. goes_nothing;
   arms = λ p before h. goes_nothing;
@@ -28,7 +29,9 @@ go_nothing = record {
   exp = λ p at h. goes_nothing;
   operations = λ p at before h. goes_nothing;
   fields = λ p before h. goes_nothing;
-  named = λ p at o words e others same l. goes_nothing;
+  named = λ p at o words e fits l. goes_nothing;
+  deep = deep_nothing;
+  other_deep = other_deep;
 }
 
 pub go_over : {V : View} {r other : Readers} → Go V r other → Go V (over r) (over other)
@@ -44,12 +47,14 @@ go_over g = record {
   exp = λ p at h. goes_exp g p at h;
   operations = λ p at before h. goes_operations g p at before h;
   fields = λ p before h. goes_fields g p before h;
-  named = λ p at o words e others same l. lost_exp g o words e others same l p at;
+  named = λ p at o words e fits l. lost_exp g p o words e fits l at;
+  deep = deep_over g.deep;
+  other_deep = deep_over g.other_deep;
 }
 
 -- The first with calls of this depth go beside the others with calls as deep or deeper.
 pub go_readers : {V : View} (n m : ℕ) → n ≤ m → Go V (readers n) (readers m)
-go_readers zero m h = go_nothing
+go_readers zero m h = go_nothing (deep_readers m)
 go_readers (suc n) zero h = absurd (omega arith)
 go_readers (suc n) (suc m) h = go_over (go_readers n m (omega arith))
 

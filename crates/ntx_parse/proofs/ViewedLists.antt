@@ -1,5 +1,5 @@
 -- Two readings side by side: all of them, and names and lists.
-use Rattle.std.proofs.Common.{◌≡◌, ℕ, true, nat_eq, List, [], ◌∷◌, ◌++◌}
+use Rattle.std.proofs.Common.{◌≡◌, ℕ, true, nat_eq, nat_le, List, [], ◌∷◌, ◌++◌}
 use Rattle.ntx_syntax.specs.declared.tree.LocalName.{LocalName}
 use Rattle.ntx_syntax.specs.declared.tree.Var.{Var}
 use Rattle.ntx_syntax.specs.declared.tree.Exp.{Exp}
@@ -13,11 +13,13 @@ use Rattle.ntx_parse.specs.declared.precedence.Precedence.{Precedence}
 use Rattle.ntx_parse.specs.declared.precedence.Precedence.TheVariants as precedence
 use Rattle.ntx_parse.specs.declared.terminal.Terminal.TheVariants as terminal
 use Rattle.ntx_parse.specs.Words.{Word}
+use Rattle.ntx_parse.specs.Grammar.{max_nesting}
 use Rattle.ntx_parse.specs.Reading.{Readers, number, read_name, read_local_name, path_behind, names_behind, read_names, exps_behind, read_exps}
+use Rattle.ntx_parse.proofs.DeepNames.{AreDeep}
 use Rattle.ntx_parse.proofs.Views.{View, Situation, lost, At, Goes, goes_read, goes_then, goes_where, goes_taken, goes_expected}
 
--- Each reading of the first tells what that of the second tells. An expression that begins with a name behind which nothing is looked at takes it, or
--- stops at it because it lies too deep.
+-- Each reading of the first tells what that of the second tells. An expression that begins with a name behind which nothing is looked at takes it; where it
+-- lies too deep, both stop at it or tell nothing.
 pub record Go (V : View) (r other : Readers) : Type 0 where
   pub block : (p : Place) {s : Situation} {words others : List Word} → At V s words others → Goes V s (r.block p words) (other.block p others)
   pub stats : (p : Place) (before : List Stat) {s : Situation} {words others : List Word} → At V s words others
@@ -39,8 +41,10 @@ pub record Go (V : View) (r other : Readers) : Type 0 where
       → Goes V s (r.operations p at before words) (other.operations p at before others)
   pub fields : (p : Place) (before : List Field) {s : Situation} {words others : List Word} → At V s words others
       → Goes V s (r.fields p before words) (other.fields p before others)
-  pub named : (p : Place) (at : Precedence) (o : Word) (words : List Word) → nat_eq (number o.is) (number terminal.Name) ≡ true → (others : List Word)
-      → V.Alike (o ∷ words) others → V.Lost words → Goes V lost (r.exp p at (o ∷ words)) (other.exp p at (o ∷ words))
+  pub named : (p : Place) (at : Precedence) (o : Word) (words : List Word) → nat_eq (number o.is) (number terminal.Name) ≡ true
+      → nat_le p.nesting max_nesting ≡ true → V.Lost words → Goes V lost (r.exp p at (o ∷ words)) (other.exp p at (o ∷ words))
+  pub deep : AreDeep r
+  pub other_deep : AreDeep other
 
 module _ {V : View} {s : Situation} {words others : List Word} (p : Place) (h : At V s words others) where
   pub goes_name : Goes V s (read_name p words) (read_name p others)

@@ -1,6 +1,5 @@
 -- Two readings side by side: tables, and a name behind which nothing is looked at.
 use Rattle.std.proofs.Common.{◌≡◌, ℕ, Bool, true, false, ◌||◌, ◌&&◌, nat_eq, nat_le, cond, List, [], ◌∷◌, ◌++◌, refl, ap, ap₂}
-use Rattle.ntx_syntax.specs.declared.fault.SyntaxWhy.TheVariants as why
 use Rattle.ntx_syntax.specs.declared.tree.Field.{Field}
 use Rattle.ntx_syntax.specs.declared.tree.Field.TheVariants as field
 use Rattle.ntx_parse.specs.declared.place.Place.{Place}
@@ -8,26 +7,31 @@ use Rattle.ntx_parse.specs.declared.precedence.Precedence.TheVariants as precede
 use Rattle.ntx_parse.specs.declared.terminal.Terminal.TheVariants as terminal
 use Rattle.ntx_parse.specs.Words.{Word}
 use Rattle.ntx_parse.specs.Grammar.{within, max_nesting}
-use Rattle.ntx_parse.specs.Reading.{Readers, Answer, read, stopped, and_then, begins, number, expected, read_name, read_index, names_a_field, read_field, fields_behind, read_table}
-use Rattle.ntx_parse.proofs.Views.{View, Situation, lost, alike, At, at_lost, at_alike, Goes, goes_lost, goes_read, goes_if, goes_then, goes_where, goes_taken, goes_expected, begins_same, Begin, both_end, then_lost, then_alike}
+use Rattle.ntx_parse.specs.Reading.{Readers, Answer, read, and_then, begins, number, expected, read_name, read_index, names_a_field, read_field, fields_behind, read_table}
+use Rattle.ntx_parse.proofs.Views.{View, Situation, lost, alike, At, at_lost, at_alike, Goes, goes_lost, goes_nothing, goes_read, goes_stopped, goes_if, goes_then, goes_where, goes_taken, goes_expected, begins_same, Begin, both_end, then_lost, then_alike, too_few}
+use Rattle.ntx_parse.proofs.DeepNames.{StopsDeep, tells_nothing, too_deep, deep_then, AreDeep, name_if, deep_name}
 use Rattle.ntx_parse.proofs.ViewedLists.{Go, goes_name}
 use Rattle.ntx_parse.proofs.ViewedPrefixes.{goes_index}
 
--- this word, if it is a name and does not lie too deep
-abbrev name_if : Bool → Bool → Word → List Word → Answer Word
-name_if named fits o words = cond named (cond fits (read o words) (stopped why.Depth (o ∷ words))) (stopped why.Expected (o ∷ words))
-
-module _ {V : View} (p : Place) (o : Word) (words : List Word) (h : V.Lost words) (others : List Word) (same : V.Alike (o ∷ words) others) where
-  lost_if : {B : Type 0} (fits named : Bool) (next other : Word → List Word → Answer B) → named ≡ true
+module _ {V : View} (p : Place) (o : Word) (words : List Word) (h : V.Lost words) where
+  lost_if : {B : Type 0} (fits named : Bool) (next other : Word → List Word → Answer B) → named ≡ true → fits ≡ true
       → ((rest : List Word) → V.Lost rest → Goes V lost (next o rest) (other o rest))
       → Goes V lost (and_then (name_if named fits o words) next) (and_then (name_if named fits o words) other)
-  lost_if true true next other e g = g words h
-  lost_if false true next other e g = record { tells = V.deep same h }
-  lost_if fits false next other e g = absurd cc
+  lost_if true true next other e fits g = g words h
+  lost_if false named next other e fits g = absurd cc
+  lost_if fits false next other e _ g = absurd cc
 
-  -- A name in front of what is lost is taken, or it lies too deep.
-  pub lost_name : nat_eq (number o.is) (number terminal.Name) ≡ true → Goes V lost (read_name p (o ∷ words)) (read_name p (o ∷ words))
-  lost_name e = lost_if (nat_le p.nesting max_nesting) (nat_eq (number o.is) (number terminal.Name)) _ _ e (λ rest l. goes_read (at_lost l))
+  -- A name in front of what is lost is taken, if it does not lie too deep.
+  pub lost_name : nat_eq (number o.is) (number terminal.Name) ≡ true → nat_le p.nesting max_nesting ≡ true
+      → Goes V lost (read_name p (o ∷ words)) (read_name p (o ∷ words))
+  lost_name e fits = lost_if (nat_le p.nesting max_nesting) (nat_eq (number o.is) (number terminal.Name)) _ _ e fits (λ rest l. goes_read (at_lost l))
+
+-- Both readings stop at a name that lies too deep, or tell nothing.
+goes_deep : {A : Type 0} {V : View} {words others : List Word} {a b : Answer A} → V.Alike words others → V.CanBeShort → StopsDeep words a → StopsDeep others b
+    → Goes V alike a b
+goes_deep same short tells_nothing d = goes_nothing
+goes_deep same short too_deep too_deep = goes_stopped (at_alike same)
+goes_deep same short too_deep tells_nothing = record { tells = too_few short refl }
 
 -- [ exp ] = exp
 abbrev keyed_by : Readers → Place → List Word → Answer Field
@@ -52,6 +56,12 @@ positional_by r p words = and_then (r.exp p precedence.Or words) (λ value rest.
 abbrev named_or_positional : Readers → Place → Bool → List Word → Answer Field
 named_or_positional r p named words = cond named (named_by r p words) (positional_by r p words)
 
+-- A name that lies too deep is not taken, be it that of a field or the beginning of a value.
+deep_field : {r : Readers} → AreDeep r → (p : Place) (o : Word) (words : List Word) (test : Bool) → nat_eq (number o.is) (number terminal.Name) ≡ true
+    → nat_le p.nesting max_nesting ≡ false → StopsDeep (o ∷ words) (named_or_positional r p test (o ∷ words))
+deep_field {r} d p o words true e deep = deep_then (λ name behind. value_of r p name behind) (deep_name p o words e deep)
+deep_field d p o words false e deep = deep_then (λ value rest. read (field.Positional value) rest) (d.exp p precedence.Or o words e deep)
+
 module _ {V : View} {r other : Readers} (g : Go V r other) where
   -- ---- fields
 
@@ -72,18 +82,27 @@ module _ {V : View} {r other : Readers} (g : Go V r other) where
       → Goes V s (positional_by r p words) (positional_by other p others)
   goes_positional p h = goes_then (g.exp p precedence.Or h) (λ value _ _ _ h. goes_read h)
 
-  -- Whether the name in front of what is lost is that of a field or begins a value, it is taken or lies too deep.
+  -- Whether the name in front of what is lost is that of a field or begins a value, it is taken.
   lost_field : (p : Place) (o : Word) (words : List Word) (test : Bool) {s : Situation} {c : Answer Field} → nat_eq (number o.is) (number terminal.Name) ≡ true
-      → (others : List Word) → V.Alike (o ∷ words) others → V.Lost words → Goes V s (named_or_positional r p test (o ∷ words)) c
-  lost_field p o words true e others same l = goes_lost (goes_then (lost_name p o words l others same e) (λ name _ _ _ h. goes_value_of p name h))
-  lost_field p o words false e others same l = goes_lost (goes_then (g.named p precedence.Or o words e others same l) (λ value _ _ _ h. goes_read h))
+      → nat_le p.nesting max_nesting ≡ true → V.Lost words → Goes V s (named_or_positional r p test (o ∷ words)) c
+  lost_field p o words true e fits l = goes_lost (goes_then (lost_name p o words l e fits) (λ name _ _ _ h. goes_value_of p name h))
+  lost_field p o words false e fits l = goes_lost (goes_then (g.named p precedence.Or o words e fits l) (λ value _ _ _ h. goes_read h))
+
+  -- What it is shows behind it, and is not the same in both readings. If it lies too deep they stop at it all the same.
+  field_with_name : (p : Place) (o : Word) {words others : List Word} (fits : Bool) (one two : Bool) → nat_le p.nesting max_nesting ≡ fits
+      → nat_eq (number o.is) (number terminal.Name) ≡ true → V.Alike (o ∷ words) (o ∷ others) → V.Lost words
+      → Goes V alike (named_or_positional r p one (o ∷ words)) (named_or_positional other p two (o ∷ others))
+  field_with_name p o {words} true one two fits e same l = lost_field p o words one e fits l
+  field_with_name p o {words} {others} false one two deep e same l =
+      goes_deep same (V.short same l) (deep_field g.deep p o words one e deep) (deep_field g.other_deep p o others two e deep)
 
   field_by_name : (p : Place) {o : Word} {words others : List Word} (is_name : Bool) → nat_eq (number o.is) (number terminal.Name) ≡ is_name
       → V.Alike (o ∷ words) (o ∷ others) → V.Lost words
       → Goes V alike (named_or_positional r p (is_name && begins terminal.Assign words) (o ∷ words))
       (named_or_positional other p (is_name && begins terminal.Assign others) (o ∷ others))
   field_by_name p false e same l = goes_positional p (at_alike same)
-  field_by_name p {o} {words} {others} true e same l = lost_field p o words (begins terminal.Assign words) e (o ∷ others) same l
+  field_by_name p {o} {words} {others} true e same l =
+      field_with_name p o (nat_le p.nesting max_nesting) (begins terminal.Assign words) (begins terminal.Assign others) refl e same l
 
   field_begins : (p : Place) {words others : List Word} → V.Alike words others → Begin V.Lost V.Alike words others
       → Goes V alike (named_or_positional r p (names_a_field words) words) (named_or_positional other p (names_a_field others) others)

@@ -1,7 +1,8 @@
 -- Two readings side by side. They stand before words that are alike, until the first comes to words that are of no interest: what it tells is lost then.
 --     View                     which words are alike, and which are lost
 --     At V s words others      these words are in this situation: they are lost, or alike
---     Goes V s a b             the second answer is the same as the first, before words that are alike, or what the first tells is lost
+--     Goes V s a b             the second answer is the same as the first, before words that are alike, or what the first tells is lost, or the first stops
+--                              and the second is nothing, where its calls can be too few
 use Rattle.std.proofs.Common.{◌≡◌, Bool, true, false, List, [], ◌∷◌, ◌⊎◌, inl, inr, None, Some, Ok, Err, cond, nat_le, refl, sym, ap, subst}
 use Rattle.ntx_syntax.specs.declared.fault.SyntaxWhy.{SyntaxWhy}
 use Rattle.ntx_syntax.specs.declared.fault.SyntaxWhy.TheVariants as why
@@ -9,7 +10,7 @@ use Rattle.ntx_parse.specs.declared.place.Place.{Place}
 use Rattle.ntx_parse.specs.declared.terminal.Terminal.{Terminal}
 use Rattle.ntx_parse.specs.Words.{Word}
 use Rattle.ntx_parse.specs.Grammar.{max_nesting}
-use Rattle.ntx_parse.specs.Reading.{Answer, read, stopped, and_then, begins, taken, expected}
+use Rattle.ntx_parse.specs.Reading.{Answer, Stop, read, stopped, and_then, begins, taken, expected}
 
 -- Words that begin alike: both are none, or they have the same first word, behind which they are lost or alike.
 pub data Begin (Lost : List Word → Type 0) (Alike : List Word → List Word → Type 0) : List Word → List Word → Type 0 where
@@ -17,15 +18,15 @@ pub data Begin (Lost : List Word → Type 0) (Alike : List Word → List Word �
   then_lost : {o : Word} {words others : List Word} → Lost words → Begin Lost Alike (o ∷ words) (o ∷ others)
   then_alike : {o : Word} {words others : List Word} → Alike words others → Begin Lost Alike (o ∷ words) (o ∷ others)
 
--- `Lost words`: what is told before these words is of no interest. `LostStop reason words`: nor is it that a reading stops before these words for this reason.
--- `Alike words others`: one of the readings stands before these words, and the other before those.
+-- `Lost words`: what is told before these words is of no interest. `Alike words others`: one of the readings stands before these words, and the other before
+-- those. Where the words behind a name are lost, one may take it for the name of a field and the other for the beginning of an expression. `CanBeShort`: if it
+-- lies too deep, so that both are to stop at it, the second may tell nothing, since its calls are too few for an expression.
 pub record View : Type 1 where
   pub Lost : List Word → Type 0
-  pub LostStop : SyntaxWhy → List Word → Type 0
+  pub CanBeShort : Type 0
   pub Alike : List Word → List Word → Type 0
   pub shorter : {o : Word} {words : List Word} → Lost (o ∷ words) → Lost words
-  pub stops : {reason : SyntaxWhy} {words : List Word} → Lost words → LostStop reason words
-  pub deep : {o : Word} {words others : List Word} → Alike (o ∷ words) others → Lost words → LostStop why.Depth (o ∷ words)
+  pub short : {o : Word} {words others : List Word} → Alike (o ∷ words) others → Lost words → CanBeShort
   pub begin : {words others : List Word} → Alike words others → Begin Lost Alike words others
 
 -- the words are beyond those that are looked at, or they are alike
@@ -37,13 +38,19 @@ pub data At (V : View) : Situation → List Word → List Word → Type 0 where
   at_lost : {words : List Word} → V.Lost words → At V lost words words
   at_alike : {words others : List Word} → V.Alike words others → At V alike words others
 
--- In this situation the first answer is lost, or the second is the same, before words that are alike.
+-- The second stops for the same reason before words that are alike, or the stop is lost, or the calls of the second are too few.
+pub data AlsoStops (V : View) (stop : Stop) {A : Type 0} (b : Answer A) : Type 0 where
+  stop_lost : V.Lost stop.words → AlsoStops V stop b
+  same_stop : {rest : List Word} → V.Alike stop.words rest → b ≡ stopped stop.why rest → AlsoStops V stop b
+  too_few : V.CanBeShort → b ≡ None → AlsoStops V stop b
+
+-- In this situation the first answer is lost, or the second is the same, before words that are alike, or the first stops and the second is nothing.
 abbrev pub Tells : {A : Type 0} → View → Situation → Answer A → Answer A → Type 0
 Tells V s None b = Unit {0}
 Tells V lost (Some (Ok found)) b = V.Lost found.1
-Tells V lost (Some (Err stop)) b = V.LostStop stop.why stop.words
+Tells V lost (Some (Err stop)) b = V.Lost stop.words
 Tells V alike (Some (Ok found)) b = V.Lost found.1 ⊎ ((rest : List Word) × V.Alike found.1 rest × (b ≡ read found.0 rest))
-Tells V alike (Some (Err stop)) b = V.LostStop stop.why stop.words ⊎ ((rest : List Word) × V.Alike stop.words rest × (b ≡ stopped stop.why rest))
+Tells V alike (Some (Err stop)) b = AlsoStops V stop b
 
 pub record Goes {A : Type 0} (V : View) (s : Situation) (a b : Answer A) : Type 0 where
   pub tells : Tells V s a b
@@ -55,7 +62,7 @@ goes_lost {s = lost} {a = Some (Ok found)} h = record { tells = h.tells }
 goes_lost {s = lost} {a = Some (Err stop)} h = record { tells = h.tells }
 goes_lost {s = alike} {a = None} h = record { tells = tt }
 goes_lost {s = alike} {a = Some (Ok found)} h = record { tells = inl h.tells }
-goes_lost {s = alike} {a = Some (Err stop)} h = record { tells = inl h.tells }
+goes_lost {s = alike} {a = Some (Err stop)} h = record { tells = stop_lost h.tells }
 
 module _ {A : Type 0} {V : View} where
   pub goes_nothing : {s : Situation} {b : Answer A} → Goes V s None b
@@ -67,8 +74,8 @@ module _ {A : Type 0} {V : View} where
 
   pub goes_stopped : {s : Situation} {words others : List Word} {reason : SyntaxWhy} → At V s words others
       → Goes {A = A} V s (stopped reason words) (stopped reason others)
-  goes_stopped (at_lost h) = record { tells = V.stops h }
-  goes_stopped (at_alike h) = record { tells = inr (_, h, refl) }
+  goes_stopped (at_lost h) = record { tells = h }
+  goes_stopped (at_alike h) = record { tells = same_stop h refl }
 
   pub goes_if : {s : Situation} {a b c d : Answer A} (test other : Bool) → test ≡ other → Goes V s a b → Goes V s c d
       → Goes V s (cond test a c) (cond other b d)
@@ -85,14 +92,18 @@ then_alike_by found b next other (inl h) g = goes_lost (g found.0 lost found.1 f
 then_alike_by {V = V} found b next other (inr h) g =
     subst (λ c. Goes V alike (next found.0 found.1) (and_then c other)) (sym h.2) (g found.0 alike found.1 h.0 (at_alike h.1))
 
+then_stops : {A B : Type 0} {V : View} {stop : Stop} {b : Answer A} (other : A → List Word → Answer B) → AlsoStops V stop b
+    → AlsoStops V stop (and_then b other)
+then_stops other (stop_lost h) = stop_lost h
+then_stops other (same_stop h e) = same_stop h (ap (λ c. and_then c other) e)
+then_stops other (too_few h e) = too_few h (ap (λ c. and_then c other) e)
+
 pub goes_then : {A B : Type 0} {V : View} {s : Situation} {a b : Answer A} {next other : A → List Word → Answer B}
     → Goes V s a b → ((t : A) (s : Situation) (words others : List Word) → At V s words others → Goes V s (next t words) (other t others))
     → Goes V s (and_then a next) (and_then b other)
 goes_then {a = None} h g = goes_nothing
 goes_then {s = lost} {a = Some (Err stop)} h g = record { tells = h.tells }
-goes_then {s = alike} {a = Some (Err stop)} {b = b} {other = other} h g = record {
-  tells = elim h.tells [ inl l ↦ inl l | inr r ↦ inr (r.0, r.1, ap (λ c. and_then c other) r.2) ];
-}
+goes_then {s = alike} {a = Some (Err stop)} {other = other} h g = record { tells = then_stops other h.tells }
 goes_then {s = lost} {a = Some (Ok found)} h g = goes_lost (g found.0 lost found.1 found.1 (at_lost h.tells))
 goes_then {s = alike} {a = Some (Ok found)} {b = b} {next = next} {other = other} h g = then_alike_by found b next other h.tells g
 
