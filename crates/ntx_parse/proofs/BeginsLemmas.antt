@@ -1,19 +1,26 @@
 -- What words begin with.
-use Rattle.std.specs.Prelude.{◌≡◌, ◌≤◌, ℕ, nat_eq, nat_le, Bool, true, false, List, [], ◌∷◌, map, ⊤, if◌then◌else◌}
+use Rattle.std.specs.Prelude.{◌≡◌, ◌≤◌, ◌<◌, ℕ, nat_eq, nat_le, Bool, true, false, List, [], ◌∷◌, map, ⊤}
 use Rattle.std.proofs.Common.{refl, sym, ap, ◌∙◌, subst, le-leb, true≢false}
-use Rattle.std.proofs.lemmas.Bool.{eq-eqb}
+use Rattle.std.proofs.lemmas.Bool.{eq-eqb, lt-leb}
+use Rattle.ntx_syntax.specs.declared.fault.SyntaxWhy.{SyntaxWhy}
 use Rattle.ntx_syntax.specs.declared.fault.SyntaxWhy.TheVariants as why
 use Rattle.ntx_parse.specs.declared.place.Place.{Place}
 use Rattle.ntx_parse.specs.declared.terminal.Terminal.{Terminal}
+use Rattle.ntx_parse.specs.declared.terminal.Terminal.TheVariants as terminal
 use Rattle.ntx_parse.specs.Words.{Word}
 use Rattle.ntx_parse.specs.Grammar.{Placed, Is, IsFine, NotBefore, max_nesting}
 use Rattle.ntx_parse.specs.Reading.{Answer, read, stopped, number, begins, taken, expected, and_then}
 use Rattle.ntx_parse.proofs.TerminalLemmas.{same_terminal}
-use Rattle.ntx_parse.proofs.ComesLemmas.{Fine, is_fine, is_bad, IsOrStops, told, stops, Comes, comes_at_once, comes_then}
+use Rattle.ntx_parse.proofs.ComesLemmas.{Bar, IsBad, too_deep, no_loop, Fine, Comes, comes_first, comes_then, comes_if}
 
 -- the words without their places
 abbrev pub plain : List Placed → List Word
 plain placed = map (λ o. o.word) placed
+
+-- Each is fine, or at the bar, or behind it.
+abbrev pub AllFine : Bar → List Placed → Type 0
+AllFine bar [] = ⊤
+AllFine bar (o ∷ words) = Fine bar o (plain words) × AllFine bar words
 
 -- ---- what can be behind a phrase
 
@@ -82,36 +89,41 @@ not_before u (o ∷ words) other = not_this o.word.is u (nat_eq (number o.word.i
 
 -- ---- one word
 
-deep_enough : (p q : Place) → q.nesting ≤ max_nesting → q ≡ p → nat_le p.nesting max_nesting ≡ true
-deep_enough p q h e = le-leb p.nesting max_nesting (subst (λ place. place.nesting ≤ max_nesting) e h)
+pub enough : {p : Place} {t : Terminal} {o : Placed} → Is p t o → o.place.nesting ≤ max_nesting → nat_le p.nesting max_nesting ≡ true
+enough {p} i h = le-leb p.nesting max_nesting (subst (λ place. place.nesting ≤ max_nesting) i.place h)
+
+pub too_much : {p : Place} {t : Terminal} {o : Placed} → Is p t o → max_nesting < o.place.nesting → nat_le p.nesting max_nesting ≡ false
+too_much {p} i h = lt-leb p.nesting max_nesting (subst (λ place. max_nesting < place.nesting) i.place h)
 
 -- A word that stands where it is taken is taken.
-taken_here : {p : Place} {t : Terminal} {o : Placed} (words : List Word) → Is p t o → IsFine o → taken p (o.word ∷ words) ≡ read o.word words
-taken_here {p} {t} {o} words i fine = rw (deep_enough p o.place fine.nesting i.place)
+pub taken_here : {p : Place} {t : Terminal} {o : Placed} (words : List Word) → Is p t o → IsFine o → taken p (o.word ∷ words) ≡ read o.word words
+taken_here words i fine = rw (enough i fine.nesting)
 
 pub begins_here : {p : Place} {t : Terminal} {o : Placed} → Is p t o → nat_eq (number o.word.is) (number t) ≡ true
 begins_here {p} {t} {o} i = eq-eqb (number o.word.is) (number t) (ap number i.is)
 
-taken_or : {Bad : Type 0} (bad : Bad) (o : Word) (words : List Word) (fits : Bool)
-    → IsOrStops Bad (if fits then read o words else stopped why.Depth (o ∷ words)) (read o words)
-taken_or bad o words true = told refl
-taken_or bad o words false = stops bad (record { why = why.Depth; words = o ∷ words }) (λ e. absurd cc) refl
+-- At one that is not fine and no `break` the reading stops, since it lies too deep.
+taken_bad : {p : Place} {t : Terminal} {o : Placed} (words : List Word) (reason : SyntaxWhy) → Is p t o → is_this terminal.Break t ≡ false → IsBad reason o
+    → taken p (o.word ∷ words) ≡ stopped reason (o.word ∷ words)
+taken_bad words _ i other (too_deep h) = rw (too_much i h)
+taken_bad words _ i other (no_loop h is out) = absurd (true≢false (ap (is_this terminal.Break) (sym is ∙ i.is) ∙ other))
 
-pub taken_is : {Bad : Type 0} {p : Place} {t : Terminal} {o : Placed} (words : List Word) → Is p t o → Fine Bad o
-    → IsOrStops Bad (taken p (o.word ∷ words)) (read o.word words)
-taken_is words i (is_fine fine) = told (taken_here words i fine)
-taken_is {p = p} {o = o} words i (is_bad bad) = taken_or bad o.word words (nat_le p.nesting max_nesting)
+pub comes_word : {bar : Bar} {p : Place} {t : Terminal} {o : Placed} {words : List Word} → Is p t o → is_this terminal.Break t ≡ false → Fine bar o words
+    → Comes bar (o.word ∷ words) (λ n. taken p (o.word ∷ words)) (read o.word words)
+comes_word {p = p} {o = o} {words = words} i other fine =
+    comes_first (taken p (o.word ∷ words)) o.word (taken_here words i) (λ reason. taken_bad words reason i other) fine
 
-expected_is : {Bad : Type 0} {p : Place} {t : Terminal} {o : Placed} (words : List Word) → Is p t o → Fine Bad o
-    → IsOrStops Bad (expected p t (o.word ∷ words)) (read o.word words)
-expected_is {Bad} {p} {t} {o} words i fine =
-    subst (λ b. IsOrStops Bad (if b then taken p (o.word ∷ words) else stopped why.Expected (o.word ∷ words)) (read o.word words)) (sym (begins_here i)) (taken_is words i fine)
+expected_word : {bar : Bar} {p : Place} {t : Terminal} {o : Placed} {words : List Word} → Is p t o → is_this terminal.Break t ≡ false → Fine bar o words
+    → Comes bar (o.word ∷ words) (λ n. expected p t (o.word ∷ words)) (read o.word words)
+expected_word {words = words} i other fine = comes_if (λ n. stopped why.Expected _) (begins_here i) (comes_word i other fine)
 
 -- A word that is there is taken, and what is behind it is read.
-pub comes_taken : {Bad A : Type 0} {p : Place} {t : Terminal} {o : Placed} {words : List Word} {x : Answer A} (g : ℕ → Word → List Word → Answer A)
-    → Is p t o → Fine Bad o → Comes Bad (λ n. g n o.word words) x → Comes Bad (λ n. and_then (taken p (o.word ∷ words)) (g n)) x
-comes_taken g i fine c = comes_then g (comes_at_once (taken_is _ i fine)) c
+pub comes_taken : {bar : Bar} {A : Type 0} {p : Place} {t : Terminal} {o : Placed} {words : List Word} {x : Answer A} (g : ℕ → Word → List Word → Answer A)
+    → Is p t o → is_this terminal.Break t ≡ false → Fine bar o words → Comes bar words (λ n. g n o.word words) x
+    → Comes bar (o.word ∷ words) (λ n. and_then (taken p (o.word ∷ words)) (g n)) x
+comes_taken g i other fine c = comes_then g (comes_word i other fine) c
 
-pub comes_expected : {Bad A : Type 0} {p : Place} {t : Terminal} {o : Placed} {words : List Word} {x : Answer A} (g : ℕ → Word → List Word → Answer A)
-    → Is p t o → Fine Bad o → Comes Bad (λ n. g n o.word words) x → Comes Bad (λ n. and_then (expected p t (o.word ∷ words)) (g n)) x
-comes_expected g i fine c = comes_then g (comes_at_once (expected_is _ i fine)) c
+pub comes_expected : {bar : Bar} {A : Type 0} {p : Place} {t : Terminal} {o : Placed} {words : List Word} {x : Answer A} (g : ℕ → Word → List Word → Answer A)
+    → Is p t o → is_this terminal.Break t ≡ false → Fine bar o words → Comes bar words (λ n. g n o.word words) x
+    → Comes bar (o.word ∷ words) (λ n. and_then (expected p t (o.word ∷ words)) (g n)) x
+comes_expected g i other fine c = comes_then g (expected_word i other fine) c

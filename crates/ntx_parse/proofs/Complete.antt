@@ -1,43 +1,43 @@
--- A script that the grammar accepts is read to its tree, and it has no other.
+-- A script that the grammar accepts is read to its tree, and it has no other. Where words derive and not all of them are fine, the reading stops at the
+-- first that is not.
 --     complete             words that are a script are read to the end as its block, once the calls may lie deep enough
 --     complete_script      they are read as this script
 --     answer_is            whatever the reading of them comes to is that
 --     stopped_is_none      words at which the reading stops are no script
 --     one_tree             words are a script in one way at most
---     read_or_stopped      words that derive, fine or not, are read to their tree, or the reading of them stops, but not since something else is expected
-use Rattle.std.specs.Prelude.{◌≡◌, ◌≤◌, ℕ, max, List, [], ◌∷◌, None, Some, Ok, Err}
-use Rattle.std.proofs.Common.{sym, ap, ◌∙◌, arith}
+--     stops_at_bad         the reading of words that derive stops at the first that is not fine, for the reason why it is not
+--     first_bad            words are all fine, or there is a first that is not
+use Rattle.std.specs.Prelude.{◌≡◌, ◌≤◌, ◌<◌, ℕ, max, nat_le, Bool, true, false, List, [], ◌∷◌, ◌++◌, length, None, Some, Ok, Err}
+use Rattle.std.proofs.Common.{◌⊎◌, inl, inr, refl, sym, ap, ◌∙◌, true≢false, arith}
+use Rattle.std.proofs.lemmas.Bool.{leb-true, leb-false}
 use Rattle.std.specs.List.{AllByRecursion}
+use Rattle.ntx_syntax.specs.declared.fault.SyntaxWhy.{SyntaxWhy}
+use Rattle.ntx_syntax.specs.declared.fault.SyntaxWhy.TheVariants as why
 use Rattle.ntx_syntax.specs.declared.tree.Chunk.{Chunk}
 use Rattle.ntx_syntax.specs.declared.tree.Block.{Block}
+use Rattle.ntx_parse.specs.declared.terminal.Terminal.TheVariants as terminal
 use Rattle.ntx_parse.specs.Words.{Word}
-use Rattle.ntx_parse.specs.Grammar.{Placed, IsFine, IsBlock, Accepts, outermost}
-use Rattle.ntx_parse.specs.Reading.{Answer, Stop, read, and_then, readers, ended, script_by}
-use Rattle.ntx_parse.proofs.BeginsLemmas.{plain}
-use Rattle.ntx_parse.proofs.ComesLemmas.{Fine, is_fine, is_bad, IsOrStops, told, stops, Comes}
+use Rattle.ntx_parse.specs.Grammar.{Placed, IsFine, IsChunk, Accepts, outermost, max_nesting}
+use Rattle.ntx_parse.specs.Reading.{Answer, Stop, read, stopped, and_then, readers, ended, script_by}
+use Rattle.ntx_parse.proofs.TerminalLemmas.{same_terminal}
+use Rattle.ntx_parse.proofs.BeginsLemmas.{plain, is_this, AllFine}
+use Rattle.ntx_parse.proofs.ComesLemmas.{IsBad, too_deep, no_loop, Bar, is_fine, is_bad, is_behind, cut_before, cut_behind}
 use Rattle.ntx_parse.proofs.CompletePhrases.{block_read}
 
-all_fine : (words : List Placed) → AllByRecursion IsFine words → AllByRecursion (Fine ⊥) words
-all_fine [] h = h
-all_fine (o ∷ words) h = (is_fine h.0, all_fine words h.1)
+-- ---- words that are all fine
 
-all_bad : (words : List Placed) → AllByRecursion (Fine (Unit {0})) words
-all_bad [] = tt
-all_bad (o ∷ words) = (is_bad tt, all_bad words)
+abbrev no_bar : Bar
+no_bar = record { words = 0; stop = record { why = why.Expected; words = [] } }
 
-without_bad : {A : Type 0} {a x : Answer A} → IsOrStops ⊥ a x → a ≡ x
-without_bad (told e) = e
-without_bad (stops bad stop other e) = absurd bad
-
-pub read_or_stopped : (placed : List Placed) (b : Block) → IsBlock outermost b placed []
-    → Comes (Unit {0}) (λ n. (readers n).block outermost (plain placed)) (read b [])
-read_or_stopped placed b d = (block_read d (all_bad placed) tt).comes
+all_fine : (words : List Placed) → AllByRecursion IsFine words → AllFine no_bar words
+all_fine [] h = tt
+all_fine (o ∷ words) h = (is_fine (omega arith) h.0, all_fine words h.1)
 
 pub complete : (words : List Word) (chunk : Chunk) → Accepts words chunk
     → (N : ℕ) × ((n : ℕ) → N ≤ n → (readers n).block outermost words ≡ Some (Ok (chunk.block, [])))
 complete words chunk a =
     let c = (block_read a.derives (all_fine a.placed a.fine) tt).comes in
-    (c.from, λ n h. ap (λ w. (readers n).block outermost w) (sym a.words_are) ∙ without_bad (c.is n h))
+    (c.from, λ n h. ap (λ w. (readers n).block outermost w) (sym a.words_are) ∙ c.is (omega arith) n h ∙ cut_before no_bar (read chunk.block []) (omega arith))
 
 pub complete_script : (words : List Word) (chunk : Chunk) → Accepts words chunk
     → (N : ℕ) × ((n : ℕ) → N ≤ n → script_by n words ≡ Some (Ok (chunk.block, [])))
@@ -66,3 +66,72 @@ unfolding block_of
 one_tree words a b first second =
     let same : a.block ≡ b.block = ap (block_of a.block) (answer_is words b second (Some (Ok (a.block, []))) (complete_script words a first)) in
     ap (λ (block : Block). record { block = block }) same
+
+-- ---- words that are not all fine
+
+-- the bar at this word, which has these behind it and is not fine for this reason
+abbrev bar_at : Placed → List Placed → SyntaxWhy → Bar
+bar_at o behind reason = record { words = length (plain (o ∷ behind)); stop = record { why = reason; words = plain (o ∷ behind) } }
+
+no_fewer : (front words : List Placed) → length (plain words) ≤ length (plain (front ++ words))
+no_fewer [] words = omega arith
+no_fewer (o ∷ front) words = let others = no_fewer front words in omega arith
+
+all_behind : (bar : Bar) (words : List Placed) → length (plain words) < bar.words → AllFine bar words
+all_behind bar [] h = tt
+all_behind bar (o ∷ words) h = (is_behind (omega arith), all_behind bar words (omega arith))
+
+up_to_bad : (front : List Placed) (o : Placed) (behind : List Placed) (reason : SyntaxWhy) → AllByRecursion IsFine front → IsBad reason o
+    → AllFine (bar_at o behind reason) (front ++ o ∷ behind)
+up_to_bad [] o behind reason fine bad = (is_bad (omega arith) bad refl, all_behind (bar_at o behind reason) behind (omega arith))
+up_to_bad (w ∷ front) o behind reason fine bad = (is_fine (no_fewer front (o ∷ behind)) fine.0, up_to_bad front o behind reason fine.1 bad)
+
+pub stops_at_bad : (front : List Placed) (o : Placed) (behind : List Placed) (reason : SyntaxWhy) (chunk : Chunk) → AllByRecursion IsFine front → IsBad reason o
+    → IsChunk chunk (front ++ o ∷ behind)
+    → (N : ℕ) × ((n : ℕ) → N ≤ n → script_by n (plain (front ++ o ∷ behind)) ≡ stopped reason (o.word ∷ plain behind))
+stops_at_bad front o behind reason chunk fine bad derives =
+    let c = (block_read derives (up_to_bad front o behind reason fine bad) tt).comes in (
+      c.from,
+      λ n h.
+          ap (λ found. and_then found ended) (c.is (no_fewer front (o ∷ behind)) n h ∙ cut_behind (bar_at o behind reason) (read chunk.block []) (omega arith)),
+    )
+
+-- ---- the first word that is not fine
+
+-- The first of the words that is not fine, with those before it and behind it, and the reason why it is not.
+pub record FirstBad (placed : List Placed) : Type 0 where
+  pub front : List Placed
+  pub first : Placed
+  pub behind : List Placed
+  pub reason : SyntaxWhy
+  pub placed_are : placed ≡ front ++ first ∷ behind
+  pub fine : AllByRecursion IsFine front
+  pub bad : IsBad reason first
+
+fine_or_bad : (o : Placed) (fits is_break in_loop : Bool) → nat_le o.place.nesting max_nesting ≡ fits → is_this terminal.Break o.word.is ≡ is_break
+    → o.place.in_loop ≡ in_loop → IsFine o ⊎ ((reason : SyntaxWhy) × IsBad reason o)
+fine_or_bad o false _ _ deep breaks loops = inr (why.Depth, too_deep (leb-false o.place.nesting max_nesting deep))
+fine_or_bad o true _ true fits breaks loops = inl (record { nesting = leb-true o.place.nesting max_nesting fits; in_loop = λ _. loops })
+fine_or_bad o true true false fits breaks loops =
+    inr (why.Break, no_loop (leb-true o.place.nesting max_nesting fits) (same_terminal o.word.is terminal.Break breaks) loops)
+fine_or_bad o true false false fits breaks loops =
+    inl (record { nesting = leb-true o.place.nesting max_nesting fits; in_loop = λ e. absurd (true≢false (sym (ap (is_this terminal.Break) e) ∙ breaks)) })
+
+one_more_fine : (o : Placed) (words : List Placed) → IsFine o ⊎ ((reason : SyntaxWhy) × IsBad reason o) → AllByRecursion IsFine words ⊎ FirstBad words
+    → AllByRecursion IsFine (o ∷ words) ⊎ FirstBad (o ∷ words)
+one_more_fine o words (inl fine) (inl all) = inl (fine, all)
+one_more_fine o words (inl fine) (inr d) = inr (record {
+  front = o ∷ d.front;
+  first = d.first;
+  behind = d.behind;
+  reason = d.reason;
+  placed_are = ap (λ others. o ∷ others) d.placed_are;
+  fine = (fine, d.fine);
+  bad = d.bad;
+})
+one_more_fine o words (inr bad) others = inr (record { front = []; first = o; behind = words; reason = bad.0; placed_are = refl; fine = tt; bad = bad.1 })
+
+pub first_bad : (placed : List Placed) → AllByRecursion IsFine placed ⊎ FirstBad placed
+first_bad [] = inl tt
+first_bad (o ∷ words) =
+    one_more_fine o words (fine_or_bad o (nat_le o.place.nesting max_nesting) (is_this terminal.Break o.word.is) o.place.in_loop refl refl refl) (first_bad words)

@@ -2,7 +2,6 @@
 use Rattle.std.specs.Prelude.{◌≡◌, Bool, true, false, not, List, [], ◌∷◌, ◌++◌, Option, None, Some}
 use Rattle.std.proofs.Common.{refl}
 use Rattle.std.proofs.lemmas.Bool.{not-true}
-use Rattle.std.specs.List.{AllByRecursion}
 use Rattle.ntx_syntax.specs.declared.tree.Block.{roll-Block}
 use Rattle.ntx_syntax.specs.declared.tree.Return.{Return}
 use Rattle.ntx_syntax.specs.declared.tree.Stat.{Stat}
@@ -13,8 +12,8 @@ use Rattle.ntx_parse.specs.declared.terminal.Terminal.{Terminal}
 use Rattle.ntx_parse.specs.declared.terminal.Terminal.TheVariants as terminal
 use Rattle.ntx_parse.specs.Grammar.{Placed, Is}
 use Rattle.ntx_parse.specs.Reading.{read, begins, readers, begins_statement, ends_return, ends_returned, returned_behind, semicolon_behind, last_behind}
-use Rattle.ntx_parse.proofs.BeginsLemmas.{plain, implies, implied, Follows, Starts, begins_here, comes_taken}
-use Rattle.ntx_parse.proofs.ComesLemmas.{Fine, Comes, comes_as, comes_then, comes_if, comes_else, comes_read, over_block, over_stats}
+use Rattle.ntx_parse.proofs.BeginsLemmas.{plain, AllFine, implies, implied, Follows, Starts, begins_here, comes_taken}
+use Rattle.ntx_parse.proofs.ComesLemmas.{Bar, Fine, Comes, comes_as, comes_then, comes_if, comes_else, comes_read, over_block, over_stats}
 use Rattle.ntx_parse.proofs.FollowLemmas.{ends_stats, begins_exp, exp_begins_returned}
 use Rattle.ntx_parse.proofs.CompleteForms.{Done, ListDone, StatDone, BlockDone, ExpsDone, all_before, one_more}
 use Rattle.ntx_parse.proofs.CompletePrefixes.{exps_come}
@@ -22,77 +21,77 @@ use Rattle.ntx_parse.proofs.CompleteKinds.{KindDone}
 
 -- ---- statements
 
-pub stat_done : {Bad : Type 0} {p : Place} {kind : StatKind} {rest : List Placed} (o : Placed) (words : List Placed) → begins_statement o.word.is ≡ true
-    → KindDone Bad p kind (o ∷ words) rest
-    → StatDone Bad p (record { line = o.word.line; kind = kind }) (plain (o ∷ words)) rest
+pub stat_done : {bar : Bar} {p : Place} {kind : StatKind} {rest : List Placed} (o : Placed) (words : List Placed) → begins_statement o.word.is ≡ true
+    → KindDone bar p kind (o ∷ words) rest
+    → StatDone bar p (record { line = o.word.line; kind = kind }) (plain (o ∷ words)) rest
 stat_done o words h d = record { goes_on = λ before c. over_stats (comes_if _ h (comes_then _ d.comes c)); fine = d.fine }
 
-abbrev pub StatsDone : Type 0 → Place → List Stat → List Placed → List Placed → Type 0
-StatsDone Bad p ss words rest = ListDone Bad (λ n before. (readers n).stats p before (plain words)) ss rest
+abbrev pub StatsDone : Bar → Place → List Stat → List Placed → List Placed → Type 0
+StatsDone bar p ss words rest = ListDone bar (plain words) (λ n before. (readers n).stats p before (plain words)) ss rest
 
 no_statement : (t : Terminal) → implies (ends_stats t) (not (begins_statement t)) ≡ true
 no_statement terminal.Name = refl
 no_statement _ = refl
 
-stats_end : {Bad : Type 0} {p : Place} (before : List Stat) (rest : List Placed) → Follows ends_stats rest
-    → Comes Bad (λ n. (readers n).stats p before (plain rest)) (read before (plain rest))
+stats_end : {bar : Bar} {p : Place} (before : List Stat) (rest : List Placed) → Follows ends_stats rest
+    → Comes bar (plain rest) (λ n. (readers n).stats p before (plain rest)) (read before (plain rest))
 stats_end before [] h = over_stats (comes_read _)
 stats_end before (o ∷ words) h = over_stats (comes_else _ (not-true (begins_statement o.word.is) (implied (no_statement o.word.is) h)) (comes_read _))
 
-pub no_stats_done : {Bad : Type 0} {p : Place} (rest : List Placed) → Follows ends_stats rest → AllByRecursion (Fine Bad) rest → StatsDone Bad p [] rest rest
+pub no_stats_done : {bar : Bar} {p : Place} (rest : List Placed) → Follows ends_stats rest → AllFine bar rest → StatsDone bar p [] rest rest
 no_stats_done rest h fine = record { comes = λ before. comes_as (stats_end before rest h) (all_before before (plain rest)); fine = fine }
 
-pub more_stats_done : {Bad : Type 0} {p : Place} {s : Stat} {ss : List Stat} {rest : List Placed} (words middle : List Placed)
-    → StatDone Bad p s (plain words) middle
-    → (AllByRecursion (Fine Bad) middle → StatsDone Bad p ss middle rest) → StatsDone Bad p (s ∷ ss) words rest
+pub more_stats_done : {bar : Bar} {p : Place} {s : Stat} {ss : List Stat} {rest : List Placed} (words middle : List Placed)
+    → StatDone bar p s (plain words) middle
+    → (AllFine bar middle → StatsDone bar p ss middle rest) → StatsDone bar p (s ∷ ss) words rest
 more_stats_done {s = s} {ss = ss} {rest = rest} words middle d more =
     let others = more d.fine in
     record { comes = λ before. d.goes_on before (comes_as (others.comes (before ++ s ∷ [])) (one_more before s ss (plain rest))); fine = others.fine }
 
 -- ---- return
 
-abbrev pub ReturnedDone : Type 0 → Place → List Exp → List Placed → List Placed → Type 0
-ReturnedDone Bad p es words rest = Done Bad (λ n. returned_behind (readers n) p (plain words)) es rest
+abbrev pub ReturnedDone : Bar → Place → List Exp → List Placed → List Placed → Type 0
+ReturnedDone bar p es words rest = Done bar (plain words) (λ n. returned_behind (readers n) p (plain words)) es rest
 
 ends_here : (rest : List Placed) → Follows ends_return rest → ends_returned (plain rest) ≡ true
 ends_here [] h = refl
 ends_here (o ∷ words) h = h
 
-pub returns_nothing_done : {Bad : Type 0} (p : Place) (rest : List Placed) → Follows ends_return rest → AllByRecursion (Fine Bad) rest
-    → ReturnedDone Bad p [] rest rest
+pub returns_nothing_done : {bar : Bar} (p : Place) (rest : List Placed) → Follows ends_return rest → AllFine bar rest
+    → ReturnedDone bar p [] rest rest
 returns_nothing_done p rest h fine = record { comes = comes_if _ (ends_here rest h) (comes_read _); fine = fine }
 
 goes_on_here : (words : List Placed) → Starts begins_exp words → ends_returned (plain words) ≡ false
 goes_on_here [] h = elim h [ ]
 goes_on_here (o ∷ words) h = not-true (ends_return o.word.is) (implied (exp_begins_returned o.word.is) h)
 
-pub returns_done : {Bad : Type 0} {p : Place} {es : List Exp} {rest : List Placed} (words : List Placed) → Starts begins_exp words
-    → ExpsDone Bad p es (plain words) rest → ReturnedDone Bad p es words rest
+pub returns_done : {bar : Bar} {p : Place} {es : List Exp} {rest : List Placed} (words : List Placed) → Starts begins_exp words
+    → ExpsDone bar p es (plain words) rest → ReturnedDone bar p es words rest
 returns_done words start d = record { comes = comes_else _ (goes_on_here words start) (exps_come d).comes; fine = d.fine }
 
-abbrev pub LastDone : Type 0 → Place → Option Return → List Placed → List Placed → Type 0
-LastDone Bad p last words rest = Done Bad (λ n. last_behind (readers n) p (plain words)) last rest
+abbrev pub LastDone : Bar → Place → Option Return → List Placed → List Placed → Type 0
+LastDone bar p last words rest = Done bar (plain words) (λ n. last_behind (readers n) p (plain words)) last rest
 
-pub no_return_done : {Bad : Type 0} (p : Place) (rest : List Placed) → begins terminal.Return (plain rest) ≡ false → AllByRecursion (Fine Bad) rest
-    → LastDone Bad p None rest rest
+pub no_return_done : {bar : Bar} (p : Place) (rest : List Placed) → begins terminal.Return (plain rest) ≡ false → AllFine bar rest
+    → LastDone bar p None rest rest
 no_return_done p rest h fine = record { comes = comes_else _ h (comes_read _); fine = fine }
 
-pub last_return_done : {Bad : Type 0} {p : Place} {o : Placed} {es : List Exp} {rest : List Placed} (words middle : List Placed) → Is p terminal.Return o
-    → Fine Bad o → ReturnedDone Bad p es words middle
-    → (AllByRecursion (Fine Bad) middle → (there : Bool) × Done Bad (λ n. semicolon_behind p (plain middle)) there rest)
-    → LastDone Bad p (Some (record { line = o.word.line; values = es })) (o ∷ words) rest
+pub last_return_done : {bar : Bar} {p : Place} {o : Placed} {es : List Exp} {rest : List Placed} (words middle : List Placed) → Is p terminal.Return o
+    → Fine bar o (plain words) → ReturnedDone bar p es words middle
+    → (AllFine bar middle → (there : Bool) × Done bar (plain middle) (λ n. semicolon_behind p (plain middle)) there rest)
+    → LastDone bar p (Some (record { line = o.word.line; values = es })) (o ∷ words) rest
 last_return_done words middle o fine d more =
     let last = (more d.fine).1 in
     record {
-      comes = comes_if _ (begins_here o) (comes_taken _ o fine (comes_then _ d.comes (comes_then _ last.comes (comes_read _))));
+      comes = comes_if _ (begins_here o) (comes_taken _ o refl fine (comes_then _ d.comes (comes_then _ last.comes (comes_read _))));
       fine = last.fine;
     }
 
 -- ---- blocks
 
-pub block_done : {Bad : Type 0} {p : Place} {ss : List Stat} {last : Option Return} {rest : List Placed} (words middle : List Placed)
-    → StatsDone Bad p ss words middle
-    → (AllByRecursion (Fine Bad) middle → LastDone Bad p last middle rest) → BlockDone Bad p (roll-Block (record { stats = ss; last = last })) (plain words) rest
+pub block_done : {bar : Bar} {p : Place} {ss : List Stat} {last : Option Return} {rest : List Placed} (words middle : List Placed)
+    → StatsDone bar p ss words middle
+    → (AllFine bar middle → LastDone bar p last middle rest) → BlockDone bar p (roll-Block (record { stats = ss; last = last })) (plain words) rest
 block_done words middle d more =
     let found = more d.fine in
     record { comes = over_block (comes_then _ (d.comes []) (comes_then _ found.comes (comes_read _))); fine = found.fine }

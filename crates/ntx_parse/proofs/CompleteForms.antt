@@ -1,7 +1,6 @@
--- What is proved of each phrase that derives: what the reading of it comes to, and that the words behind it are fine.
+-- What is proved of each phrase that derives: what the reading of it comes to, up to the bar, and what is known of the words behind it.
 use Rattle.std.specs.Prelude.{◌≡◌, ℕ, List, [], ◌∷◌, ◌++◌, Some}
 use Rattle.std.proofs.Common.{sym, ap, append_assoc, append-nil}
-use Rattle.std.specs.List.{AllByRecursion}
 use Rattle.ntx_syntax.specs.declared.tree.Block.{Block}
 use Rattle.ntx_syntax.specs.declared.tree.Stat.{Stat}
 use Rattle.ntx_syntax.specs.declared.tree.LocalName.{LocalName}
@@ -16,76 +15,76 @@ use Rattle.ntx_parse.specs.declared.precedence.Precedence.TheVariants as precede
 use Rattle.ntx_parse.specs.Words.{Word}
 use Rattle.ntx_parse.specs.Grammar.{Placed, tighter}
 use Rattle.ntx_parse.specs.Reading.{Answer, read, readers, read_prefix, read_local_name, joined, var_of}
-use Rattle.ntx_parse.proofs.BeginsLemmas.{plain}
-use Rattle.ntx_parse.proofs.ComesLemmas.{Fine, Comes}
+use Rattle.ntx_parse.proofs.BeginsLemmas.{plain, AllFine}
+use Rattle.ntx_parse.proofs.ComesLemmas.{Bar, Comes}
 
--- The reading comes to this, and leaves words that are fine.
-pub record Done (Bad : Type 0) {A : Type 0} (f : ℕ → Answer A) (a : A) (rest : List Placed) : Type 0 where
-  pub comes : Comes Bad f (read a (plain rest))
-  pub fine : AllByRecursion (Fine Bad) rest
+-- The reading of these words comes to this, and each of the words that it leaves is fine, or at the bar, or behind it.
+pub record Done (bar : Bar) {A : Type 0} (words : List Word) (f : ℕ → Answer A) (a : A) (rest : List Placed) : Type 0 where
+  pub comes : Comes bar words f (read a (plain rest))
+  pub fine : AllFine bar rest
 
 -- The same of a list, whatever was read before.
-pub record ListDone (Bad : Type 0) {A : Type 0} (f : ℕ → List A → Answer (List A)) (all : List A) (rest : List Placed) : Type 0 where
-  pub comes : (before : List A) → Comes Bad (λ n. f n before) (read (before ++ all) (plain rest))
-  pub fine : AllByRecursion (Fine Bad) rest
+pub record ListDone (bar : Bar) {A : Type 0} (words : List Word) (f : ℕ → List A → Answer (List A)) (all : List A) (rest : List Placed) : Type 0 where
+  pub comes : (before : List A) → Comes bar words (λ n. f n before) (read (before ++ all) (plain rest))
+  pub fine : AllFine bar rest
 
 -- What is behind the first in a list that has commas between.
-pub record RestDone (Bad : Type 0) {A : Type 0} (first : ℕ → Answer A) (others : ℕ → List A → List Word → Answer (List A)) (all : List A) (rest : List Placed) : Type 0 where
+pub record RestDone (bar : Bar) {A : Type 0} (words : List Word) (first : ℕ → Answer A) (others : ℕ → List A → List Word → Answer (List A)) (all : List A) (rest : List Placed) : Type 0 where
   pub one : A
   pub behind : List Word
-  pub comes : Comes Bad first (read one behind)
-  pub tail : (before : List A) → Comes Bad (λ n. others n (before ++ one ∷ []) behind) (read (before ++ all) (plain rest))
-  pub fine : AllByRecursion (Fine Bad) rest
+  pub comes : Comes bar words first (read one behind)
+  pub tail : (before : List A) → Comes bar behind (λ n. others n (before ++ one ∷ []) behind) (read (before ++ all) (plain rest))
+  pub fine : AllFine bar rest
 
 -- A statement is read, and then those behind it.
-pub record StatDone (Bad : Type 0) (p : Place) (s : Stat) (words : List Word) (rest : List Placed) : Type 0 where
-  pub goes_on : {x : Answer (List Stat)} (before : List Stat) → Comes Bad (λ n. (readers n).stats p (before ++ s ∷ []) (plain rest)) x
-      → Comes Bad (λ n. (readers n).stats p before words) x
-  pub fine : AllByRecursion (Fine Bad) rest
+pub record StatDone (bar : Bar) (p : Place) (s : Stat) (words : List Word) (rest : List Placed) : Type 0 where
+  pub goes_on : {x : Answer (List Stat)} (before : List Stat) → Comes bar (plain rest) (λ n. (readers n).stats p (before ++ s ∷ []) (plain rest)) x
+      → Comes bar words (λ n. (readers n).stats p before words) x
+  pub fine : AllFine bar rest
 
 -- A prefix is read, and then its further suffixes.
-pub record PrefixDone (Bad : Type 0) (p : Place) (prefix : Prefix) (words : List Word) (rest : List Placed) : Type 0 where
+pub record PrefixDone (bar : Bar) (p : Place) (prefix : Prefix) (words : List Word) (rest : List Placed) : Type 0 where
   pub part : Part
   pub joins : joined part ≡ prefix
-  pub goes_on : {x : Answer Part} → Comes Bad (λ n. (readers n).suffixes p part (plain rest)) x → Comes Bad (λ n. read_prefix (readers n) p words) x
-  pub fine : AllByRecursion (Fine Bad) rest
+  pub goes_on : {x : Answer Part} → Comes bar (plain rest) (λ n. (readers n).suffixes p part (plain rest)) x → Comes bar words (λ n. read_prefix (readers n) p words) x
+  pub fine : AllFine bar rest
 
 -- The same of a prefix that can be assigned to.
-pub record VarDone (Bad : Type 0) (p : Place) (v : Var) (words : List Word) (rest : List Placed) : Type 0 where
+pub record VarDone (bar : Bar) (p : Place) (v : Var) (words : List Word) (rest : List Placed) : Type 0 where
   pub part : Part
   pub is_var : var_of part ≡ Some v
-  pub goes_on : {x : Answer Part} → Comes Bad (λ n. (readers n).suffixes p part (plain rest)) x → Comes Bad (λ n. read_prefix (readers n) p words) x
-  pub fine : AllByRecursion (Fine Bad) rest
+  pub goes_on : {x : Answer Part} → Comes bar (plain rest) (λ n. (readers n).suffixes p part (plain rest)) x → Comes bar words (λ n. read_prefix (readers n) p words) x
+  pub fine : AllFine bar rest
 
 -- The first of some things that are assigned to is read, and then the others.
-pub record VarsDone (Bad : Type 0) (p : Place) (vs : List Var) (words : List Word) (rest : List Placed) : Type 0 where
+pub record VarsDone (bar : Bar) (p : Place) (vs : List Var) (words : List Word) (rest : List Placed) : Type 0 where
   pub part : Part
   pub one : Var
   pub is_var : var_of part ≡ Some one
   pub behind : List Word
-  pub comes : Comes Bad (λ n. read_prefix (readers n) p words) (read part behind)
-  pub tail : (before : List Var) → Comes Bad (λ n. (readers n).vars p (before ++ one ∷ []) behind) (read (before ++ vs) (plain rest))
-  pub fine : AllByRecursion (Fine Bad) rest
+  pub comes : Comes bar words (λ n. read_prefix (readers n) p words) (read part behind)
+  pub tail : (before : List Var) → Comes bar behind (λ n. (readers n).vars p (before ++ one ∷ []) behind) (read (before ++ vs) (plain rest))
+  pub fine : AllFine bar rest
 
 -- A first operand is read, and then operators with further operands.
-pub record RunDone (Bad : Type 0) (p : Place) (at : Precedence) (first : Exp) (others : List Operation) (words : List Word) (rest : List Placed) : Type 0 where
+pub record RunDone (bar : Bar) (p : Place) (at : Precedence) (first : Exp) (others : List Operation) (words : List Word) (rest : List Placed) : Type 0 where
   pub behind : List Word
-  pub comes : Comes Bad (λ n. (readers n).exp p (tighter at) words) (read first behind)
-  pub goes_on : {x : Answer (List Operation)} → Comes Bad (λ n. (readers n).operations p at others (plain rest)) x
-      → Comes Bad (λ n. (readers n).operations p at [] behind) x
-  pub fine : AllByRecursion (Fine Bad) rest
+  pub comes : Comes bar words (λ n. (readers n).exp p (tighter at) words) (read first behind)
+  pub goes_on : {x : Answer (List Operation)} → Comes bar (plain rest) (λ n. (readers n).operations p at others (plain rest)) x
+      → Comes bar behind (λ n. (readers n).operations p at [] behind) x
+  pub fine : AllFine bar rest
 
-abbrev pub ExpDone : Type 0 → Place → Precedence → Exp → List Word → List Placed → Type 0
-ExpDone Bad p at e words rest = Done Bad (λ n. (readers n).exp p at words) e rest
+abbrev pub ExpDone : Bar → Place → Precedence → Exp → List Word → List Placed → Type 0
+ExpDone bar p at e words rest = Done bar words (λ n. (readers n).exp p at words) e rest
 
-abbrev pub BlockDone : Type 0 → Place → Block → List Word → List Placed → Type 0
-BlockDone Bad p b words rest = Done Bad (λ n. (readers n).block p words) b rest
+abbrev pub BlockDone : Bar → Place → Block → List Word → List Placed → Type 0
+BlockDone bar p b words rest = Done bar words (λ n. (readers n).block p words) b rest
 
-abbrev pub NamesDone : Type 0 → Place → List LocalName → List Word → List Placed → Type 0
-NamesDone Bad p names words rest = RestDone Bad (λ n. read_local_name p words) (λ n. (readers n).names p) names rest
+abbrev pub NamesDone : Bar → Place → List LocalName → List Word → List Placed → Type 0
+NamesDone bar p names words rest = RestDone bar words (λ n. read_local_name p words) (λ n. (readers n).names p) names rest
 
-abbrev pub ExpsDone : Type 0 → Place → List Exp → List Word → List Placed → Type 0
-ExpsDone Bad p es words rest = RestDone Bad (λ n. (readers n).exp p precedence.Or words) (λ n. (readers n).exps p) es rest
+abbrev pub ExpsDone : Bar → Place → List Exp → List Word → List Placed → Type 0
+ExpsDone bar p es words rest = RestDone bar words (λ n. (readers n).exp p precedence.Or words) (λ n. (readers n).exps p) es rest
 
 -- ---- ends of lists
 

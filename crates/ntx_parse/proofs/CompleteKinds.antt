@@ -1,8 +1,7 @@
 -- Statements are told apart, and assignments, calls and what follows a name are read.
 use Rattle.std.specs.Prelude.{◌≡◌, true, false, List, [], ◌∷◌, None, Some}
-use Rattle.std.proofs.Common.{sym, ap, subst, true≢false}
+use Rattle.std.proofs.Common.{refl, sym, ap, subst, true≢false}
 use Rattle.std.proofs.lemmas.Option.{none-some, same_Some}
-use Rattle.std.specs.List.{AllByRecursion}
 use Rattle.ntx_syntax.specs.declared.tree.StatKind.{StatKind}
 use Rattle.ntx_syntax.specs.declared.tree.StatKind.TheVariants as stat
 use Rattle.ntx_syntax.specs.declared.tree.Var.{Var}
@@ -18,8 +17,8 @@ use Rattle.ntx_parse.specs.Words.{Word}
 use Rattle.ntx_parse.specs.Grammar.{Placed, Is, within}
 use Rattle.ntx_parse.specs.Reading.{Answer, read, begins, Readers, readers, read_arguments, var_of, joined, assignment_to, statement_of, read_expression_statement, kind_at, values_behind}
 use Rattle.ntx_parse.proofs.TerminalLemmas.{same_terminal}
-use Rattle.ntx_parse.proofs.BeginsLemmas.{plain, is_this, Starts, begins_here, comes_taken, comes_expected}
-use Rattle.ntx_parse.proofs.ComesLemmas.{Fine, Comes, comes_then, comes_now, comes_if, comes_else, comes_read}
+use Rattle.ntx_parse.proofs.BeginsLemmas.{plain, AllFine, is_this, Starts, begins_here, comes_taken, comes_expected}
+use Rattle.ntx_parse.proofs.ComesLemmas.{Bar, Fine, Comes, comes_then, comes_now, comes_if, comes_else, comes_read}
 use Rattle.ntx_parse.proofs.FollowLemmas.{begins_prefix}
 use Rattle.ntx_parse.proofs.CompleteForms.{Done, ExpsDone, PrefixDone, VarsDone}
 use Rattle.ntx_parse.proofs.CompletePrefixes.{NoSuffix, suffixes_end, call_goes_on, exps_come}
@@ -29,63 +28,63 @@ abbrev pub kind_first : Readers → Place → List Word → Answer StatKind
 kind_first r p [] = None
 kind_first r p (o ∷ words) = kind_at r p o.is (o ∷ words)
 
-abbrev pub KindDone : Type 0 → Place → StatKind → List Placed → List Placed → Type 0
-KindDone Bad p kind words rest = Done Bad (λ n. kind_first (readers n) p (plain words)) kind rest
+abbrev pub KindDone : Bar → Place → StatKind → List Placed → List Placed → Type 0
+KindDone bar p kind words rest = Done bar (plain words) (λ n. kind_first (readers n) p (plain words)) kind rest
 
-pub kind_is : {Bad : Type 0} {p : Place} {t : Terminal} {o : Placed} {x : Answer StatKind} (words : List Word) → Is p t o
-    → Comes Bad (λ n. kind_at (readers n) p t (o.word ∷ words)) x
-    → Comes Bad (λ n. kind_at (readers n) p o.word.is (o.word ∷ words)) x
-kind_is {Bad} {p} {t} {o} {x} words i c = subst (λ t. Comes Bad (λ n. kind_at (readers n) p t (o.word ∷ words)) x) (sym i.is) c
+pub kind_is : {bar : Bar} {p : Place} {t : Terminal} {o : Placed} {x : Answer StatKind} (words : List Word) → Is p t o
+    → Comes bar (o.word ∷ words) (λ n. kind_at (readers n) p t (o.word ∷ words)) x
+    → Comes bar (o.word ∷ words) (λ n. kind_at (readers n) p o.word.is (o.word ∷ words)) x
+kind_is {bar} {p} {t} {o} {x} words i c = subst (λ t. Comes bar (o.word ∷ words) (λ n. kind_at (readers n) p t (o.word ∷ words)) x) (sym i.is) c
 
-pub kind_of_first : {Bad : Type 0} {x : Answer StatKind} (p : Place) (u : Terminal) (words : List Placed) → Starts (is_this u) words
-    → Comes Bad (λ n. kind_at (readers n) p u (plain words)) x
-    → Comes Bad (λ n. kind_first (readers n) p (plain words)) x
+pub kind_of_first : {bar : Bar} {x : Answer StatKind} (p : Place) (u : Terminal) (words : List Placed) → Starts (is_this u) words
+    → Comes bar (plain words) (λ n. kind_at (readers n) p u (plain words)) x
+    → Comes bar (plain words) (λ n. kind_first (readers n) p (plain words)) x
 kind_of_first p u [] h c = elim h [ ]
-kind_of_first {Bad} {x} p u (o ∷ words) h c = subst (λ t. Comes Bad (λ n. kind_at (readers n) p t (plain (o ∷ words))) x) (sym (same_terminal o.word.is u h)) c
+kind_of_first {bar} {x} p u (o ∷ words) h c = subst (λ t. Comes bar (plain (o ∷ words)) (λ n. kind_at (readers n) p t (plain (o ∷ words))) x) (sym (same_terminal o.word.is u h)) c
 
-expression_at : {Bad : Type 0} {x : Answer StatKind} (p : Place) (words : List Word) (t : Terminal) → begins_prefix t ≡ true
-    → Comes Bad (λ n. read_expression_statement (readers n) p words) x → Comes Bad (λ n. kind_at (readers n) p t words) x
+expression_at : {bar : Bar} {x : Answer StatKind} (p : Place) (words : List Word) (t : Terminal) → begins_prefix t ≡ true
+    → Comes bar words (λ n. read_expression_statement (readers n) p words) x → Comes bar words (λ n. kind_at (readers n) p t words) x
 expression_at p words terminal.Name h c = c
 expression_at p words terminal.LeftParenthesis h c = c
 expression_at p words _ h c = absurd (true≢false (sym h))
 
-expression_first : {Bad : Type 0} {x : Answer StatKind} (p : Place) (words : List Placed) → Starts begins_prefix words
-    → Comes Bad (λ n. read_expression_statement (readers n) p (plain words)) x
-    → Comes Bad (λ n. kind_first (readers n) p (plain words)) x
+expression_first : {bar : Bar} {x : Answer StatKind} (p : Place) (words : List Placed) → Starts begins_prefix words
+    → Comes bar (plain words) (λ n. read_expression_statement (readers n) p (plain words)) x
+    → Comes bar (plain words) (λ n. kind_first (readers n) p (plain words)) x
 expression_first p [] h c = elim h [ ]
 expression_first p (o ∷ words) h c = expression_at p (plain (o ∷ words)) o.word.is h c
 
-assigned : {Bad : Type 0} {x : Answer StatKind} (p : Place) (words : List Word) (v w : Var) → Some v ≡ Some w
-    → Comes Bad (λ n. assignment_to (readers n) p w words) x
-    → Comes Bad (λ n. assignment_to (readers n) p v words) x
-assigned {Bad} {x} p words v w e c = let same : v ≡ w = same_Some v w e in subst (λ u. Comes Bad (λ n. assignment_to (readers n) p u words) x) (sym same) c
+assigned : {bar : Bar} {x : Answer StatKind} (p : Place) (words : List Word) (v w : Var) → Some v ≡ Some w
+    → Comes bar words (λ n. assignment_to (readers n) p w words) x
+    → Comes bar words (λ n. assignment_to (readers n) p v words) x
+assigned {bar} {x} p words v w e c = let same : v ≡ w = same_Some v w e in subst (λ u. Comes bar words (λ n. assignment_to (readers n) p u words) x) (sym same) c
 
-statement_of_var : {Bad : Type 0} {x : Answer StatKind} (p : Place) (words : List Word) (found : Part) (v : Var) → var_of found ≡ Some v
-    → Comes Bad (λ n. assignment_to (readers n) p v words) x
-    → Comes Bad (λ n. statement_of (readers n) p found words) x
+statement_of_var : {bar : Bar} {x : Answer StatKind} (p : Place) (words : List Word) (found : Part) (v : Var) → var_of found ≡ Some v
+    → Comes bar words (λ n. assignment_to (readers n) p v words) x
+    → Comes bar words (λ n. statement_of (readers n) p found words) x
 statement_of_var p words (part.Name name) v e c = assigned p words (var.Name name) v e c
 statement_of_var p words (part.Parenthesized inner) v e c = absurd (none-some v e)
 statement_of_var p words (part.Index before key) v e c = assigned p words (var.Index before key) v e c
 statement_of_var p words (part.Field before name) v e c = assigned p words (var.Field before name) v e c
 statement_of_var p words (part.Call before given) v e c = absurd (none-some v e)
 
-pub assignment_done : {Bad : Type 0} {p : Place} {o : Placed} {vs : List Var} {es : List Exp} {rest : List Placed} (words middle : List Placed)
+pub assignment_done : {bar : Bar} {p : Place} {o : Placed} {vs : List Var} {es : List Exp} {rest : List Placed} (words middle : List Placed)
     → Starts begins_prefix words
-    → VarsDone Bad p vs (plain words) (o ∷ middle) → Is p terminal.Assign o → (AllByRecursion (Fine Bad) middle → ExpsDone Bad p es (plain middle) rest)
-    → KindDone Bad p (stat.Assign vs es) words rest
+    → VarsDone bar p vs (plain words) (o ∷ middle) → Is p terminal.Assign o → (AllFine bar middle → ExpsDone bar p es (plain middle) rest)
+    → KindDone bar p (stat.Assign vs es) words rest
 assignment_done {p} words middle start d o more =
     let found = more d.fine.1 in
     let all = exps_come found in
     record {
       comes = expression_first p words start (comes_then _ d.comes (statement_of_var p d.behind d.part d.one d.is_var
-          (comes_then _ (d.tail []) (comes_expected _ o d.fine.0 (comes_then _ all.comes (comes_read _))))));
+          (comes_then _ (d.tail []) (comes_expected _ o refl d.fine.0 (comes_then _ all.comes (comes_read _))))));
       fine = found.fine;
     }
 
-pub called_done : {Bad : Type 0} {p : Place} {prefix : Prefix} {es : List Exp} {rest : List Placed} (words middle : List Placed) → Starts begins_prefix words
-    → PrefixDone Bad p prefix (plain words) middle
-    → Starts (is_this terminal.LeftParenthesis) middle → (AllByRecursion (Fine Bad) middle → Done Bad (λ n. read_arguments (readers n) (within p) (plain middle)) es rest)
-    → NoSuffix (plain rest) → KindDone Bad p (stat.Call (record { function = prefix; arguments = es })) words rest
+pub called_done : {bar : Bar} {p : Place} {prefix : Prefix} {es : List Exp} {rest : List Placed} (words middle : List Placed) → Starts begins_prefix words
+    → PrefixDone bar p prefix (plain words) middle
+    → Starts (is_this terminal.LeftParenthesis) middle → (AllFine bar middle → Done bar (plain middle) (λ n. read_arguments (readers n) (within p) (plain middle)) es rest)
+    → NoSuffix (plain rest) → KindDone bar p (stat.Call (record { function = prefix; arguments = es })) words rest
 called_done {p} {es = es} {rest = rest} words middle start d opens more ends =
     let given = more d.fine in
     record {
@@ -96,14 +95,14 @@ called_done {p} {es = es} {rest = rest} words middle start d opens more ends =
 
 -- ---- [= explist]
 
-abbrev pub ValuesDone : Type 0 → Place → List Exp → List Placed → List Placed → Type 0
-ValuesDone Bad p es words rest = Done Bad (λ n. values_behind (readers n) p (plain words)) es rest
+abbrev pub ValuesDone : Bar → Place → List Exp → List Placed → List Placed → Type 0
+ValuesDone bar p es words rest = Done bar (plain words) (λ n. values_behind (readers n) p (plain words)) es rest
 
-pub no_values_done : {Bad : Type 0} (p : Place) (rest : List Placed) → begins terminal.Assign (plain rest) ≡ false → AllByRecursion (Fine Bad) rest
-    → ValuesDone Bad p [] rest rest
+pub no_values_done : {bar : Bar} (p : Place) (rest : List Placed) → begins terminal.Assign (plain rest) ≡ false → AllFine bar rest
+    → ValuesDone bar p [] rest rest
 no_values_done p rest h fine = record { comes = comes_else _ h (comes_read _); fine = fine }
 
-pub values_done : {Bad : Type 0} {p : Place} {a : Placed} {es : List Exp} {rest : List Placed} (words : List Placed) → Is p terminal.Assign a → Fine Bad a
-    → ExpsDone Bad p es (plain words) rest
-    → ValuesDone Bad p es (a ∷ words) rest
-values_done words a fine d = record { comes = comes_if _ (begins_here a) (comes_taken _ a fine (exps_come d).comes); fine = d.fine }
+pub values_done : {bar : Bar} {p : Place} {a : Placed} {es : List Exp} {rest : List Placed} (words : List Placed) → Is p terminal.Assign a → Fine bar a (plain words)
+    → ExpsDone bar p es (plain words) rest
+    → ValuesDone bar p es (a ∷ words) rest
+values_done words a fine d = record { comes = comes_if _ (begins_here a) (comes_taken _ a refl fine (exps_come d).comes); fine = d.fine }

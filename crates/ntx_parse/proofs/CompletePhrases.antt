@@ -1,7 +1,6 @@
--- Each phrase that derives is read, where its words are fine and what ends it stands behind it.
+-- Each phrase that derives is read, up to the bar, where its words before the bar are fine and what ends it stands behind it.
 use Rattle.std.specs.Prelude.{◌≡◌, Bool, true, false, List, Option}
 use Rattle.std.proofs.Common.{refl, ap, ◌∙◌, subst}
-use Rattle.std.specs.List.{AllByRecursion}
 use Rattle.ntx_syntax.specs.declared.tree.Block.{Block}
 use Rattle.ntx_syntax.specs.declared.tree.Return.{Return}
 use Rattle.ntx_syntax.specs.declared.tree.Stat.{Stat}
@@ -20,12 +19,12 @@ use Rattle.ntx_parse.specs.declared.terminal.Terminal.{Terminal}
 use Rattle.ntx_parse.specs.declared.terminal.Terminal.TheVariants as terminal
 use Rattle.ntx_parse.specs.Grammar.{Placed, Is, tighter, IsBlock, block, IsStats, no_stats, more_stats, IsLast, no_return, last_return, IsReturned, returns_nothing, returns, IsStat, statement, IsKind, empty, assignment, called, break, do_end, while_do, repeat_until, if_then, numeric_for, generic_for, function, local_function, locals, IsArm, arm, IsArms, no_arms, more_arms, IsElse, no_else, else, IsStep, no_step, step, IsValues, no_values, values, IsExps, one_exp, more_exps, IsVars, one_var, more_vars, IsBody, body, IsVar, name_var, index_var, field_var, IsPrefix, name_prefix, index_prefix, field_prefix, call_prefix, parenthesized, IsIndex, index, call, IsArguments, no_arguments, arguments, IsExp, operations, concatenation, no_concatenation, operator, simple, IsRun, first_operand, more_operands, IsSimple, nil, false_, true_, numeral, text, function_exp, prefix_exp, table, IsFields, no_fields, last_field, more_fields, IsField, keyed, named_field, positional}
 use Rattle.ntx_parse.specs.Reading.{begins, readers, read_index, read_arguments, ends_return}
-use Rattle.ntx_parse.proofs.BeginsLemmas.{plain, is_this, Follows, Starts, follows_also, starts_follows, passes, is_other, not_begins, not_before}
+use Rattle.ntx_parse.proofs.BeginsLemmas.{plain, AllFine, is_this, Follows, Starts, follows_also, starts_follows, passes, is_other, not_begins, not_before}
 use Rattle.ntx_parse.proofs.FollowLemmas.{ends_block, ends_stats, ends_stat, ends_arms, ends_exp, ends_exps, ends_field, return_ends_exps, stat_ends_exps, stat_ends_exp, exps_end_exp, field_ends_exp, end_ends_block, do_ends_exp, brace_ends_field}
 use Rattle.ntx_parse.proofs.OperatorLemmas.{ends_tighter, operator_follows}
 use Rattle.ntx_parse.proofs.StartLemmas.{prefix_starts, simple_starts, exp_starts, exps_start, index_starts, arguments_start, field_starts, vars_start, arm_starts, kind_starts, stats_follow, last_follows, semicolon_follows, else_follows, arms_follow, step_follows, values_no_comma, body_no_dot}
 use Rattle.ntx_parse.proofs.NamedLemmas.{exp_names_none}
-use Rattle.ntx_parse.proofs.ComesLemmas.{Fine}
+use Rattle.ntx_parse.proofs.ComesLemmas.{Bar}
 use Rattle.ntx_parse.proofs.CompleteForms.{Done, ExpDone, ExpsDone, BlockDone, StatDone, PrefixDone, VarDone, VarsDone, RunDone}
 use Rattle.ntx_parse.proofs.CompleteNames.{names_done, names_start, behind_first, path_done, semicolon_done}
 use Rattle.ntx_parse.proofs.CompletePrefixes.{NoSuffix, one_exp_done, more_exps_done, index_done, no_arguments_done, arguments_done, name_prefix_done, index_prefix_done, field_prefix_done, call_prefix_done, parenthesized_done, name_var_done, index_var_done, field_var_done, one_var_done, more_vars_done}
@@ -58,38 +57,38 @@ field_no_equals rest h = not_begins ends_field terminal.Assign rest refl h
 -- ---- all together
 
 mutual
-  pub block_read : {Bad : Type 0} {p : Place} {b : Block} {words rest : List Placed} → IsBlock p b words rest → AllByRecursion (Fine Bad) words
+  pub block_read : {bar : Bar} {p : Place} {b : Block} {words rest : List Placed} → IsBlock p b words rest → AllFine bar words
       → Follows ends_block rest
-      → BlockDone Bad p b (plain words) rest
+      → BlockDone bar p b (plain words) rest
   block_read (block {words = w} {middle = m} ss last) fine h = block_done w m (stats_read ss fine (last_follows last h)) (λ f. last_read last f h)
 
-  stats_read : {Bad : Type 0} {p : Place} {ss : List Stat} {words rest : List Placed} → IsStats p ss words rest → AllByRecursion (Fine Bad) words
+  stats_read : {bar : Bar} {p : Place} {ss : List Stat} {words rest : List Placed} → IsStats p ss words rest → AllFine bar words
       → Follows ends_stats rest
-      → StatsDone Bad p ss words rest
+      → StatsDone bar p ss words rest
   stats_read (no_stats {rest = r}) fine h = no_stats_done r h fine
   stats_read (more_stats {words = w} {middle = m} s ss) fine h = more_stats_done w m (stat_read s fine (stats_follow ss h)) (λ f. stats_read ss f h)
 
-  stat_read : {Bad : Type 0} {p : Place} {s : Stat} {words rest : List Placed} → IsStat p s words rest → AllByRecursion (Fine Bad) words
+  stat_read : {bar : Bar} {p : Place} {s : Stat} {words rest : List Placed} → IsStat p s words rest → AllFine bar words
       → Follows ends_stat rest
-      → StatDone Bad p s (plain words) rest
+      → StatDone bar p s (plain words) rest
   stat_read (statement {o = o} {words = w} kind) fine h = stat_done o w (kind_starts kind) (kind_read kind fine h)
 
-  last_read : {Bad : Type 0} {p : Place} {last : Option Return} {words rest : List Placed} → IsLast p last words rest → AllByRecursion (Fine Bad) words
+  last_read : {bar : Bar} {p : Place} {last : Option Return} {words rest : List Placed} → IsLast p last words rest → AllFine bar words
       → Follows ends_block rest
-      → LastDone Bad p last words rest
+      → LastDone bar p last words rest
   last_read (no_return {p = p} {rest = r}) fine h = no_return_done p r (not_begins ends_block terminal.Return r refl h) fine
   last_read (last_return {words = w} {middle = m} {rest = r} o es s) fine h =
       last_return_done w m o fine.0 (returned_read es fine.1 (semicolon_follows s h)) (λ f. semicolon_done s f (not_begins ends_block terminal.Semicolon r refl h))
 
-  returned_read : {Bad : Type 0} {p : Place} {es : List Exp} {words rest : List Placed} → IsReturned p es words rest → AllByRecursion (Fine Bad) words
+  returned_read : {bar : Bar} {p : Place} {es : List Exp} {words rest : List Placed} → IsReturned p es words rest → AllFine bar words
       → Follows ends_return rest
-      → ReturnedDone Bad p es words rest
+      → ReturnedDone bar p es words rest
   returned_read (returns_nothing {p = p} {rest = r}) fine h = returns_nothing_done p r h fine
   returned_read (returns {words = w} {rest = r} es) fine h = returns_done w (exps_start es) (exps_read es fine (follows_also ends_return ends_exps return_ends_exps r h))
 
-  kind_read : {Bad : Type 0} {p : Place} {kind : StatKind} {words rest : List Placed} → IsKind p kind words rest → AllByRecursion (Fine Bad) words
+  kind_read : {bar : Bar} {p : Place} {kind : StatKind} {words rest : List Placed} → IsKind p kind words rest → AllFine bar words
       → Follows ends_stat rest
-      → KindDone Bad p kind words rest
+      → KindDone bar p kind words rest
   kind_read (empty o) fine h = empty_done o fine
   kind_read (assignment {words = w} {middle = m} {rest = r} vs o es) fine h =
       assignment_done w m (vars_start vs) (vars_read vs fine (passes (is_this terminal.Assign) o refl)) o (λ f. exps_read es f (follows_also ends_stat ends_exps stat_ends_exps r h))
@@ -103,7 +102,7 @@ mutual
   kind_read (repeat_until {words = w} {middle = m} {rest = r} o inside u condition) fine h =
       repeat_done w m o fine.0 (block_read inside fine.1 (passes ends_block u refl)) u (λ f. exp_read condition f (follows_also ends_stat (ends_exp precedence.Or) stat_ends_exp r h))
   kind_read (if_then {words = w} {behind_first = a} {behind_arms = b} first others last e) fine h =
-      if_done w a b (arm_starts (is_this terminal.If) refl first) (arm_read first fine (arms_follow others (else_follows last (passes (is_this terminal.End) e refl))))
+      if_done w a b (arm_starts (is_this terminal.If) refl first) (arm_read refl first fine (arms_follow others (else_follows last (passes (is_this terminal.End) e refl))))
       (λ f. arms_read others f (else_follows last (passes (is_this terminal.End) e refl))) (λ f. else_read last f (passes (is_this terminal.End) e refl)) e
   kind_read (numeric_for {words = w} {behind_first = a} {behind_limit = b} {behind_step = c} f n is_assign first is_comma limit s d inside e) fine h =
       numeric_for_done w a b c f n is_assign fine (exp_read first fine.1.1.1 (passes (ends_exp precedence.Or) is_comma refl)) is_comma
@@ -118,84 +117,84 @@ mutual
   kind_read (locals {words = w} {middle = m} l names es) fine h =
       locals_done w m l fine.0 (names_start terminal.Function names refl) (names_done names fine.1 (values_no_comma es h)) (λ g. values_read es g h)
 
-  arm_read : {Bad : Type 0} {p : Place} {t : Terminal} {a : IfArm} {words rest : List Placed} → IsArm p t a words rest → AllByRecursion (Fine Bad) words
+  arm_read : {bar : Bar} {p : Place} {t : Terminal} {a : IfArm} {words rest : List Placed} → is_this terminal.Break t ≡ false → IsArm p t a words rest → AllFine bar words
       → Follows ends_block rest
-      → ArmDone Bad p a words rest
-  arm_read (arm {words = w} {middle = m} o condition t inside) fine h =
-      arm_done w m o fine.0 (exp_read condition fine.1 (passes (ends_exp precedence.Or) t refl)) t (λ f. block_read inside f h)
+      → ArmDone bar p a words rest
+  arm_read other (arm {words = w} {middle = m} o condition t inside) fine h =
+      arm_done w m o other fine.0 (exp_read condition fine.1 (passes (ends_exp precedence.Or) t refl)) t (λ f. block_read inside f h)
 
-  arms_read : {Bad : Type 0} {p : Place} {arms : List IfArm} {words rest : List Placed} → IsArms p arms words rest → AllByRecursion (Fine Bad) words
+  arms_read : {bar : Bar} {p : Place} {arms : List IfArm} {words rest : List Placed} → IsArms p arms words rest → AllFine bar words
       → Follows ends_arms rest
-      → ArmsDone Bad p arms words rest
+      → ArmsDone bar p arms words rest
   arms_read (no_arms {rest = r}) fine h = no_arms_done r (not_begins ends_arms terminal.Elseif r refl h) fine
   arms_read (more_arms {words = w} {middle = m} first others) fine h =
-      more_arms_done w m (arm_starts (is_this terminal.Elseif) refl first) (arm_read first fine (arms_follow others h)) (λ f. arms_read others f h)
+      more_arms_done w m (arm_starts (is_this terminal.Elseif) refl first) (arm_read refl first fine (arms_follow others h)) (λ f. arms_read others f h)
 
-  else_read : {Bad : Type 0} {p : Place} {other : Option Block} {words rest : List Placed} → IsElse p other words rest → AllByRecursion (Fine Bad) words
+  else_read : {bar : Bar} {p : Place} {other : Option Block} {words rest : List Placed} → IsElse p other words rest → AllFine bar words
       → Follows (is_this terminal.End) rest
-      → ElseDone Bad p other words rest
+      → ElseDone bar p other words rest
   else_read (no_else {p = p} {rest = r}) fine h = no_else_done p r (not_begins (is_this terminal.End) terminal.Else r refl h) fine
   else_read (else {words = w} {rest = r} o inside) fine h = else_done w o fine.0 (block_read inside fine.1 (follows_also (is_this terminal.End) ends_block end_ends_block r h))
 
-  step_read : {Bad : Type 0} {p : Place} {s : Option Exp} {words rest : List Placed} → IsStep p s words rest → AllByRecursion (Fine Bad) words
+  step_read : {bar : Bar} {p : Place} {s : Option Exp} {words rest : List Placed} → IsStep p s words rest → AllFine bar words
       → Follows (is_this terminal.Do) rest
-      → StepDone Bad p s words rest
+      → StepDone bar p s words rest
   step_read (no_step {p = p} {rest = r}) fine h = no_step_done p r (not_begins (is_this terminal.Do) terminal.Comma r refl h) fine
   step_read (step {words = w} {rest = r} c value) fine h =
       step_done w c fine.0 (exp_read value fine.1 (follows_also (is_this terminal.Do) (ends_exp precedence.Or) do_ends_exp r h))
 
-  values_read : {Bad : Type 0} {p : Place} {es : List Exp} {words rest : List Placed} → IsValues p es words rest → AllByRecursion (Fine Bad) words
+  values_read : {bar : Bar} {p : Place} {es : List Exp} {words rest : List Placed} → IsValues p es words rest → AllFine bar words
       → Follows ends_stat rest
-      → ValuesDone Bad p es words rest
+      → ValuesDone bar p es words rest
   values_read (no_values {p = p} {rest = r}) fine h = no_values_done p r (not_begins ends_stat terminal.Assign r refl h) fine
   values_read (values {words = w} {rest = r} a es) fine h = values_done w a fine.0 (exps_read es fine.1 (follows_also ends_stat ends_exps stat_ends_exps r h))
 
-  exps_read : {Bad : Type 0} {p : Place} {es : List Exp} {words rest : List Placed} → IsExps p es words rest → AllByRecursion (Fine Bad) words
+  exps_read : {bar : Bar} {p : Place} {es : List Exp} {words rest : List Placed} → IsExps p es words rest → AllFine bar words
       → Follows ends_exps rest
-      → ExpsDone Bad p es (plain words) rest
+      → ExpsDone bar p es (plain words) rest
   exps_read (one_exp {rest = r} e) fine h =
       one_exp_done (exp_read e fine (follows_also ends_exps (ends_exp precedence.Or) exps_end_exp r h)) (not_begins ends_exps terminal.Comma r refl h)
   exps_read (more_exps {middle = m} e c es) fine h = more_exps_done m (exp_read e fine (passes (ends_exp precedence.Or) c refl)) c (λ f. exps_read es f h)
 
-  vars_read : {Bad : Type 0} {p : Place} {vs : List Var} {words rest : List Placed} → IsVars p vs words rest → AllByRecursion (Fine Bad) words
+  vars_read : {bar : Bar} {p : Place} {vs : List Var} {words rest : List Placed} → IsVars p vs words rest → AllFine bar words
       → Follows (is_this terminal.Assign) rest
-      → VarsDone Bad p vs (plain words) rest
+      → VarsDone bar p vs (plain words) rest
   vars_read (one_var {rest = r} v) fine h =
       one_var_done (var_read v fine)
       (no_suffix_of (is_this terminal.Assign) r refl refl h (not_begins (is_this terminal.Assign) terminal.LeftParenthesis r refl h))
       (not_begins (is_this terminal.Assign) terminal.Comma r refl h)
   vars_read (more_vars {middle = m} v c vs) fine h = more_vars_done m (var_read v fine) c (λ f. vars_read vs f h)
 
-  body_read : {Bad : Type 0} {p : Place} {b : FunctionBody} {words rest : List Placed} → IsBody p b words rest → AllByRecursion (Fine Bad) words
-      → BodyDone Bad p b words rest
+  body_read : {bar : Bar} {p : Place} {b : FunctionBody} {words rest : List Placed} → IsBody p b words rest → AllFine bar words
+      → BodyDone bar p b words rest
   body_read (body {words = w} {middle = m} o names c inside e) fine = body_done w m o names c fine (λ f. block_read inside f (passes ends_block e refl)) e
 
-  var_read : {Bad : Type 0} {p : Place} {v : Var} {words rest : List Placed} → IsVar p v words rest → AllByRecursion (Fine Bad) words
-      → VarDone Bad p v (plain words) rest
+  var_read : {bar : Bar} {p : Place} {v : Var} {words rest : List Placed} → IsVar p v words rest → AllFine bar words
+      → VarDone bar p v (plain words) rest
   var_read (name_var n) fine = name_var_done n fine
   var_read (index_var {middle = m} prefix key) fine = index_var_done m (index_starts key) (prefix_read prefix fine) (λ f. index_read key f)
   var_read (field_var prefix d n) fine = field_var_done (prefix_read prefix fine) d n
 
-  prefix_read : {Bad : Type 0} {p : Place} {prefix : Prefix} {words rest : List Placed} → IsPrefix p prefix words rest → AllByRecursion (Fine Bad) words
-      → PrefixDone Bad p prefix (plain words) rest
+  prefix_read : {bar : Bar} {p : Place} {prefix : Prefix} {words rest : List Placed} → IsPrefix p prefix words rest → AllFine bar words
+      → PrefixDone bar p prefix (plain words) rest
   prefix_read (name_prefix n) fine = name_prefix_done n fine
   prefix_read (index_prefix {middle = m} prefix key) fine = index_prefix_done m (index_starts key) (prefix_read prefix fine) (λ f. index_read key f)
   prefix_read (field_prefix prefix d n) fine = field_prefix_done (prefix_read prefix fine) d n
   prefix_read (call_prefix {middle = m} prefix given) fine = call_prefix_done m (arguments_start given) (prefix_read prefix fine) (λ f. arguments_read given f)
   prefix_read (parenthesized o e c) fine = parenthesized_done o fine.0 (exp_read e fine.1 (passes (ends_exp precedence.Or) c refl)) c
 
-  index_read : {Bad : Type 0} {p : Place} {key : Exp} {words rest : List Placed} → IsIndex p key words rest → AllByRecursion (Fine Bad) words
-      → Done Bad (λ n. read_index (readers n) p (plain words)) key rest
+  index_read : {bar : Bar} {p : Place} {key : Exp} {words rest : List Placed} → IsIndex p key words rest → AllFine bar words
+      → Done bar (plain words) (λ n. read_index (readers n) p (plain words)) key rest
   index_read (index o key c) fine = index_done o fine.0 (exp_read key fine.1 (passes (ends_exp precedence.Or) c refl)) c
 
-  arguments_read : {Bad : Type 0} {p : Place} {es : List Exp} {words rest : List Placed} → IsArguments p es words rest → AllByRecursion (Fine Bad) words
-      → Done Bad (λ n. read_arguments (readers n) p (plain words)) es rest
+  arguments_read : {bar : Bar} {p : Place} {es : List Exp} {words rest : List Placed} → IsArguments p es words rest → AllFine bar words
+      → Done bar (plain words) (λ n. read_arguments (readers n) p (plain words)) es rest
   arguments_read (no_arguments o c) fine = no_arguments_done o c fine
   arguments_read (arguments {words = w} o es c) fine = arguments_done w o fine.0 (exps_start es) (exps_read es fine.1 (passes ends_exps c refl)) c
 
-  exp_read : {Bad : Type 0} {p : Place} {at : Precedence} {e : Exp} {words rest : List Placed} → IsExp p at e words rest → AllByRecursion (Fine Bad) words
+  exp_read : {bar : Bar} {p : Place} {at : Precedence} {e : Exp} {words rest : List Placed} → IsExp p at e words rest → AllFine bar words
       → Follows (ends_exp at) rest
-      → ExpDone Bad p at e (plain words) rest
+      → ExpDone bar p at e (plain words) rest
   exp_read (operations {at = at} {rest = r} left run) fine h = operations_done left (run_read run fine (ends_tighter at r h)) h
   exp_read (concatenation {at = at} {middle = m} is left o right) fine h =
       concatenation_done m is (exp_read left fine (concat_follows at is o)) o (λ f. exp_read right f h)
@@ -203,16 +202,16 @@ mutual
   exp_read (operator is o e) fine h = operator_done is o fine.0 (exp_read e fine.1 h)
   exp_read (simple {at = at} {words = w} {rest = r} is e) fine h = simple_done w is (simple_starts e) (simple_read e fine (unary_follows at r is h))
 
-  run_read : {Bad : Type 0} {p : Place} {at : Precedence} {first : Exp} {others : List Operation} {words rest : List Placed}
-      → IsRun p at first others words rest → AllByRecursion (Fine Bad) words
-      → Follows (ends_exp (tighter at)) rest → RunDone Bad p at first others (plain words) rest
+  run_read : {bar : Bar} {p : Place} {at : Precedence} {first : Exp} {others : List Operation} {words rest : List Placed}
+      → IsRun p at first others words rest → AllFine bar words
+      → Follows (ends_exp (tighter at)) rest → RunDone bar p at first others (plain words) rest
   run_read (first_operand e) fine h = first_operand_done (exp_read e fine h)
   run_read (more_operands {at = at} op {middle = m} run same o operand) fine h =
       more_operands_done op m (run_read run fine (operator_follows at op o same)) same o (λ f. exp_read operand f h)
 
-  simple_read : {Bad : Type 0} {p : Place} {e : Exp} {words rest : List Placed} → IsSimple p e words rest → AllByRecursion (Fine Bad) words
+  simple_read : {bar : Bar} {p : Place} {e : Exp} {words rest : List Placed} → IsSimple p e words rest → AllFine bar words
       → Follows (ends_exp precedence.Unary) rest
-      → SimpleDone Bad p e words rest
+      → SimpleDone bar p e words rest
   simple_read (nil o) fine h = nil_done o fine
   simple_read (false_ o) fine h = false_done o fine
   simple_read (true_ o) fine h = true_done o fine
@@ -223,18 +222,18 @@ mutual
       prefix_exp_done w (prefix_starts prefix) (prefix_read prefix fine) (no_suffix_of (ends_exp precedence.Unary) r refl refl h (not_before terminal.LeftParenthesis r before))
   simple_read (table {p = p} {words = w} o all c) fine h = table_done p w o fine.0 (fields_read all fine.1 (passes (is_this terminal.RightBrace) c refl)) c
 
-  fields_read : {Bad : Type 0} {p : Place} {fields : List Field} {words rest : List Placed} → IsFields p fields words rest → AllByRecursion (Fine Bad) words
+  fields_read : {bar : Bar} {p : Place} {fields : List Field} {words rest : List Placed} → IsFields p fields words rest → AllFine bar words
       → Starts (is_this terminal.RightBrace) rest
-      → FieldsDone Bad p fields words rest
+      → FieldsDone bar p fields words rest
   fields_read (no_fields {rest = r}) fine h = no_fields_done r h fine
   fields_read (last_field {words = w} {rest = r} f) fine h =
       last_field_done w r (field_starts f) (field_read f fine (follows_also (is_this terminal.RightBrace) ends_field brace_ends_field r (starts_follows (is_this terminal.RightBrace) r h))) h
   fields_read (more_fields {words = w} {middle = m} f s others) fine h =
       more_fields_done w m (field_starts f) (field_read f fine (separator_ends_field s)) s (λ g. fields_read others g h)
 
-  field_read : {Bad : Type 0} {p : Place} {f : Field} {words rest : List Placed} → IsField p f words rest → AllByRecursion (Fine Bad) words
+  field_read : {bar : Bar} {p : Place} {f : Field} {words rest : List Placed} → IsField p f words rest → AllFine bar words
       → Follows ends_field rest
-      → FieldDone Bad p f words rest
+      → FieldDone bar p f words rest
   field_read (keyed {words = w} {middle = m} {rest = r} key a value) fine h =
       keyed_done w m (index_starts key) (index_read key fine) a (λ g. exp_read value g (follows_also ends_field (ends_exp precedence.Or) field_ends_exp r h))
   field_read (named_field {words = w} {rest = r} n a value) fine h =

@@ -50,6 +50,7 @@ pub mod StuckTables
 pub mod StuckWords
 pub mod TakenLemmas
 pub mod TerminalLemmas
+pub mod Told
 pub mod Viewed
 pub mod ViewedBlocks
 pub mod ViewedExpressions
