@@ -19,6 +19,7 @@ pub mod LevelLemmas
 pub mod Local
 pub mod More
 pub mod NamedLemmas
+pub mod OneFault
 pub mod OperatorLemmas
 pub mod ReadsLemmas
 pub mod Refused

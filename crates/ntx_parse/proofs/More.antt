@@ -49,7 +49,7 @@ pub from_there_on : (n : ℕ) (words : List Word) (x : Result (Block × List Wor
     → (N : ℕ) × ((m : ℕ) → N ≤ m → script_by m words ≡ Some x)
 from_there_on n words x e = (n, λ m deeper. more_script n m deeper words x e)
 
-told_once : {A : Type 0} {x y : A} → Some x ≡ Some y → x ≡ y
+pub told_once : {A : Type 0} {x y : A} → Some x ≡ Some y → x ≡ y
 told_once e = cc
 
 pub one_answer : (n m : ℕ) (words : List Word) (x y : Result (Block × List Word) Stop) → script_by n words ≡ Some x → script_by m words ≡ Some y → x ≡ y

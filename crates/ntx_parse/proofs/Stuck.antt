@@ -83,7 +83,7 @@ wrong_there placed not_expected h = tt
 wrong_there placed (too_deep {p = p} deep) h = (p, h, deep)
 wrong_there placed (no_loop {p = p} fits breaks outside) h = (p, h, fits, breaks, outside)
 
-begins_less : (placed last : List Placed) → CanBegin (placed ++ last) → CanBegin placed
+pub begins_less : (placed last : List Placed) → CanBegin (placed ++ last) → CanBegin placed
 begins_less placed last h = (last ++ h.0, h.1, subst (λ z. IsBlock outermost (h.1).block z []) (append_assoc placed last h.0) h.2)
 
 stopped_in : {words : List Word} {s : Stop} → IsStuck no_call no_call (IsBlock outermost) words s → IsStopped words s

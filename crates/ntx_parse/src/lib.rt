@@ -28,7 +28,9 @@ mod word;
 
 pub use place::Place;
 pub use precedence::Precedence;
-pub use script::{parse, scripts_have_one_tree};
+pub use script::{
+    parse, refused_scripts_have_no_tree, scripts_have_one_fault, scripts_have_one_tree,
+};
 pub use terminal::Terminal;
 
 #[cfg(test)]

@@ -1,8 +1,9 @@
 //! Reading a script.
 
-ghost use Rattle.std.specs.Prelude.{◌≡◌, ◌≤◌, ◌+◌, ◌*◌, [], List, map, Ok, IfOk};
+ghost use Rattle.std.specs.Prelude.{◌≡◌, ◌≤◌, ◌+◌, ◌*◌, ℕ, [], List, map, Ok, Err, IfOk};
 ghost use Rattle.ntx_num.specs.Answer.{Answers};
 ghost use Rattle.ntx_syntax.specs.Lexes.{Lexes, line_ends};
+ghost use Rattle.ntx_syntax.specs.declared.fault.SyntaxFault as declared;
 ghost use Rattle.ntx_syntax.specs.declared.tree.Chunk.{Chunk};
 ghost use Rattle.ntx_parse.specs.Faults.{IfRefused, IsRefused};
 ghost use Rattle.ntx_parse.specs.Grammar.{Accepts};
@@ -120,6 +121,8 @@ pub fn parse(alloc: Global, bytes: &[u8], tokens: &[Token]) -> Result<Chunk, Fai
     ensures only { (chunk : Chunk) → Accepts (words_of bytes.now tokens.now) chunk → Answers result (Ok chunk) }
     // What it refuses is refused rightly.
     ensures refused { IfRefused result (λ fault. IsRefused bytes.now (words_of bytes.now tokens.now) fault) }
+    // A script that has a fault is refused with it, unless memory runs out.
+    ensures only_fault { (fault : declared.SyntaxFault) → IsRefused bytes.now (words_of bytes.now tokens.now) fault → Answers result (Err fault) }
 {
     tokens_stand_in_order();
     numerals_have_values();
@@ -132,4 +135,14 @@ pub fn parse(alloc: Global, bytes: &[u8], tokens: &[Token]) -> Result<Chunk, Fai
 /// No script has two trees.
 pub fn scripts_have_one_tree()
     ensures { (words : List words.Word) (a b : Chunk) → Accepts words a → Accepts words b → a ≡ b }
+{}
+
+/// No script has two faults.
+pub fn scripts_have_one_fault()
+    ensures { (bytes : List ℕ) (words : List words.Word) (a b : declared.SyntaxFault) → IsRefused bytes words a → IsRefused bytes words b → a ≡ b }
+{}
+
+/// No script that has a fault has a tree.
+pub fn refused_scripts_have_no_tree()
+    ensures { (bytes : List ℕ) (words : List words.Word) (chunk : Chunk) (fault : declared.SyntaxFault) → Accepts words chunk → IsRefused bytes words fault → ⊥ }
 {}

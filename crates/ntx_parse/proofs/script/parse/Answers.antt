@@ -5,6 +5,7 @@ use Rattle.ntx_parse.specs.Grammar.{Accepts}
 use Rattle.ntx_parse.specs.Input.{HaveValues, seen}
 use Rattle.ntx_parse.specs.Words.{words_of}
 use Rattle.ntx_parse.proofs.ScriptLemmas.{script_is_accepted, no_other_tree, only_by, refused_by, all_values}
+use Rattle.ntx_parse.proofs.OneFault.{refused_is_none, err_with_its_fault}
 use Rattle.ntx_parse.proofs.WordValues.{words_have_values}
 use Rattle.ntx_parse.proofs.StuckAnswers as stuck
 use Rattle.ntx_parse.proofs.script.parse.Goals as goal
@@ -27,6 +28,10 @@ returns-in_err-block-clause-refused c =
     subst (λ words. IfRefused c.from_residual-in_err-block.result (λ fault. IsRefused c.args.bytes.now words fault)) same
     (refused_by _ c.args.bytes.now c.from_residual-in_err-block.ensures.1 (subst stuck.HaveValues (sym same) values) c.last_line.ensures c.in_err-block.ensures)
 
+pub returns-in_err-block-clause-only_fault : goal.returns-in_err-block-clause-only_fault
+returns-in_err-block-clause-only_fault c fault r =
+    err_with_its_fault _ _ _ _ c.from_residual-in_err-block.ensures.1 (returns-in_err-block-clause-refused c) fault r
+
 pub returns-clause-accepts : goal.returns-clause-accepts
 returns-clause-accepts c =
     let same : map seen c.as_slice.result.now ≡ words_of c.args.bytes.now c.args.tokens.now = ap (map seen) c.as_slice.ensures.value ∙ c.in_ok-words.ensures in
@@ -36,3 +41,6 @@ pub returns-clause-only : goal.returns-clause-only
 returns-clause-only c chunk a =
     let same : map seen c.as_slice.result.now ≡ words_of c.args.bytes.now c.args.tokens.now = ap (map seen) c.as_slice.ensures.value ∙ c.in_ok-words.ensures in
     no_other_tree c.in_ok-block.ensures chunk (subst (λ words. Accepts words chunk) (sym same) a)
+
+pub returns-clause-only_fault : goal.returns-clause-only_fault
+returns-clause-only_fault c fault r = absurd (refused_is_none _ _ fault _ r (returns-clause-accepts c))
