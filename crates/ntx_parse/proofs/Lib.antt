@@ -1,4 +1,3 @@
-pub mod AtEnd
 pub mod BeginsLemmas
 pub mod Cannot
 pub mod ComesLemmas
@@ -13,7 +12,6 @@ pub mod CompletePrefixes
 pub mod CompleteStatements
 pub mod CompleteTables
 pub mod DeepNames
-pub mod Exact
 pub mod FollowLemmas
 pub mod LevelLemmas
 pub mod Local

@@ -1,14 +1,12 @@
 -- What a reading tells, it tells too if the calls may lie deeper.
---     more_readers, same_answer     each reading
---     more_script, from_there_on    whole scripts
---     one_answer                    whatever depths tell something of a script, they tell the same
-use Rattle.std.proofs.Common.{◌≡◌, ◌≤◌, ℕ, max, List, [], ◌∷◌, inl, inr, None, Some, Result, Ok, Err, refl, sym, ap, ◌∙◌, subst, arith}
+--     same_answer    each reading
+--     more_script    whole scripts
+use Rattle.std.proofs.Common.{◌≡◌, ◌≤◌, ℕ, List, [], ◌∷◌, inl, inr, None, Some, Result, Ok, Err, refl, sym, ap, ◌∙◌, subst}
 use Rattle.ntx_syntax.specs.declared.tree.Block.{Block}
 use Rattle.ntx_parse.specs.Words.{Word}
-use Rattle.ntx_parse.specs.Reading.{Answer, Stop, read, stopped, readers, script_by}
+use Rattle.ntx_parse.specs.Reading.{Answer, Stop, read, stopped, script_by}
 use Rattle.ntx_parse.proofs.Views.{Begin, both_end, then_alike, View, alike, at_alike, stop_lost, same_stop, too_few, Tells, Goes}
-use Rattle.ntx_parse.proofs.ViewedLists.{Go}
-use Rattle.ntx_parse.proofs.Viewed.{go_readers, goes_script}
+use Rattle.ntx_parse.proofs.Viewed.{goes_script}
 
 -- ---- all words, which are the same
 
@@ -38,23 +36,9 @@ told (Some (Err stop)) b (too_few short h) x e = absurd short
 pub same_answer : {A : Type 0} {a b : Answer A} → Goes all_words alike a b → (x : Result (A × List Word) Stop) → a ≡ Some x → b ≡ Some x
 same_answer {a = a} {b = b} h x e = told a b h.tells x e
 
-pub more_readers : (n m : ℕ) → n ≤ m → Go all_words (readers n) (readers m)
-more_readers n m deeper = go_readers n m deeper
-
 pub more_script : (n m : ℕ) → n ≤ m → (words : List Word) (x : Result (Block × List Word) Stop) → script_by n words ≡ Some x → script_by m words ≡ Some x
 unfolding all_words
 more_script n m deeper words x e = same_answer (goes_script {V = all_words} n m deeper (at_alike refl)) x e
 
-pub from_there_on : (n : ℕ) (words : List Word) (x : Result (Block × List Word) Stop) → script_by n words ≡ Some x
-    → (N : ℕ) × ((m : ℕ) → N ≤ m → script_by m words ≡ Some x)
-from_there_on n words x e = (n, λ m deeper. more_script n m deeper words x e)
-
 pub told_once : {A : Type 0} {x y : A} → Some x ≡ Some y → x ≡ y
 told_once e = cc
-
-pub one_answer : (n m : ℕ) (words : List Word) (x y : Result (Block × List Word) Stop) → script_by n words ≡ Some x → script_by m words ≡ Some y → x ≡ y
-one_answer n m words x y e f =
-    let k : ℕ = max n m in
-    let left : n ≤ k = omega arith in
-    let right : m ≤ k = omega arith in
-    told_once (sym (more_script n k left words x e) ∙ more_script m k right words y f)

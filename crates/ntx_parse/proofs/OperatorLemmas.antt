@@ -40,9 +40,6 @@ pub operator_ends_operand : (op : BinaryOp) → ends_exp (tighter (binary_preced
 operator_ends_operand binary.Or = refl
 operator_ends_operand _ = refl
 
-pub operator_is_no : (u : Terminal) → binary_of u ≡ None → (op : BinaryOp) → binary_terminal op ≡ u → ⊥
-operator_is_no u e op i = let same : Some op ≡ None = sym (operator_of op) ∙ (ap binary_of i ∙ e) in cc
-
 rank_rises : (at : Precedence) → nat_lt (rank (tighter at)) (rank at) ≡ false
 rank_rises precedence.Or = refl
 rank_rises _ = refl

@@ -65,9 +65,6 @@ pub arguments_start : {p : Place} {es : List Exp} {words rest : List Placed} →
 arguments_start (no_arguments o c) = passes (is_this terminal.LeftParenthesis) o refl
 arguments_start (arguments o es c) = passes (is_this terminal.LeftParenthesis) o refl
 
-pub body_starts : {p : Place} {b : FunctionBody} {words rest : List Placed} → IsBody p b words rest → Starts (is_this terminal.LeftParenthesis) words
-body_starts (body o names c inside e) = passes (is_this terminal.LeftParenthesis) o refl
-
 pub field_starts : {p : Place} {f : Field} {words rest : List Placed} → IsField p f words rest → Starts begins_field words
 field_starts (keyed key a value) = starts_also _ begins_field bracket_begins_field _ (index_starts key)
 field_starts (named_field n a value) = passes begins_field n refl

@@ -131,10 +131,6 @@ taken p (o ∷ words) = if nat_le p.nesting max_nesting then read o words else s
 abbrev pub expected : Place → Terminal → List Word → Answer Word
 expected p t words = if begins t words then taken p words else stopped why.Expected words
 
--- this reading behind a word that is this, and otherwise nothing is taken and this is read
-abbrev pub if_begins : {A : Type 0} → Terminal → List Word → Answer A → Answer A → Answer A
-if_begins t words here otherwise = if begins t words then here else otherwise
-
 abbrev pub local_of : Word → LocalName
 local_of o = record { name = o.spelled; line = o.line }
 
