@@ -248,6 +248,7 @@ impl<'a> Parser<'a> {
         requires { input.next_of self.old.words ≡ Some terminal.Numeral }
         ensures { Reads (λ _. reading.and_then (reading.taken place self.old.words) (λ o rest. reading.read_value exp.Numeral (numeral_value o.spelled) self.old.words rest)) self.old result self.new }
     {
+        // The words that are left, as the proof sees them.
         let _ = &self.rest;
         let word = self.taken(place)?;
         Ok(Exp::Numeral(numeral_value(word.spelled)))
@@ -258,6 +259,7 @@ impl<'a> Parser<'a> {
         requires { input.next_of self.old.words ≡ Some terminal.Text }
         ensures { Reads (λ _. reading.and_then (reading.taken place self.old.words) (λ o rest. reading.read_value exp.Text (text_value o.spelled) self.old.words rest)) self.old result self.new }
     {
+        // The words that are left, as the proof sees them.
         let _ = &self.rest;
         let word = self.taken(place)?;
         let value = text_value(alloc, word.spelled)?;
