@@ -6,14 +6,14 @@ use Rattle.ntx_parse.specs.Words.{Word}
 use Rattle.ntx_parse.specs.Faults.{IsRefusedAt, IsRefused, line_at}
 use Rattle.ntx_parse.specs.Reading.{Stop, script_by}
 use Rattle.ntx_parse.proofs.Cannot.{cannot}
-use Rattle.ntx_parse.proofs.StuckAnswers.{HaveValues}
+use Rattle.ntx_parse.proofs.StuckAnswers.{EachHasValue}
 use Rattle.ntx_parse.proofs.Stuck.{stand, refused}
 
-pub refused_script : (n : ℕ) (words : List Word) (s : Stop) → HaveValues words → script_by n words ≡ Some (Err s) → IsRefusedAt s.why words s.words
+pub refused_script : (n : ℕ) (words : List Word) (s : Stop) → EachHasValue words → script_by n words ≡ Some (Err s) → IsRefusedAt s.why words s.words
 refused_script n words s values e =
     refused (stand n words s values e) (λ front placed same expected.
     cannot n words front s.words placed same (e ∙ ap (λ reason. Some (Err (record { why = reason; words = s.words }))) expected))
 
 -- a fault that has the reason of the stop, and the line of the word there
-pub refused_with_line : (n : ℕ) (bytes : List ℕ) (words : List Word) (s : Stop) → HaveValues words → script_by n words ≡ Some (Err s) → IsRefused bytes words (record { line = line_at bytes s.words; why = s.why })
+pub refused_with_line : (n : ℕ) (bytes : List ℕ) (words : List Word) (s : Stop) → EachHasValue words → script_by n words ≡ Some (Err s) → IsRefused bytes words (record { line = line_at bytes s.words; why = s.why })
 refused_with_line n bytes words s values e = record { behind = s.words; at = refused_script n words s values e; line = refl }

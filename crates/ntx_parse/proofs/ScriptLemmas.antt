@@ -26,7 +26,7 @@ use Rattle.ntx_parse.proofs.Complete.{one_tree, stopped_is_none}
 use Rattle.ntx_parse.proofs.ReadsLemmas.{ok, at_once, stops_at_once}
 use Rattle.ntx_parse.proofs.Refused.{refused_with_line}
 use Rattle.ntx_parse.proofs.Sound.{sound_script}
-use Rattle.ntx_parse.proofs.StuckAnswers as stuck
+use Rattle.ntx_parse.proofs.StuckAnswers.{EachHasValue}
 
 -- ---- the end
 
@@ -80,7 +80,7 @@ only_by (Ok b) is h chunk a = absurd is
 only_by (Err y) is h chunk a = rw is (refused_has_none h chunk a)
 
 -- and is refused rightly.
-refused_rightly : {words : List Word} {old new : Input} {e : Fail SyntaxFault} (bytes : List ℕ) → stuck.HaveValues words → old.last_line ≡ 1 + line_ends bytes
+refused_rightly : {words : List Word} {old new : Input} {e : Fail SyntaxFault} (bytes : List ℕ) → EachHasValue words → old.last_line ≡ 1 + line_ends bytes
     → Reads {A = Block} (λ n. script_by n words) old (Err e) new → IfRefused {A = Chunk} (Err e) (λ fault. IsRefused bytes words fault)
 refused_rightly {words} bytes values line (stops stop settles is) =
     subst (λ fault. IsRefused bytes words fault)
@@ -88,7 +88,7 @@ refused_rightly {words} bytes values line (stops stop settles is) =
     (refused_with_line settles.from bytes words stop values (settles.gives settles.from (le_refl settles.from)))
 refused_rightly bytes values line out_of_memory = tt
 
-pub refused_by : {words : List Word} {old new : Input} {e : Fail SyntaxFault} (r : Result Chunk (Fail SyntaxFault)) (bytes : List ℕ) → IsErrAnd r (λ y. y ≡ e) → stuck.HaveValues words → old.last_line ≡ 1 + line_ends bytes
+pub refused_by : {words : List Word} {old new : Input} {e : Fail SyntaxFault} (r : Result Chunk (Fail SyntaxFault)) (bytes : List ℕ) → IsErrAnd r (λ y. y ≡ e) → EachHasValue words → old.last_line ≡ 1 + line_ends bytes
     → Reads {A = Block} (λ n. script_by n words) old (Err e) new → IfRefused r (λ fault. IsRefused bytes words fault)
 refused_by (Ok b) bytes is values line h = absurd is
 refused_by (Err y) bytes is values line h = rw is (refused_rightly bytes values line h)
@@ -104,6 +104,6 @@ and_true : (a b : Bool) → a ≡ true → b ≡ true → (a && b) ≡ true
 and_true true b first second = second
 and_true false b first second = absurd (false≢true first)
 
-pub all_values : (words : List Word) → stuck.HaveValues words → HaveValues words
+pub all_values : (words : List Word) → EachHasValue words → HaveValues words
 all_values [] h = refl
 all_values (o ∷ words) h = and_true (has_value o) (list_all has_value words) (test_holds o.is o.spelled h.0.numeral h.0.text) (all_values words h.1)

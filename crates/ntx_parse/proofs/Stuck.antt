@@ -12,7 +12,7 @@ use Rattle.ntx_parse.specs.Faults.{CanBegin, Stand, IsWrong, IsRefusedAt}
 use Rattle.ntx_parse.specs.Reading.{Answer, Stop, Readers, nothing, over, readers, and_then, ended, script_by}
 use Rattle.ntx_parse.proofs.SoundAnswers.{Phrase, spelled_by}
 use Rattle.ntx_parse.proofs.SoundPhrases.{behind_all, names_end, exps_end, vars_end}
-use Rattle.ntx_parse.proofs.StuckAnswers.{Ends, no_call, MayFollow, HaveValues, IsFront, IsWrongWord, not_expected, too_deep, no_loop, IsStuck, HasPhrase, IsViable, stop-injective}
+use Rattle.ntx_parse.proofs.StuckAnswers.{Ends, no_call, MayFollow, EachHasValue, IsFront, IsWrongWord, not_expected, too_deep, no_loop, IsStuck, HasPhrase, IsViable, stop-injective}
 use Rattle.ntx_parse.proofs.StuckWords.{viable_nothing}
 use Rattle.ntx_parse.proofs.StuckPhrases.{AreViable}
 use Rattle.ntx_parse.proofs.StuckLists.{viable_path, viable_names, viable_exps}
@@ -105,13 +105,13 @@ stopped_behind {tree = tree} f = record {
   wrong = tt;
 }
 
-stopped_by : {words : List Word} (a : Answer Block) → IsViable no_call no_call (IsBlock outermost) words a → HaveValues words → (s : Stop) → and_then a ended ≡ Some (Err s) → IsStopped words s
+stopped_by : {words : List Word} (a : Answer Block) → IsViable no_call no_call (IsBlock outermost) words a → EachHasValue words → (s : Stop) → and_then a ended ≡ Some (Err s) → IsStopped words s
 stopped_by None h values s e = absurd cc
 stopped_by (Some (Err stop)) h values s e = stopped_in (h.stops values s e)
 stopped_by (Some (Ok (tree, []))) h values s e = absurd cc
 stopped_by {words} (Some (Ok (tree, o ∷ behind))) h values s e = subst (IsStopped words) (stop-injective e) (stopped_behind (h.reads values tree (o ∷ behind) refl))
 
-pub stand : (n : ℕ) (words : List Word) (s : Stop) → HaveValues words → script_by n words ≡ Some (Err s) → IsStopped words s
+pub stand : (n : ℕ) (words : List Word) (s : Stop) → EachHasValue words → script_by n words ≡ Some (Err s) → IsStopped words s
 stand n words s values e = stopped_by ((readers n).block outermost words) ((readers_are_viable n).block outermost words) values s e
 
 -- ---- refusals

@@ -29,8 +29,8 @@ pub record HasValue (o : Word) : Type 0 where
   pub numeral : o.is ≡ terminal.Numeral → IsSome (numeral_value o.spelled)
   pub text : o.is ≡ terminal.Text → IsSome (text_value o.spelled)
 
-abbrev pub HaveValues : List Word → Type 0
-HaveValues words = AllByRecursion HasValue words
+abbrev pub EachHasValue : List Word → Type 0
+EachHasValue words = AllByRecursion HasValue words
 
 -- ---- the three things that are told
 
@@ -74,15 +74,15 @@ pub record HasPhrase {A : Type 0} (b c : Ends) (D : Phrase A) : Type 0 where
 
 pub record IsViable {A : Type 0} (b c : Ends) (D : Phrase A) (words : List Word) (answer : Answer A) : Type 0 where
   pub whole : HasPhrase b c D
-  pub reads : HaveValues words → (x : A) (rest : List Word) → answer ≡ read x rest → IsFront b c D words x rest
-  pub stops : HaveValues words → (s : Stop) → answer ≡ Some (Err s) → IsStuck b c D words s
+  pub reads : EachHasValue words → (x : A) (rest : List Word) → answer ≡ read x rest → IsFront b c D words x rest
+  pub stops : EachHasValue words → (s : Stop) → answer ≡ Some (Err s) → IsStuck b c D words s
 
 -- ---- answers and lists
 
 pub stop-injective : {A : Type 0} {stop other : Stop} → ◌≡◌ {A = Answer A} (Some (Err stop)) (Some (Err other)) → stop ≡ other
 stop-injective e = cc
 
-values_behind : (front : List Placed) (rest : List Word) → HaveValues (spelled_by front ++ rest) → HaveValues rest
+values_behind : (front : List Placed) (rest : List Word) → EachHasValue (spelled_by front ++ rest) → EachHasValue rest
 values_behind [] rest h = h
 values_behind (o ∷ front) rest h = values_behind front rest h.1
 
@@ -147,12 +147,12 @@ module _ {A B : Type 0} {b m c : Ends} {D : Phrase A} {F : Phrase B} where
         };
       }
 
-  stops_then : {words : List Word} (a : Answer A) (next : A → List Word → Answer B) → IsViable b m D words a → ((x : A) (rest : List Word) → IsViable m c (Completes D x F) rest (next x rest)) → HaveValues words → (s : Stop) → and_then a next ≡ Some (Err s) → IsStuck b c F words s
+  stops_then : {words : List Word} (a : Answer A) (next : A → List Word → Answer B) → IsViable b m D words a → ((x : A) (rest : List Word) → IsViable m c (Completes D x F) rest (next x rest)) → EachHasValue words → (s : Stop) → and_then a next ≡ Some (Err s) → IsStuck b c F words s
   stops_then None next h g values s e = absurd cc
   stops_then (Some (Err stop)) next h g values s e = let first = h.stops values s (ap (λ z. Some (Err z)) (stop-injective e)) in stuck_then first (g first.completed.tree []).whole
   stops_then (Some (Ok found)) next h g values s e =
       let first = h.reads values found.0 found.1 refl in
-      stuck_behind first ((g found.0 found.1).stops (values_behind first.front found.1 (subst HaveValues first.words_are values)) s e)
+      stuck_behind first ((g found.0 found.1).stops (values_behind first.front found.1 (subst EachHasValue first.words_are values)) s e)
 
   pub viable_then : {words : List Word} {a : Answer A} {next : A → List Word → Answer B} → IsViable b m D words a → ((x : A) (rest : List Word) → IsViable m c (Completes D x F) rest (next x rest)) → IsViable b c F words (and_then a next)
   viable_then {words} {a} {next} h g = record {
@@ -160,6 +160,6 @@ module _ {A B : Type 0} {b m c : Ends} {D : Phrase A} {F : Phrase B} where
     reads = λ values y rest e.
         let parts = parts_read a next y rest e in
         let first = h.reads values parts.0 parts.1 parts.2 in
-        front_then first ((g parts.0 parts.1).reads (values_behind first.front parts.1 (subst HaveValues first.words_are values)) y rest parts.3);
+        front_then first ((g parts.0 parts.1).reads (values_behind first.front parts.1 (subst EachHasValue first.words_are values)) y rest parts.3);
     stops = stops_then a next h g;
   }

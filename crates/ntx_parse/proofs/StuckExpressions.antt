@@ -23,7 +23,7 @@ use Rattle.ntx_parse.specs.Reading.{Readers, read, stopped, and_then, joined, re
 use Rattle.ntx_parse.proofs.TerminalLemmas.{begins-true, other_terminal}
 use Rattle.ntx_parse.proofs.SoundPhrases.{IsOperated}
 use Rattle.ntx_parse.proofs.SoundExpressions.{nil_read, false_read, true_read, function_read, table_exp, prefix_exp, other_unary, other_binary, begins_sign, begins_operator, unary_read, concat_read, operated_on}
-use Rattle.ntx_parse.proofs.StuckAnswers.{any_words, no_call, HaveValues, too_deep, HasPhrase, IsViable, viable_then}
+use Rattle.ntx_parse.proofs.StuckAnswers.{any_words, no_call, EachHasValue, too_deep, HasPhrase, IsViable, viable_then}
 use Rattle.ntx_parse.proofs.StuckWords.{IsWordOf, viable_read, viable_stopped, viable_wrong, viable_one, viable_as, IsNoCall, some_word, viable_taken, viable_where}
 use Rattle.ntx_parse.proofs.StuckPhrases.{AreViable}
 use Rattle.ntx_parse.proofs.StuckPrefixes.{viable_prefix}
@@ -43,7 +43,7 @@ no_value : {X : Type 0} (found : Option X) → IsSome found → found ≡ None �
 no_value found is none = false≢true (sym (ap is_some none) ∙ is)
 
 -- A word that has a value: it stands for this, or it does not lie too deep.
-viable_value : {X : Type 0} (p : Place) (o : Word) (words : List Word) (f : X → Exp) (value : List ℕ → Option X) (found : Option X) (fits : Bool) → value o.spelled ≡ found → nat_le p.nesting max_nesting ≡ fits → (o.is ≡ terminal.Break → ⊥) → (HaveValues (o ∷ words) → IsSome (value o.spelled)) → ((x : X) → value o.spelled ≡ Some x → IsWordOf (IsSimple p) o p (f x)) → IsViable no_call no_call (IsSimple p) (o ∷ words) (and_then (cond fits (read o words) (stopped why.Depth (o ∷ words))) (λ n rest. read_value f (value n.spelled) (o ∷ words) rest))
+viable_value : {X : Type 0} (p : Place) (o : Word) (words : List Word) (f : X → Exp) (value : List ℕ → Option X) (found : Option X) (fits : Bool) → value o.spelled ≡ found → nat_le p.nesting max_nesting ≡ fits → (o.is ≡ terminal.Break → ⊥) → (EachHasValue (o ∷ words) → IsSome (value o.spelled)) → ((x : X) → value o.spelled ≡ Some x → IsWordOf (IsSimple p) o p (f x)) → IsViable no_call no_call (IsSimple p) (o ∷ words) (and_then (cond fits (read o words) (stopped why.Depth (o ∷ words))) (λ n rest. read_value f (value n.spelled) (o ∷ words) rest))
 viable_value p o words f value None true e fits other has h = subst (λ x. IsViable no_call no_call (IsSimple p) (o ∷ words) (read_value f x (o ∷ words) words)) (sym e) (viable_stopped (nil_phrase p))
 viable_value p o words f value (Some x) true e fits other has h = subst (λ x. IsViable no_call no_call (IsSimple p) (o ∷ words) (read_value f x (o ∷ words) words)) (sym e) (viable_one p o words (nil_phrase p) (record { nesting = leb-true p.nesting max_nesting fits; in_loop = λ breaks. absurd (other breaks) }) (h x e))
 viable_value p o words f value None false e fits other has h = viable_wrong p o words (nil_phrase p) refl (too_deep (leb-false p.nesting max_nesting fits)) (λ values. absurd (no_value (value o.spelled) (has values) e))

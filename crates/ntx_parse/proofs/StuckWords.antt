@@ -11,7 +11,7 @@ use Rattle.ntx_parse.specs.Faults.{at_place}
 use Rattle.ntx_parse.specs.Reading.{Answer, Stop, read, stopped, and_then, number, begins, taken, expected}
 use Rattle.ntx_parse.proofs.TerminalLemmas.{other_terminal, begins-is}
 use Rattle.ntx_parse.proofs.SoundAnswers.{Phrase, spelled_by, Completes, IsTaken, word_taken, IsOther, read-injective, not_read}
-use Rattle.ntx_parse.proofs.StuckAnswers.{Ends, any_words, no_call, MayFollow, HaveValues, IsFront, IsWrongWord, not_expected, too_deep, IsStuck, HasPhrase, IsViable, stop-injective, viable_then}
+use Rattle.ntx_parse.proofs.StuckAnswers.{Ends, any_words, no_call, MayFollow, EachHasValue, IsFront, IsWrongWord, not_expected, too_deep, IsStuck, HasPhrase, IsViable, stop-injective, viable_then}
 
 not_stopped : {A X : Type 0} {found : A × List Word} {stop : Stop} → ◌≡◌ {A = Answer A} (Some (Ok found)) (Some (Err stop)) → X
 not_stopped e = absurd cc
@@ -57,7 +57,7 @@ module _ {A : Type 0} {D : Phrase A} where
     });
   }
 
-  pub viable_wrong : {b c : Ends} {s : Stop} (p : Place) (o : Word) (words : List Word) → HasPhrase b c D → s.words ≡ o ∷ words → IsWrongWord s.why s.words (at_place o p ∷ []) → (HaveValues (o ∷ words) → (x : A) × IsWordOf D o p x) → IsViable b c D (o ∷ words) (Some (Err s))
+  pub viable_wrong : {b c : Ends} {s : Stop} (p : Place) (o : Word) (words : List Word) → HasPhrase b c D → s.words ≡ o ∷ words → IsWrongWord s.why s.words (at_place o p ∷ []) → (EachHasValue (o ∷ words) → (x : A) × IsWordOf D o p x) → IsViable b c D (o ∷ words) (Some (Err s))
   viable_wrong {b} {c} {s} p o words w same wrong h = record {
     whole = w;
     reads = λ values x rest e. not_read _ e;

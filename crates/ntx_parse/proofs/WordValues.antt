@@ -12,7 +12,7 @@ use Rattle.ntx_parse.specs.declared.terminal.Terminal.TheVariants as terminal
 use Rattle.ntx_parse.specs.Words.{named, keywords, symbols, terminal_of, word_of, words_of}
 use Rattle.ntx_parse.specs.Reading.{number}
 use Rattle.ntx_parse.proofs.TerminalLemmas.{other_terminal}
-use Rattle.ntx_parse.proofs.StuckAnswers.{HasValue, HaveValues}
+use Rattle.ntx_parse.proofs.StuckAnswers.{HasValue, EachHasValue}
 
 -- ---- tables of names
 
@@ -61,6 +61,6 @@ module _ (numerals : NumeralsHaveValues) (texts : TextsHaveValues) (bytes : List
     text = λ is. texts (slice_range bytes t.start t.end) (spells ∙ ap (λ s. Some (Token s)) (text_sort t.sort (slice_range bytes t.start t.end) is));
   }
 
-  pub words_have_values : (from : ℕ) (tokens : List token.Token) → StandInOrder bytes from tokens → HaveValues (words_of bytes tokens)
+  pub words_have_values : (from : ℕ) (tokens : List token.Token) → StandInOrder bytes from tokens → EachHasValue (words_of bytes tokens)
   words_have_values from [] h = tt
   words_have_values from (t ∷ tokens) h = (token_has_value t h.3, words_have_values t.end tokens h.5)

@@ -7,7 +7,7 @@ use Rattle.ntx_parse.specs.Words.{words_of}
 use Rattle.ntx_parse.proofs.ScriptLemmas.{script_is_accepted, no_other_tree, only_by, refused_by, all_values}
 use Rattle.ntx_parse.proofs.OneFault.{refused_is_none, err_with_its_fault}
 use Rattle.ntx_parse.proofs.WordValues.{words_have_values}
-use Rattle.ntx_parse.proofs.StuckAnswers as stuck
+use Rattle.ntx_parse.proofs.StuckAnswers.{EachHasValue}
 use Rattle.ntx_parse.proofs.script.parse.Goals as goal
 
 pub whole-requires : goal.whole-requires
@@ -23,10 +23,10 @@ returns-in_err-block-clause-only c chunk a =
 pub returns-in_err-block-clause-refused : goal.returns-in_err-block-clause-refused
 returns-in_err-block-clause-refused c =
     let same : map seen c.as_slice.result.now ≡ words_of c.args.bytes.now c.args.tokens.now = ap (map seen) c.as_slice.ensures.value ∙ c.in_ok-words.ensures in
-    let values : stuck.HaveValues (words_of c.args.bytes.now c.args.tokens.now) =
+    let values : EachHasValue (words_of c.args.bytes.now c.args.tokens.now) =
     words_have_values c.numerals_have_values.ensures c.texts_have_values.ensures c.args.bytes.now 0 c.args.tokens.now (c.tokens_stand_in_order.ensures _ _ c.requires) in
     subst (λ words. IfRefused c.from_residual-in_err-block.result (λ fault. IsRefused c.args.bytes.now words fault)) same
-    (refused_by _ c.args.bytes.now c.from_residual-in_err-block.ensures.1 (subst stuck.HaveValues (sym same) values) c.last_line.ensures c.in_err-block.ensures)
+    (refused_by _ c.args.bytes.now c.from_residual-in_err-block.ensures.1 (subst EachHasValue (sym same) values) c.last_line.ensures c.in_err-block.ensures)
 
 pub returns-in_err-block-clause-only_fault : goal.returns-in_err-block-clause-only_fault
 returns-in_err-block-clause-only_fault c fault r =
