@@ -1,5 +1,5 @@
--- How a plain heap keeps its nodes: slots by name, each with a node and whether the walk has visited it.
-use Rattle.std.specs.Prelude.{◌≡◌, ℕ, Bool, true, false, cond, List, [], ◌∷◌, map, Option, None, Some, if◌then◌else◌}
+-- How a plain heap keeps its nodes: slots by name, each with a node and the number of the walk that last visited it.
+use Rattle.std.specs.Prelude.{◌≡◌, ◌≤◌, ℕ, nat_eq, cond, List, [], ◌∷◌, map, Option, None, Some, if◌then◌else◌}
 use Rattle.std.specs.Ordering.{nat_cmp}
 use Rattle.std.specs.Map.{lookup}
 use Rattle.std.specs.BTreeMap.{is_at}
@@ -25,7 +25,16 @@ Puts old new n slot = (q : ℕ) → slot_at new q ≡ cond (is_at (nat_cmp n) q)
 abbrev pub nodes_of : Slots → FinMap nat_cmp Node
 nodes_of slots = from_entries (map (λ e. (e.0, e.1.node)) slots)
 
--- the names of the slots that were visited: at a name that stood twice the first slot would count
-abbrev pub visited_of : Slots → Names
-visited_of [] = set.empty
-visited_of (e ∷ es) = if e.1.visited then set.insert (visited_of es) e.0 else set.remove (visited_of es) e.0
+-- the names of the slots that the walk of this number visited: at a name that stood twice the first slot would count
+abbrev pub visited_of : ℕ → Slots → Names
+visited_of walk [] = set.empty
+visited_of walk (e ∷ es) = if nat_eq e.1.walk walk then set.insert (visited_of walk es) e.0 else set.remove (visited_of walk es) e.0
+
+-- the number of the walk that last visited a slot, 0 where there is none
+abbrev pub last_walk : Option Slot → ℕ
+last_walk None = 0
+last_walk (Some slot) = slot.walk
+
+-- walks are counted from 1, and none that visited a slot has a greater number than this one
+abbrev pub IsCounted : ℕ → Slots → Type 0
+IsCounted walk slots = (1 ≤ walk) × ((n : ℕ) → last_walk (slot_at slots n) ≤ walk)

@@ -1,6 +1,6 @@
-//! The nodes of a plain heap by name, with marks on those that a walk has visited.
+//! The nodes of a plain heap by name, each with the number of the walk that last visited it.
 
-ghost use Rattle.std.specs.Prelude.{◌≡◌, ℕ, true, false, not, is_some, IfSome, IfNone, OnOk, OnErr, map as list_map};
+ghost use Rattle.std.specs.Prelude.{◌≡◌, ℕ, true, not, nat_eq, is_some, IfSome, IfNone, OnOk, OnErr, map as list_map};
 ghost use Rattle.std.specs.Option.{option_map};
 ghost use Rattle.std.specs.FinMap as map;
 ghost use Rattle.std.specs.FinSet as set;
@@ -16,17 +16,20 @@ use std::alloc::Global;
 use std::collections::BTreeMap;
 use std::marker::Model;
 
-/// A node, and whether the walk has visited it.
+/// A node, and the number of the walk that last visited it, 0 where none has since walks were last counted from 1.
 #[derive(Drop)]
 pub(crate) struct Slot {
     node: Node,
-    visited: bool,
+    walk: u64,
 }
 
-/// Nodes by name. It is seen as the finite map of the nodes and the set of the names visited.
+/// Nodes by name, and the number of the walk that goes on. Walks are counted from 1. It is seen as the finite map of the
+/// nodes and the set of the names visited, which are those of the slots with that number. No slot has a greater one, so
+/// one more is the number of a walk that has visited nothing.
 #[derive(Drop)]
 pub(crate) struct Table {
     slots: BTreeMap<u64, Slot>,
+    walk: u64,
 }
 
 impl Model for Table {
@@ -45,9 +48,11 @@ impl Model for Table {
 
     ghost coded = { code_by (map.FinMap nat_cmp Node × Names) (coded× (map.code coded_ℕ node.the_row.coded) (set.code coded_ℕ)) (λ k. (k.nodes, k.visited)) (λ p. record { nodes = p.0; visited = p.1 }) (λ _. refl) };
 
-    ghost use Rattle.ntx_nodes.specs.Plain.{nodes_of, visited_of};
+    ghost use Rattle.ntx_nodes.specs.Plain.{nodes_of, visited_of, IsCounted};
 
-    ghost view = { λ a. record { nodes = nodes_of a.slots.entries; visited = visited_of a.slots.entries } };
+    ghost view = { λ a. record { nodes = nodes_of a.slots.entries; visited = visited_of a.walk a.slots.entries } };
+
+    ghost invariant = { λ a. IsCounted a.walk a.slots.entries };
 }
 
 impl Table {
@@ -58,6 +63,7 @@ impl Table {
     {
         Table {
             slots: BTreeMap::new(alloc),
+            walk: 1,
         }
     }
 
@@ -157,13 +163,7 @@ impl Table {
         ensures err { OnErr result (self.new.nodes ≡ self.old.nodes) }
         ensures visited { self.new.visited ≡ self.old.visited }
     {
-        self.slots.insert(
-            n,
-            Slot {
-                node,
-                visited: false,
-            },
-        )?;
+        self.slots.insert(n, Slot { node, walk: 0 })?;
         Ok(())
     }
 
@@ -180,15 +180,22 @@ impl Table {
         ensures step { StepsAtOnce result self.old.visited self.new.visited (at_name self.old n (λ _. Ok (not (set.contains self.old.visited n), set.insert self.old.visited n))) }
         ensures nodes { self.new.nodes ≡ self.old.nodes }
     {
-        mark(&mut self.slots, n)
+        mark(&mut self.slots, self.walk, n)
     }
 
-    /// Makes every node one that was not visited.
+    /// Makes every node one that was not visited, by counting one on. After the last number of 64 bits it takes the numbers
+    /// off all slots, and counts from 1 again.
     pub fn clear_visits(&mut self)
         ensures nodes { self.new.nodes ≡ self.old.nodes }
         ensures visited { self.new.visited ≡ set.empty }
     {
-        unmark(&mut self.slots);
+        match self.walk.checked_add(1) {
+            Some(next) => self.walk = next,
+            None => {
+                unmark(&mut self.slots);
+                self.walk = 1;
+            }
+        }
     }
 }
 
@@ -212,27 +219,27 @@ fn write_attributes(slots: &mut BTreeMap<u64, Slot>, n: u64, attributes: Attribu
     }
 }
 
-/// Marks a slot as visited: whether it was not before.
-fn mark(slots: &mut BTreeMap<u64, Slot>, n: u64) -> Result<bool, Trouble>
-    ensures live { IfSome (slot_at slots.old.entries n) (λ slot. (result ≡ Ok (not slot.visited)) × Puts slots.old.entries slots.new.entries n (Some (record slot { visited = true }))) }
+/// Marks a slot as visited by the walk of a number: whether it was not before.
+fn mark(slots: &mut BTreeMap<u64, Slot>, walk: u64, n: u64) -> Result<bool, Trouble>
+    ensures live { IfSome (slot_at slots.old.entries n) (λ slot. (result ≡ Ok (not (nat_eq slot.walk walk))) × Puts slots.old.entries slots.new.entries n (Some (record slot { walk = walk }))) }
     ensures dead { IfNone (slot_at slots.old.entries n) ((result ≡ Err (Trouble.Stale n)) × (slots.new.entries ≡ slots.old.entries)) }
 {
     match slots.get_mut(&n) {
         Some(slot) => {
-            let first = !slot.visited;
-            slot.visited = true;
+            let first = slot.walk != walk;
+            slot.walk = walk;
             Ok(first)
         }
         None => Err(Trouble::Stale(n)),
     }
 }
 
-/// Takes the mark off every slot.
+/// Takes the number of its walk off every slot.
 fn unmark(slots: &mut BTreeMap<u64, Slot>)
-    ensures { slots.new.entries ≡ list_map (λ e. (e.0, record e.1 { visited = false })) slots.old.entries }
+    ensures { slots.new.entries ≡ list_map (λ e. (e.0, record e.1 { walk = 0 })) slots.old.entries }
 {
     slots.retain(|_n, slot| {
-        slot.visited = false;
+        slot.walk = 0;
         true
     });
 }

@@ -280,6 +280,42 @@ fn a_node_that_two_boxes_share_is_a_loop(rt: HostRuntime) -> Result<(), test::Fa
 }
 
 #[test]
+fn each_walk_visits_a_node_first_once(rt: HostRuntime) -> Result<(), test::Fail> {
+    let mut heap = PlainHeap::new(rt.alloc(), 1)?;
+    let kern = heap.make(Kind::Kern, 0)?;
+    let glue = heap.make(Kind::Glue, 0)?;
+    for _ in 0..4 {
+        heap.begin_walk();
+        for first in [true, false, false] {
+            assert_eq!(rt; heap.visit(kern), Ok(first));
+        }
+    }
+    assert_eq!(rt; heap.visit(glue), Ok(true));
+    let later = heap.make(Kind::Kern, 0)?;
+    let copy = heap.copy_one(kern)?;
+    for n in [later, copy] {
+        for first in [true, false] {
+            assert_eq!(rt; heap.visit(n), Ok(first));
+        }
+    }
+    heap.set(glue, Field::Width, FieldValue::Number(7))?;
+    heap.set_attr(kern, 1, 10)?;
+    for n in [kern, glue] {
+        assert_eq!(rt; heap.visit(n), Ok(false));
+    }
+    heap.begin_walk();
+    heap.begin_walk();
+    heap.free_one(kern)?;
+    assert_eq!(rt; heap.visit(kern), Err(Trouble::Stale(1)));
+    for n in [glue, later, copy] {
+        for first in [true, false] {
+            assert_eq!(rt; heap.visit(n), Ok(first));
+        }
+    }
+    Ok(())
+}
+
+#[test]
 fn a_walk_enters_a_disc_before_it_goes_on(rt: HostRuntime) -> Result<(), test::Fail> {
     let mut heap = PlainHeap::new(rt.alloc(), 1)?;
     let disc = heap.make(Kind::Disc, 3)?;

@@ -7,4 +7,4 @@ use Rattle.ntx_nodes.proofs.Tables.{visited_live}
 use Rattle.ntx_nodes.proofs.table.Table.lawful.Goals as goal
 
 pub returns : goal.returns
-returns c = subst (λ (k : MarkedNodes). (n : ℕ) → set.contains k.visited n ≡ true → is_some (map.get k.nodes n) ≡ true) c.self.view_is (visited_live c.self.inside.slots.entries)
+returns c = subst (λ (k : MarkedNodes). (n : ℕ) → set.contains k.visited n ≡ true → is_some (map.get k.nodes n) ≡ true) c.self.view_is (visited_live c.self.inside.walk c.self.inside.slots.entries)
