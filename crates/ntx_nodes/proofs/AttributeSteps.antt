@@ -1,5 +1,5 @@
 -- What is set among the attributes that entries make.
-use Rattle.std.proofs.Common.{◌≡◌, true, false, refl, sym, ◌∙◌, ap, List, ℤ, not, ◌&&◌, cond, Some, Ok, subst}
+use Rattle.std.proofs.Common.{◌≡◌, true, false, refl, sym, ◌∙◌, ap, List, ℤ, not, ◌&&◌, cond, Some, Ok}
 use Rattle.std.specs.Prelude.{nat_le}
 use Rattle.std.specs.Cmp.{int_cmp_total}
 use Rattle.std.specs.Ordering.{int_cmp}

@@ -1,19 +1,16 @@
 -- Every step keeps a heap lawful.
-use Rattle.std.proofs.Common.{◌≡◌, ℕ, ℤ, pos, ◌+◌, ◌-◌, ◌^◌, ◌≤◌, ◌<◌, Bool, true, false, cond, not, ◌&&◌, Some, None, Ok, Err, refl, sym, ◌∙◌, ap, subst, inl, inr, arith}
-use Rattle.std.specs.Prelude.{Option, Result, is_some, nat_le, ◌⊎◌}
+use Rattle.std.proofs.Common.{◌≡◌, ℕ, ℤ, ◌+◌, ◌-◌, ◌^◌, ◌≤◌, ◌<◌, Bool, true, false, cond, not, ◌&&◌, Some, None, Ok, refl, sym, ◌∙◌, ap, subst, inl, inr, arith}
+use Rattle.std.specs.Prelude.{Option, nat_le, ◌⊎◌}
 use Rattle.std.specs.declared.cmp.Ordering.{Ordering}
 use Rattle.std.proofs.lemmas.Bool.{leb-false}
 use Rattle.std.specs.Ordering.{nat_cmp, int_cmp, eq_by_cmp}
 use Rattle.std.specs.Cmp.{IsTotalOrder, Equal-is, nat_cmp_total, int_cmp_total}
 use Rattle.std.specs.FinMap as map
-use Rattle.ntx_num.specs.Answer.{result_map, result_and_then}
-use Rattle.ntx_nodes.specs.Fields.{dimension, order, number_within, number_to, link, box_with, rule_with, disc_with, glue_with, kern_with, penalty_with, glyph_with, contents_with, with_field, kind_of, last_subtype, fresh, unlinked}
-use Rattle.ntx_nodes.specs.Heap.{Attributes, Heap, IsWithin, IsDimension, IsInRange, IsLawfulNode, IsLawful, AreLawful, is_attribute, max_nodes, max_attributes}
+use Rattle.ntx_nodes.specs.Fields.{dimension, order, number_to, link, box_with, rule_with, disc_with, glue_with, kern_with, penalty_with, glyph_with, contents_with, with_field, kind_of, last_subtype}
+use Rattle.ntx_nodes.specs.Heap.{Attributes, Heap, IsWithin, IsDimension, IsLawfulNode, IsLawful, AreLawful, is_attribute, max_nodes, max_attributes}
 use Rattle.ntx_nodes.proofs.Ranges.{IsGiven, IsLawfulBox, IsLawfulContents, IsLawfulFields, fields_numbers, fields_links, lawful_fields}
 use Rattle.ntx_nodes.specs.Heap.{name_limit}
 use Rattle.ntx_nodes.specs.Steps.{put, next_name, making, with_attribute, empty_heap}
-use Rattle.ntx_nodes.specs.declared.kind.Kind.{Kind}
-use Rattle.ntx_nodes.specs.declared.kind.Kind.TheVariants as kind
 use Rattle.ntx_nodes.specs.declared.field.Field.{Field}
 use Rattle.ntx_nodes.specs.declared.field.Field.TheVariants as field
 use Rattle.ntx_nodes.specs.declared.field.FieldValue.{FieldValue}
@@ -27,7 +24,6 @@ use Rattle.ntx_nodes.specs.declared.fields.Contents.{Contents}
 use Rattle.ntx_nodes.specs.declared.fields.Contents.TheVariants as contents
 use Rattle.ntx_nodes.specs.declared.fields.Fields.{Fields}
 use Rattle.ntx_nodes.specs.declared.node.Node.{Node}
-use Rattle.ntx_nodes.specs.declared.trouble.Trouble.{Trouble}
 use Rattle.ntx_nodes.proofs.Oks.{mapped_Ok, not_taken, number_within_Ok, number_to_Ok, link_Ok}
 
 -- a value whose link, if it is one, has been given

@@ -1,5 +1,5 @@
 -- What stands behind an Ok, and numbers and links that fields take.
-use Rattle.std.proofs.Common.{◌≡◌, ℕ, ℤ, pos, negsuc, ◌≤◌, Bool, true, false, cond, ◌&&◌, Some, None, Ok, Err, refl, sym, ◌∙◌, ap, subst, arith}
+use Rattle.std.proofs.Common.{◌≡◌, ℕ, ℤ, pos, negsuc, ◌≤◌, Bool, true, false, cond, ◌&&◌, Some, None, Ok, Err, refl, subst, arith}
 use Rattle.std.specs.Prelude.{Option, Result, neg_ℤ, ◌≤ℤ◌, int_le, nat_le}
 use Rattle.std.specs.FinMap as map
 use Rattle.ntx_num.specs.Answer.{result_map, result_and_then}

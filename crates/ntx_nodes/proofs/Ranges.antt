@@ -1,8 +1,8 @@
 -- The laws of a node's fields, kind by kind.
-use Rattle.std.proofs.Common.{◌≡◌, ℕ, ℤ, pos, ◌-◌, ◌^◌, ◌≤◌, ◌<◌, Some, None, Ok, refl, ap, subst, arith}
+use Rattle.std.proofs.Common.{◌≡◌, ℕ, ℤ, pos, ◌-◌, ◌^◌, ◌≤◌, ◌<◌, Some, Ok, refl, ap, subst, arith}
 use Rattle.std.specs.Prelude.{Option, Result, ◌≤ℤ◌}
 use Rattle.std.proofs.lemmas.Int.{ints}
-use Rattle.ntx_nodes.specs.Fields.{box_field, rule_field, disc_field, glue_field, kern_field, penalty_field, glyph_field, contents_field, field_of, kind_of, last_subtype}
+use Rattle.ntx_nodes.specs.Fields.{box_field, contents_field, field_of, kind_of, last_subtype}
 use Rattle.ntx_nodes.specs.Heap.{IsWithin, IsDimension, IsInRange}
 use Rattle.ntx_nodes.specs.declared.kind.Kind.{Kind}
 use Rattle.ntx_nodes.specs.declared.kind.Kind.TheVariants as kind
@@ -11,10 +11,6 @@ use Rattle.ntx_nodes.specs.declared.field.Field.TheVariants as field
 use Rattle.ntx_nodes.specs.declared.field.FieldValue.{FieldValue}
 use Rattle.ntx_nodes.specs.declared.field.FieldValue.TheVariants.{Number, Link}
 use Rattle.ntx_nodes.specs.declared.contents.BoxFields.{BoxFields}
-use Rattle.ntx_nodes.specs.declared.contents.RuleFields.{RuleFields}
-use Rattle.ntx_nodes.specs.declared.contents.DiscFields.{DiscFields}
-use Rattle.ntx_nodes.specs.declared.contents.GlueFields.{GlueFields}
-use Rattle.ntx_nodes.specs.declared.contents.GlyphFields.{GlyphFields}
 use Rattle.ntx_nodes.specs.declared.fields.Fields.{Fields}
 use Rattle.ntx_nodes.specs.declared.trouble.Trouble.{Trouble}
 use Rattle.ntx_nodes.specs.declared.fields.Contents.{Contents}

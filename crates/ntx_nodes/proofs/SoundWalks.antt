@@ -3,8 +3,8 @@ use Rattle.std.proofs.Common.{◌≡◌, ℕ, zero, suc, ◌+◌, ◌≤◌, ◌
 use Rattle.std.specs.Prelude.{Option, Result, is_some, nat_eq, ◌||◌, ◌⊎◌}
 use Rattle.std.specs.FinMap as map
 use Rattle.std.proofs.lemmas.Bool.{eqb-true}
-use Rattle.ntx_num.specs.Answer.{result_map, result_and_then}
-use Rattle.ntx_nodes.specs.Heap.{Heap, is_live}
+use Rattle.ntx_num.specs.Answer.{result_and_then}
+use Rattle.ntx_nodes.specs.Heap.{Heap}
 use Rattle.ntx_nodes.specs.Walk.{is_reached, node_reached, walk, turns_of}
 use Rattle.ntx_nodes.specs.Walker.{links_of, whole_walk}
 use Rattle.ntx_nodes.specs.WalkLaws.{AreFresh, LeadsTo, LeadsOn, IsClosed, Sound}
@@ -15,7 +15,7 @@ use Rattle.ntx_nodes.specs.declared.node.Node.{Node}
 use Rattle.ntx_nodes.specs.declared.trouble.Trouble.{Trouble}
 use Rattle.ntx_nodes.proofs.Oks.{went_Ok}
 use Rattle.ntx_nodes.proofs.Walks.{is_reached-append}
-use Rattle.ntx_nodes.proofs.Turns.{Passes, passes, unreached, unreached_less, unreached_falls, unreached_most, Extends, extends_on, last_reached}
+use Rattle.ntx_nodes.proofs.Turns.{passes, unreached, unreached_less, unreached_falls, unreached_most, Extends, extends_on, last_reached}
 use Rattle.ntx_nodes.proofs.WalkSteps.{whole_None, whole_at, whole_refused, links_next}
 
 -- ---- lists of names

@@ -1,14 +1,14 @@
 -- Each step of a lawful heap leaves a lawful heap.
-use Rattle.std.proofs.Common.{◌≡◌, ℕ, ℤ, pos, ◌-◌, ◌^◌, ◌<◌, ◌≤◌, Some, None, Ok, Err, refl, sym, ◌∙◌, ap, subst, arith}
-use Rattle.std.specs.Prelude.{Option, Result, IfSome, ◌≤ℤ◌}
+use Rattle.std.proofs.Common.{◌≡◌, ℕ, ℤ, pos, ◌<◌, ◌≤◌, Some, None, Ok, Err, refl, sym, ◌∙◌, ap, subst, arith}
+use Rattle.std.specs.Prelude.{Option, Result, IfSome}
 use Rattle.std.specs.FinMap as map
 use Rattle.std.proofs.lemmas.Int.{ints}
 use Rattle.ntx_num.specs.Answer.{result_map, Steps}
 use Rattle.ntx_num.specs.declared.answer.Fail.{Fail}
 use Rattle.ntx_num.specs.declared.answer.Fail.TheVariants.{NoMemory, Is}
 use Rattle.ntx_nodes.specs.Fields.{kind_of, last_subtype, fresh, unlinked, with_field}
-use Rattle.ntx_nodes.specs.Heap.{Attributes, Heap, IsWithin, IsDimension, IsLawfulNode, IsLawful, AreLawful}
-use Rattle.ntx_nodes.specs.Steps.{of_found, at, put, new_node, copy_of, making, make_step, copy_one_step, free_one_step, linkable, changed, put_fields, put_attributes, with_glue_set, contents_with_ratio, with_ratio, with_attribute}
+use Rattle.ntx_nodes.specs.Heap.{Attributes, Heap, IsDimension, IsLawfulNode, IsLawful, AreLawful}
+use Rattle.ntx_nodes.specs.Steps.{of_found, at, new_node, copy_of, making, make_step, copy_one_step, free_one_step, linkable, changed, put_fields, put_attributes, with_glue_set, contents_with_ratio, with_ratio, with_attribute}
 use Rattle.ntx_nodes.specs.Steps.{set_step, set_ratio_step, set_attr_step, unset_attr_step, same_attrs_step, set_current_step, unset_current_step, wear_current_step}
 use Rattle.ntx_nodes.specs.declared.kind.Kind.{Kind}
 use Rattle.ntx_nodes.specs.declared.kind.Kind.TheVariants as kind

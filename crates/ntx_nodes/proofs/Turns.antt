@@ -1,20 +1,14 @@
 -- A walk with turns enough: more turns change nothing, and what it does at a node.
 use Rattle.std.proofs.Common.{◌≡◌, ℕ, zero, suc, ◌+◌, ◌≤◌, ◌<◌, List, [], ◌∷◌, ◌++◌, Bool, true, false, cond, length, Some, None, Ok, Err, refl, sym, ◌∙◌, ap, subst, append_assoc, append-nil, zero-add, suc-add, add_comm, arith}
-use Rattle.std.specs.Prelude.{Option, Result, not, ◌||◌, nat_eq, nat_lt}
+use Rattle.std.specs.Prelude.{Option, Result, not, ◌||◌, nat_lt}
 use Rattle.std.specs.FinMap as map
 use Rattle.ntx_num.specs.Answer.{result_map, result_and_then}
 use Rattle.ntx_nodes.specs.Fields.{kind_of}
 use Rattle.ntx_nodes.specs.Heap.{Heap}
 use Rattle.ntx_nodes.specs.Walk.{is_reached, admits, entered, node_reached, in_turn, enter, walk, turns_of, max_depth}
-use Rattle.ntx_nodes.specs.Walker.{links_of, whole_walk, failing}
+use Rattle.ntx_nodes.specs.Walker.{failing}
 use Rattle.ntx_nodes.specs.declared.kind.ListKind.{ListKind}
-use Rattle.ntx_nodes.specs.declared.kind.ListKind.TheVariants.{H, V, Part}
 use Rattle.ntx_nodes.specs.declared.kind.Way.{Way}
-use Rattle.ntx_nodes.specs.declared.kind.Way.TheVariants.{Checked, Plain, Flat}
-use Rattle.ntx_nodes.specs.declared.links.Links.{Links}
-use Rattle.ntx_nodes.specs.declared.fields.Fields.{Fields}
-use Rattle.ntx_nodes.specs.declared.fields.Contents.{Contents}
-use Rattle.ntx_nodes.specs.declared.fields.Contents.TheVariants as contents
 use Rattle.ntx_nodes.specs.declared.node.Node.{Node}
 use Rattle.ntx_nodes.specs.declared.trouble.Trouble.{Trouble}
 use Rattle.ntx_nodes.specs.declared.trouble.Trouble.TheVariants.{Loop, Nest, WrongKind}

@@ -1,12 +1,12 @@
 -- What a whole walk does at a node, list by list, and how a walker follows it.
-use Rattle.std.proofs.Common.{◌≡◌, ℕ, suc, ◌+◌, List, [], ◌∷◌, ◌++◌, Some, None, Ok, Err, refl, sym, ◌∙◌, ap, subst, append_assoc, append-nil}
+use Rattle.std.proofs.Common.{◌≡◌, ℕ, ◌+◌, List, [], ◌∷◌, ◌++◌, Some, None, Ok, Err, refl, sym, ◌∙◌, ap, subst, append_assoc, append-nil}
 use Rattle.std.specs.Prelude.{Option, Result}
 use Rattle.std.specs.Option.{option_map}
 use Rattle.ntx_num.specs.Answer.{result_map, result_and_then}
 use Rattle.ntx_num.specs.declared.answer.Fail.{Fail}
 use Rattle.ntx_num.specs.declared.answer.Fail.TheVariants.{NoMemory, Is}
 use Rattle.ntx_nodes.specs.Heap.{Heap, Names}
-use Rattle.ntx_nodes.specs.Walk.{inner_lists, entered, node_reached, in_turn, enter, walk, turns_of}
+use Rattle.ntx_nodes.specs.Walk.{inner_lists, entered, node_reached, in_turn, enter, turns_of}
 use Rattle.ntx_nodes.specs.Walker.{inner_links, links_of, whole_walk, Marks, Ends, Stops, Walks, Comes, Reaches}
 use Rattle.ntx_nodes.specs.declared.kind.ListKind.{ListKind}
 use Rattle.ntx_nodes.specs.declared.kind.ListKind.TheVariants.{H, V, Part}

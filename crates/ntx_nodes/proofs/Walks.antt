@@ -1,24 +1,21 @@
 -- Laws of walks.
-use Rattle.std.proofs.Common.{◌≡◌, ℕ, zero, suc, ◌+◌, ◌≤◌, ◌<◌, List, [], ◌∷◌, ◌++◌, Bool, true, false, cond, length, Some, None, Ok, Err, refl, sym, ◌∙◌, ap, subst, append_assoc, arith}
-use Rattle.std.specs.Prelude.{Option, Result, is_some, not, ◌&&◌, ◌||◌, nat_eq, nat_lt}
+use Rattle.std.proofs.Common.{◌≡◌, ℕ, suc, ◌+◌, ◌≤◌, ◌<◌, List, [], ◌∷◌, ◌++◌, Bool, true, false, cond, length, Some, Ok, refl, sym, ◌∙◌, ap, subst, arith}
+use Rattle.std.specs.Prelude.{Option, Result, not, ◌||◌, nat_eq, nat_lt}
 use Rattle.std.specs.Option.{option_map}
-use Rattle.std.specs.List.{list_any}
 use Rattle.std.specs.Ordering.{nat_cmp, eq_by_cmp}
 use Rattle.std.specs.Cmp.{nat_cmp_total, unsigned_tied, Equal-is}
 use Rattle.std.specs.FinMap as map
 use Rattle.std.specs.FinSet as set
-use Rattle.ntx_num.specs.Answer.{result_map, result_and_then}
 use Rattle.ntx_nodes.specs.Fields.{kind_of}
 use Rattle.ntx_nodes.specs.Heap.{Heap, Names}
-use Rattle.ntx_nodes.specs.Steps.{of_found, at, visit_step}
-use Rattle.ntx_nodes.specs.Walk.{is_reached, admits, entered, node_reached, in_turn, enter, walk, turns_of, max_depth}
-use Rattle.ntx_nodes.specs.Walker.{links_of, Marks, whole_walk, Comes, failing, unvisited, Keeps}
+use Rattle.ntx_nodes.specs.Steps.{at, visit_step}
+use Rattle.ntx_nodes.specs.Walk.{is_reached, admits, node_reached, max_depth}
+use Rattle.ntx_nodes.specs.Walker.{links_of, Marks, Comes, failing, unvisited, Keeps}
 use Rattle.ntx_nodes.specs.declared.kind.Kind.{Kind}
 use Rattle.ntx_nodes.specs.declared.kind.ListKind.{ListKind}
 use Rattle.ntx_nodes.specs.declared.kind.Way.{Way}
 use Rattle.ntx_nodes.specs.declared.links.Links.{Links}
 use Rattle.ntx_nodes.specs.declared.node.Node.{Node}
-use Rattle.ntx_nodes.specs.declared.trouble.Trouble.{Trouble}
 use Rattle.std.proofs.lemmas.List.Folds.{list_any-append}
 use Rattle.std.proofs.lemmas.Bool.{lt-leb}
 use Rattle.std.proofs.lemmas.Bool.Decides.{nat_tests}

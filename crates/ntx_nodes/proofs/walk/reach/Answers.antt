@@ -1,6 +1,5 @@
 use Rattle.std.proofs.Common.{sym, ◌∙◌, arith}
 use Rattle.ntx_nodes.proofs.Walks.{comes}
-use Rattle.ntx_nodes.proofs.WalkSteps.{gets_on}
 use Rattle.ntx_nodes.proofs.walk.reach.Goals as goal
 
 pub returns-clause-reaches : goal.returns-clause-reaches
