@@ -5,7 +5,7 @@
 --     kind_of contents         the kind of node with these fields
 --     fresh kind               the fields of a new node: zeros and nothings, and a box's ratio 0 over 1
 --     unlinked contents        the same numbers, and no links
-use Rattle.std.specs.Prelude.{ℕ, ◌-◌, ◌^◌, ℤ, pos, negsuc, neg_ℤ, nat_abs, int_le, nat_le, ◌&&◌, if◌then◌else◌, Option, None, Some, Result, Ok, Err}
+use Rattle.std.specs.Prelude.{ℕ, ◌-◌, ◌^◌, ℤ, pos, negsuc, neg_ℤ, int_le, nat_le, ◌&&◌, if◌then◌else◌, Option, None, Result, Ok, Err}
 use Rattle.ntx_num.specs.Answer.{result_map}
 use Rattle.ntx_num.specs.Dimension.{max_dimension}
 use Rattle.ntx_nodes.specs.declared.kind.Kind.{Kind}

@@ -1,6 +1,6 @@
 -- What each call on a heap of nodes does: from the heap and its arguments to its answer and the new heap, or to its refusal
 -- (LuaTeX Reference Manual, chapter "Nodes"). What a step does not name stays as it is.
-use Rattle.std.specs.Prelude.{ℕ, ◌+◌, ℤ, pos, neg_ℤ, int_le, nat_le, ◌&&◌, ◌||◌, not, if◌then◌else◌, Option, None, Some, Result, Ok, Err, Bool, true, false}
+use Rattle.std.specs.Prelude.{ℕ, ◌+◌, ℤ, nat_le, ◌&&◌, not, if◌then◌else◌, Option, None, Some, Result, Ok, Err, Bool}
 use Rattle.std.specs.FinMap as map
 use Rattle.std.specs.FinSet as set
 use Rattle.ntx_num.specs.Answer.{result_map, result_and_then}

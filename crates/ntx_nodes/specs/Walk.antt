@@ -2,7 +2,7 @@
 --     allows k kind            whether a list may hold nodes of this kind
 --     inner_lists contents     the lists of a node, each with its kind, in the order in which a walk enters them
 --     checked_walk, plain_walk, flat_walk, tree_walk      the names that a walk reaches, in its order, or the first trouble
-use Rattle.std.specs.Prelude.{ℕ, zero, suc, ◌+◌, List, [], ◌∷◌, ◌++◌, Bool, true, false, not, ◌&&◌, if◌then◌else◌, nat_eq, nat_lt, Option, None, Some, Result, Ok, Err}
+use Rattle.std.specs.Prelude.{ℕ, zero, suc, ◌+◌, List, [], ◌∷◌, ◌++◌, Bool, true, false, not, if◌then◌else◌, nat_eq, nat_lt, Option, None, Some, Result, Ok, Err}
 use Rattle.std.specs.List.{list_any}
 use Rattle.std.specs.FinMap as map
 use Rattle.ntx_num.specs.Answer.{result_map, result_and_then}

@@ -3,7 +3,7 @@
 --     LeadsTo names to                a link leads to a name among these
 --     IsClosed heap way names of      the walk goes on from each of these only to names among those
 --     Sound                           all of it, of a walk
-use Rattle.std.specs.Prelude.{◌≡◌, ℕ, List, [], ◌∷◌, ◌++◌, Bool, true, false, Option, Some}
+use Rattle.std.specs.Prelude.{◌≡◌, ℕ, List, [], ◌∷◌, ◌++◌, true, false, Option, Some}
 use Rattle.std.specs.FinMap as map
 use Rattle.ntx_nodes.specs.Heap.{Heap, is_live}
 use Rattle.ntx_nodes.specs.Walk.{is_reached}

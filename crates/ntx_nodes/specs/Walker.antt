@@ -1,5 +1,5 @@
 -- What the walker's parts do, in the words of walks: it keeps no names but the marks of the heap, and tells names to who asks.
-use Rattle.std.specs.Prelude.{◌≡◌, ℕ, ◌+◌, ◌≤◌, List, [], ◌∷◌, ◌++◌, Bool, true, cond, Option, None, Some, Result, Ok, Err, MatchResult}
+use Rattle.std.specs.Prelude.{◌≡◌, ℕ, ◌+◌, List, [], ◌∷◌, ◌++◌, Bool, true, cond, Option, None, Result, Ok, Err, MatchResult}
 use Rattle.std.specs.Option.{option_map}
 use Rattle.std.specs.FinMap as map
 use Rattle.std.specs.FinSet as set
@@ -10,9 +10,9 @@ use Rattle.ntx_nodes.specs.Walk.{is_reached, node_reached, walk, turns_of}
 use Rattle.ntx_nodes.specs.declared.kind.ListKind.{ListKind}
 use Rattle.ntx_nodes.specs.declared.kind.ListKind.TheVariants.{H, V, Part}
 use Rattle.ntx_nodes.specs.declared.kind.Way.{Way}
-use Rattle.ntx_nodes.specs.declared.kind.Way.TheVariants.{Checked, Plain, Flat}
+use Rattle.ntx_nodes.specs.declared.kind.Way.TheVariants.{Flat}
 use Rattle.ntx_nodes.specs.declared.field.FieldValue.{FieldValue}
-use Rattle.ntx_nodes.specs.declared.field.FieldValue.TheVariants.{Number, Link}
+use Rattle.ntx_nodes.specs.declared.field.FieldValue.TheVariants.{Link}
 use Rattle.ntx_nodes.specs.declared.fields.Fields.{Fields}
 use Rattle.ntx_nodes.specs.declared.fields.Contents.{Contents}
 use Rattle.ntx_nodes.specs.declared.fields.Contents.TheVariants as contents
