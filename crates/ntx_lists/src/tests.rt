@@ -259,6 +259,21 @@ fn kerns(rt: &HostRuntime, first: u64, count: u64) -> Result<PlainHeap, Fail<Tro
 }
 
 #[test]
+fn a_list_of_half_the_nodes_is_copied_and_freed(rt: HostRuntime) -> Result<(), test::Fail> {
+    let half: u64 = 1 << 17;
+    let mut heap = kerns(&rt, 1, half)?;
+    assert_eq!(rt;
+        copy_list(rt.alloc(), &mut heap, Some(1)),
+        Ok(Some(half + 1))
+    );
+    assert_eq!(rt; length(&mut heap, Some(half + 1)), Ok(half));
+    assert_eq!(rt; tail(&mut heap, half + 1), Ok(2 * half));
+    assert_eq!(rt; flush_list(&mut heap, Some(1)), Ok(()));
+    assert_eq!(rt; heap.live(), half);
+    Ok(())
+}
+
+#[test]
 fn an_unfinished_copy_is_freed_where_names_run_out(rt: HostRuntime) -> Result<(), test::Fail> {
     let first = (1 << 48) - 5;
     let mut heap = kerns(&rt, first, 3)?;

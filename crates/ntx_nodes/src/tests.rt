@@ -387,3 +387,19 @@ fn as_many_nodes_are_live_as_may_be(rt: HostRuntime) -> Result<(), test::Fail> {
     assert_eq!(rt; heap.get(1, Field::Penalty), Err(Trouble::Stale(1)));
     Ok(())
 }
+
+#[test]
+fn a_list_of_all_nodes_that_may_be_is_checked(rt: HostRuntime) -> Result<(), test::Fail> {
+    let most: u64 = 1 << 18;
+    let mut heap = PlainHeap::new(rt.alloc(), 1)?;
+    let mut last = heap.make(Kind::Penalty, 0)?;
+    for _ in 1..most {
+        let next = heap.make(Kind::Penalty, 0)?;
+        heap.set(last, Field::Next, FieldValue::Link(Some(next)))?;
+        last = next;
+    }
+    let names = check(rt.alloc(), &mut heap, Some(1), ListKind::H)?;
+    assert_eq!(rt; names.len() as u64, most);
+    assert_eq!(rt; names.last().copied(), Some(most));
+    Ok(())
+}

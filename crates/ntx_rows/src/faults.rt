@@ -1,6 +1,6 @@
 //! Runs in which a source or a sink fails.
 
-use crate::job::{BOX, Fails, Given, Job, of_document};
+use crate::job::{BOX, BOX_FILE, Fails, Given, Job, of_document};
 use ntx_run::{Place, Status, Which};
 use std::alloc::Global;
 use std::test::Fail;
@@ -16,7 +16,6 @@ fn run(alloc: Global, fails: Fails) -> Result<Given, Fail> {
 #[test]
 fn a_source_that_fails_ends_the_run_with_its_line(rt: HostRuntime) -> Result<(), Fail> {
     let alloc = rt.alloc();
-    let whole = of_document(BOX).run(alloc)?;
     for k in 1..9 {
         let table = [
             (
@@ -56,7 +55,7 @@ fn a_source_that_fails_ends_the_run_with_its_line(rt: HostRuntime) -> Result<(),
                 assert_eq!(rt; given.dvi.len(), 0);
             } else {
                 assert_eq!(rt; given.outcome.status, Status::Done, "call {k}: {line}");
-                assert_eq!(rt; given.dvi.as_slice(), whole.dvi.as_slice());
+                assert_eq!(rt; given.dvi.as_slice(), BOX_FILE.as_slice());
             }
         }
     }
@@ -66,7 +65,6 @@ fn a_source_that_fails_ends_the_run_with_its_line(rt: HostRuntime) -> Result<(),
 #[test]
 fn a_sink_that_fails_has_taken_the_first_bytes(rt: HostRuntime) -> Result<(), Fail> {
     let alloc = rt.alloc();
-    let whole = of_document(BOX).run(alloc)?;
     // The page is one piece and the postamble another.
     for (k, status, taken) in [
         (1, Status::WriteFault, 0),
@@ -87,7 +85,7 @@ fn a_sink_that_fails_has_taken_the_first_bytes(rt: HostRuntime) -> Result<(), Fa
         )?;
         assert_eq!(rt; given.outcome.status, status, "call {k}");
         assert_eq!(rt; given.outcome.place, None);
-        assert_eq!(rt; Some(given.dvi.as_slice()), whole.dvi.get(..taken));
+        assert_eq!(rt; Some(given.dvi.as_slice()), BOX_FILE.get(..taken));
         assert_eq!(rt; given.lines.len(), 0);
     }
     Ok(())
@@ -121,7 +119,6 @@ fn a_line_that_cannot_be_written_is_a_write_fault(rt: HostRuntime) -> Result<(),
 #[test]
 fn lines_that_fail_leave_a_run_without_lines_alone(rt: HostRuntime) -> Result<(), Fail> {
     let alloc = rt.alloc();
-    let whole = of_document(BOX).run(alloc)?;
     for k in 1..9 {
         let given = run(
             alloc,
@@ -132,7 +129,7 @@ fn lines_that_fail_leave_a_run_without_lines_alone(rt: HostRuntime) -> Result<()
         )?;
         assert_eq!(rt; given.outcome.status, Status::Done, "call {k}");
         assert_eq!(rt; given.lines.len(), 0);
-        assert_eq!(rt; given.dvi.as_slice(), whole.dvi.as_slice());
+        assert_eq!(rt; given.dvi.as_slice(), BOX_FILE.as_slice());
     }
     Ok(())
 }

@@ -1,6 +1,6 @@
 //! Whole runs where nothing fails.
 
-use crate::job::{BOX, FILES, Job, of_document};
+use crate::job::{BOX, BOX_FILE, FILES, Job, of_document};
 use ntx_doc::{DocFault, DocWhy};
 use ntx_run::{Place, Status};
 use std::test::Fail;
@@ -18,22 +18,7 @@ fn a_box_with_one_rule_is_one_page(rt: HostRuntime) -> Result<(), Fail> {
     assert_eq!(rt; given.outcome.status, Status::Done);
     assert_eq!(rt; given.outcome.place, None);
     assert_eq!(rt; given.lines.as_slice(), b"".as_slice());
-    let mut file = PREAMBLE.to_vec(alloc)?;
-    file.extend_from_slice(&[0x8b, 0x00, 0x00, 0x00, 0x01])?;
-    file.extend_from_slice(&[0x00; 36])?;
-    file.extend_from_slice(&[0xff; 4])?;
-    file.extend_from_slice(&[
-        0x8d, 0x9f, 0x0a, 0x00, 0x00, 0x84, 0x00, 0x01, 0x00, 0x00, 0x00, 0x01, 0x00, 0x00, 0x8e,
-        0x8c,
-    ])?;
-    file.extend_from_slice(&[
-        0xf8, 0x00, 0x00, 0x00, 0x12, 0x01, 0x83, 0x92, 0xc0, 0x1c, 0x3b, 0x00, 0x00, 0x00, 0x00,
-        0x03, 0xe8, 0x00, 0x0a, 0x00, 0x00, 0x00, 0x01, 0x00, 0x00, 0x00, 0x01, 0x00, 0x01,
-    ])?;
-    file.extend_from_slice(&[0xf9, 0x00, 0x00, 0x00, 0x4f, 0x02])?;
-    file.extend_from_slice(&[0xdf; 6])?;
-    assert_eq!(rt; given.dvi.as_slice(), file.as_slice());
-    assert_eq!(rt; given.dvi.len(), 120);
+    assert_eq!(rt; given.dvi.as_slice(), BOX_FILE.as_slice());
     Ok(())
 }
 
@@ -89,10 +74,34 @@ fn a_mark_stands_behind_the_rules_before_it(rt: HostRuntime) -> Result<(), Fail>
 }
 
 #[test]
+fn as_many_rules_as_a_box_may_have_are_marked(rt: HostRuntime) -> Result<(), Fail> {
+    let alloc = rt.alloc();
+    let mut document = b"hbox\n".to_vec(alloc)?;
+    let mut file = PREAMBLE.to_vec(alloc)?;
+    file.extend_from_slice(&[0x8b, 0x00, 0x00, 0x00, 0x01])?;
+    file.extend_from_slice(&[0x00; 36])?;
+    file.extend_from_slice(&[0xff, 0xff, 0xff, 0xff, 0x8d, 0x9f, 0x0a, 0x00, 0x03])?;
+    for _ in 0..500 {
+        document.extend_from_slice(b"rule 1 2 3\n")?;
+        file.extend_from_slice(&[0x84, 0x00, 0x00, 0x00, 0x05, 0x00, 0x00, 0x00, 0x01])?;
+    }
+    document.extend_from_slice(b"end")?;
+    file.extend_from_slice(&[
+        0x8e, 0x8c, 0xf8, 0x00, 0x00, 0x00, 0x12, 0x01, 0x83, 0x92, 0xc0, 0x1c, 0x3b, 0x00, 0x00,
+        0x00, 0x00, 0x03, 0xe8, 0x00, 0x0a, 0x00, 0x03, 0x00, 0x00, 0x01, 0xf4, 0x00, 0x01, 0x00,
+        0x01, 0xf9, 0x00, 0x00, 0x11, 0xda, 0x02, 0xdf, 0xdf, 0xdf, 0xdf, 0xdf, 0xdf, 0xdf,
+    ])?;
+    let given = of_document(document.as_slice()).run(alloc)?;
+    assert_eq!(rt; given.outcome.status, Status::Done);
+    assert_eq!(rt; given.dvi.as_slice(), file.as_slice());
+    Ok(())
+}
+
+#[test]
 fn a_refusal_has_its_status_place_and_line(rt: HostRuntime) -> Result<(), Fail> {
     let alloc = rt.alloc();
     let two: [&str; 2] = ["a", "b"];
-    let option: [&str; 5] = ["--steps=0", "a", "b", "c", "d"];
+    let option: [&str; 5] = ["--help", "a", "b", "c", "d"];
     let hyphen: [&str; 4] = ["a", "-b", "c", "d"];
     let table = [
         (

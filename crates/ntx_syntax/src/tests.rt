@@ -265,14 +265,3 @@ fn reasons_have_names(rt: HostRuntime) {
     assert_eq!(rt; SyntaxWhy::Byte.name(), "Byte");
     assert_eq!(rt; SyntaxWhy::Size.name(), "Size");
 }
-
-#[test]
-fn laws_are_there_to_call() {
-    cut_is_one();
-    lexes_as_computed();
-    is_refused_as_computed();
-    lexes_once();
-    tokens_stand_in_order();
-    numerals_have_values();
-    texts_have_values();
-}

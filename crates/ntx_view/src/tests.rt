@@ -197,6 +197,21 @@ fn a_paragraph_of_four_words_has_13_items(rt: HostRuntime) -> Result<(), test::F
 }
 
 #[test]
+fn a_long_list_is_seen_whole(rt: HostRuntime) -> Result<(), test::Fail> {
+    let mut nodes = PlainHeap::new(rt.alloc(), 1)?;
+    let mut last = made(&mut nodes, Kind::Kern, &[(Field::Kern, 1)])?;
+    for _ in 1..10_000 {
+        let next = made(&mut nodes, Kind::Kern, &[(Field::Kern, 3)])?;
+        join(&mut nodes, last, Field::Next, next)?;
+        last = next;
+    }
+    let list = items(rt.alloc(), &mut nodes, &[], Some(1), ListKind::H)?;
+    assert_eq!(rt; list.len(), 10_000);
+    assert_eq!(rt; hlist_size(&list).w, 1 + 3 * 9_999);
+    Ok(())
+}
+
+#[test]
 fn glyphs_without_a_character_are_refused(rt: HostRuntime) -> Result<(), test::Fail> {
     let bytes = small_font(rt.alloc())?;
     let fonts = [read_font(rt.alloc(), &bytes, "T", None)?];

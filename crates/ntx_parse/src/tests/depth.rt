@@ -1,8 +1,7 @@
 //! Scripts that nest deep, and long flat ones.
 
 use super::{read, refuses};
-use ntx_num::Fail;
-use ntx_syntax::{SyntaxFault, SyntaxWhy};
+use ntx_syntax::SyntaxWhy;
 use std::alloc::{AllocError, Global};
 use std::process::Abort;
 
