@@ -9,7 +9,7 @@ use ntx_num::{MAX_DIMENSION, in_range};
 const MAX_ORDER: u8 = 3;
 
 /// A space that can stretch and shrink. An order is 0 for finite amounts, and 1 to 3 for ever stronger infinite ones,
-/// TeX's fil, fill and filll.
+/// TeX's fil, fill and filll, which are counted in units of 2^-16.
 #[derive(Clone, Copy, Debug, PartialEq, Eq, Default)]
 pub struct GlueSpec {
     /// The natural width in scaled points.

@@ -4,7 +4,9 @@ ghost use Rattle.std.specs.Prelude.{◌≡◌, ◌↔◌, Some};
 ghost use Rattle.ntx_item.specs.Parameters.{glue_name_of, glue_param_named};
 ghost use Rattle.ntx_item.specs.declared.glue_param.GlueParam.{GlueParam};
 
-/// A parameter that is glue. Its name in texts is the variant's in lower case.
+/// A parameter that is glue. Its name in texts is the variant's in lower case. Its width is in scaled points; so are its
+/// stretch and shrink, or of an infinite order in units of 2^-16 fil, fill or filll. All three are within 2^30-1 in absolute
+/// value, and the orders are from 0 to 3.
 #[derive(Clone, Copy, Debug, PartialEq, Eq)]
 pub enum GlueParam {
     /// The distance of two baselines.

@@ -7,6 +7,10 @@ use crate::glue::GlueSpec;
 use ntx_num::Size;
 
 /// One item of a list. All sizes are in scaled points.
+///
+/// A list of items is in range where it has at most 2^18 of them, no penalty is beyond 2^31-1 in absolute value, no order
+/// of glue is above 3, and the absolute values of all widths come to at most 2^48, as do those of all stretches and those
+/// of all shrinks, whatever their orders. A discretionary counts with the widths of its three parts there.
 #[derive(Clone, Copy, Debug, PartialEq, Eq)]
 pub enum Item {
     /// An hlist or a vlist, moved down in an hlist and to the right in a vlist by `shift`.

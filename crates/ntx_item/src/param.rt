@@ -6,7 +6,8 @@ ghost use Rattle.ntx_item.specs.declared.param.Param.{Param};
 
 use ntx_num::{MAX_DIMENSION, in_range};
 
-/// A parameter that is a number. Its name in texts is the variant's in lower case.
+/// A parameter that is a number. Its name in texts is the variant's in lower case. In absolute value one in scaled
+/// points is within 2^30-1, and any other of which no range is told within 10^8.
 #[derive(Clone, Copy, Debug, PartialEq, Eq)]
 pub enum Param {
     /// The greatest badness of a line in the first pass, which tries no hyphenation; below 0 there is no first pass.
@@ -132,7 +133,7 @@ impl Param {
         }
     }
 
-    /// Whether it may be set to this value.
+    /// Whether it may be set to this value: whether that is in its range.
     pub fn accepts(self, value: i64) -> bool
         ensures in_range { IsTrue result ↔ IsInRange self value }
         ensures test { result ≡ is_in_range self value }

@@ -11,8 +11,8 @@ use crate::out_of_range::OutOfRange;
 use crate::param::Param;
 use std::marker::Model;
 
-/// What the parameters are set to. Each is in its range. Dimensions are in scaled points, and so is
-/// glue, but for stretch and shrink of an infinite order.
+/// What the parameters are set to. Each is in its range, as [`Param`] and [`GlueParam`] state it. Dimensions are in scaled
+/// points, and so is glue, but for stretch and shrink of an infinite order, which are in units of 2^-16 fil, fill or filll.
 #[derive(Clone, Copy, Debug)]
 pub struct Params {
     /// The greatest badness of a line in the first pass, which tries no hyphenation; below 0 there is no first pass.
@@ -45,13 +45,13 @@ pub struct Params {
     pub righthyphenmin: i64,
     /// The code of the hyphen's character, from 0 to 255, or -1 for none.
     pub hyphenchar: i64,
-    /// The width of a line.
+    /// The width of a line. In scaled points.
     pub hsize: i64,
-    /// The stretch that the third pass gives to each line; there is none at 0 or less.
+    /// The stretch that the third pass gives to each line; there is none at 0 or less. In scaled points.
     pub emergencystretch: i64,
-    /// The width of the box that begins an indented paragraph.
+    /// The width of the box that begins an indented paragraph. In scaled points.
     pub parindent: i64,
-    /// The least distance of two lines at which `baselineskip` decides.
+    /// The least distance of two lines at which `baselineskip` decides. In scaled points.
     pub lineskiplimit: i64,
     /// The distance of two baselines.
     pub baselineskip: GlueSpec,
@@ -213,7 +213,7 @@ impl Params {
     ///
     /// # Refusals
     ///
-    /// `OutOfRange` where `v` is outside the range of `p`. Nothing changes then.
+    /// `OutOfRange` where `v` is outside the range of `p`, as [`Param`] states it. Nothing changes then.
     pub fn put(&mut self, p: Param, v: i64) -> Result<(), OutOfRange>
         ensures in_range { IsOk result ↔ IsInRange p v }
         ensures ok { OnOk result (self.new ≡ with_value self.old p v) }

@@ -25,7 +25,8 @@ const LEAST_ATTRIBUTE_VALUE: i64 = -2147483646;
 /// The greatest value of an attribute.
 const GREATEST_ATTRIBUTE_VALUE: i64 = 2147483647;
 
-/// Whether an attribute may have this id and this value.
+/// Whether an attribute may have this id and this value: the id is from 0 to 65535, and the value from -2147483646 to
+/// 2147483647.
 pub fn is_attribute(id: i64, v: i64) -> bool
     ensures { result ≡ is_attribute id v }
 {
@@ -76,8 +77,8 @@ impl Attributes {
         !self.values.contains_key(&id) && self.values.len() >= MAX_ATTRIBUTES
     }
 
-    /// Sets the value at an id. Refuses with BadValue outside the ranges of ids and values, and then with AttrFull where it
-    /// would be one more than may be.
+    /// Sets the value at an id. Refuses with BadValue where `is_attribute` does not hold of them, and then with AttrFull
+    /// where it would be the 65th. After each, and where memory runs out, nothing has changed.
     pub fn set(&mut self, id: i64, v: i64) -> Result<(), Fail<Trouble>>
         ensures { Steps result self.old self.new (result_map (λ a. (tt, a)) (with_attribute self.old id v)) }
     {

@@ -7,7 +7,7 @@ ghost use Rattle.ntx_nodes.specs.Fields.{glue_field, glue_with, glyph_field, gly
 use crate::value::{dimension, link, number_to, order};
 use crate::{Field, FieldValue, Trouble};
 
-/// The fields of a box.
+/// The fields of a box. In a heap the width, the height, the depth and the shift are within 2^30-1 in absolute value.
 #[derive(Clone, Copy, Debug, PartialEq, Eq)]
 pub struct BoxFields {
     /// The width in scaled points.
@@ -22,11 +22,11 @@ pub struct BoxFields {
     pub list: Option<u64>,
     /// 0 where the glue keeps its natural width, 1 where it stretches, 2 where it shrinks.
     pub glue_sign: u8,
-    /// The order of the glue that does.
+    /// The order of the glue that does, in a heap from 0 to 3.
     pub glue_order: u8,
-    /// The numerator of the ratio by which it does.
+    /// The numerator of the ratio by which it does, in a heap within 2^32 in absolute value.
     pub glue_num: i64,
-    /// The denominator of that ratio.
+    /// The denominator of that ratio, in a heap at least 1.
     pub glue_den: i64,
 }
 
@@ -83,7 +83,7 @@ impl BoxFields {
     }
 }
 
-/// The fields of a rule.
+/// The fields of a rule. In a heap its sizes are within 2^30-1 in absolute value.
 #[derive(Clone, Copy, Debug, PartialEq, Eq)]
 pub struct RuleFields {
     /// The width in scaled points.
@@ -177,18 +177,18 @@ impl DiscFields {
     }
 }
 
-/// The fields of a glue.
+/// The fields of a glue. In a heap the width, the stretch and the shrink are within 2^30-1 in absolute value.
 #[derive(Clone, Copy, Debug, PartialEq, Eq)]
 pub struct GlueFields {
     /// The natural width in scaled points.
     pub width: i64,
-    /// How much it may stretch.
+    /// How much it may stretch, in scaled points or, of a higher order, in units of 2^-16.
     pub stretch: i64,
-    /// The order of that.
+    /// The order of that, in a heap from 0 to 3.
     pub stretch_order: u8,
-    /// How much it may shrink.
+    /// How much it may shrink, as its stretch.
     pub shrink: i64,
-    /// The order of that.
+    /// The order of that, in a heap from 0 to 3.
     pub shrink_order: u8,
 }
 
@@ -241,9 +241,9 @@ impl GlueFields {
 /// The fields of a glyph.
 #[derive(Clone, Copy, Debug, PartialEq, Eq)]
 pub struct GlyphFields {
-    /// The code of the character.
+    /// The code of the character, from 0 to 255.
     pub char: u8,
-    /// The number of the font.
+    /// The number of the font, in a heap from 0 to 63.
     pub font: u8,
 }
 

@@ -1,6 +1,7 @@
 //! Names of fields, and what a field holds.
 
-/// A field of a node. Each kind has some of them.
+/// A field of a node. Each kind has some of them. A width, a height, a depth, a shift, a stretch, a shrink and a kern are
+/// within 2^30-1 in absolute value.
 #[derive(Clone, Copy, Debug, PartialEq, Eq)]
 pub enum Field {
     /// Of every kind: a number from 0 to 255, of a disc from 0 to 3.
@@ -21,9 +22,9 @@ pub enum Field {
     GlueSign,
     /// The order of the glue that stretches or shrinks, from 0 to 3. It cannot be set.
     GlueOrder,
-    /// The numerator of the ratio by which it does. It cannot be set.
+    /// The numerator of the ratio by which it does, within 2^32 in absolute value. It cannot be set.
     GlueNum,
-    /// The denominator of that ratio. It cannot be set.
+    /// The denominator of that ratio, at least 1. It cannot be set.
     GlueDen,
     /// The first node of what stands before a break at a disc.
     Pre,
@@ -41,7 +42,7 @@ pub enum Field {
     ShrinkOrder,
     /// The size of a kern in scaled points.
     Kern,
-    /// The cost of a break at a penalty.
+    /// The cost of a break at a penalty, within 2^31-1 in absolute value.
     Penalty,
     /// The code of a glyph's character, from 0 to 255.
     Char,
@@ -52,7 +53,7 @@ pub enum Field {
 /// What a field holds.
 #[derive(Clone, Copy, Debug, PartialEq, Eq)]
 pub enum FieldValue {
-    /// A number.
+    /// A number. `Field` states its unit and its range.
     Number(i64),
     /// The name of a node, or nothing.
     Link(Option<u64>),

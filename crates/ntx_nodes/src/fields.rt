@@ -13,7 +13,7 @@ use crate::{
 /// The largest cost that a penalty may have ("TeX: The Program", section 445).
 const MAX_PENALTY: i64 = (1 << 31) - 1;
 
-/// The fields that a node has by its kind.
+/// The fields that a node has by its kind. In a heap each number is in the range that `Field` states.
 #[derive(Clone, Copy, Debug, PartialEq, Eq)]
 pub enum Contents {
     /// Of an hlist.
@@ -26,9 +26,9 @@ pub enum Contents {
     Disc(DiscFields),
     /// Of a glue.
     Glue(GlueFields),
-    /// The size of a kern in scaled points.
+    /// The size of a kern in scaled points, in a heap within 2^30-1 in absolute value.
     Kern(i64),
-    /// The cost of a break at a penalty.
+    /// The cost of a break at a penalty, in a heap within 2^31-1 in absolute value.
     Penalty(i64),
     /// Of a glyph.
     Glyph(GlyphFields),
@@ -149,7 +149,7 @@ impl Contents {
 /// All the fields of a node, which have its kind.
 #[derive(Clone, Copy, Debug, PartialEq, Eq)]
 pub struct Fields {
-    /// A number that tells nodes of one kind apart.
+    /// A number that tells nodes of one kind apart, in a heap from 0 to 3 of a disc.
     pub subtype: u8,
     /// The node that follows in the list.
     pub next: Option<u64>,
@@ -190,7 +190,8 @@ impl Fields {
         }
     }
 
-    /// The box with its glue set. Refuses with WrongKind of `n`, the node's name, where it is no box.
+    /// The box with its glue set. It does not test the sign and the order. Refuses with WrongKind of `n`, the node's name,
+    /// where it is no box.
     pub fn with_ratio(self, n: u64, sign: u8, order: u8, r: Ratio) -> Result<Fields, Trouble>
         ensures { result ≡ with_ratio n sign order r self }
     {

@@ -29,7 +29,9 @@ pub trait Nodes: Drop {
     /// Whether a copy has attributes of its own, for which it takes memory.
     ghost copies: { Bool };
 
-    /// Makes a node of zeros and nothings, of a box with a ratio of 0 over 1, with no attributes, under the next name.
+    /// Makes a node of zeros and nothings, of a box with a ratio of 0 over 1, with no attributes, under the next name. The
+    /// subtype has to be from 0 to 3 of a disc, and may be any byte of another kind. Memory does not run out where `spare`
+    /// of the kind is above 0.
     ///
     /// Refuses with NodesFull where 2^18 nodes are live, and else with NamesOut where the next name is 2^48.
     fn make(&mut self, kind: Kind, subtype: u8) -> Result<u64, Fail<Trouble>>
@@ -70,7 +72,7 @@ pub trait Nodes: Drop {
         ensures step { StepsAtOnce result (heap self.old) (heap self.new) (set_step n f v (heap self.old)) }
         ensures visits { visited self.new ≡ visited self.old };
 
-    /// Sets the glue in a box: 0 for none, 1 for stretching, 2 for shrinking; the order; and the ratio.
+    /// Sets the glue in a box: 0 for none, 1 for stretching, 2 for shrinking; the order, from 0 to 3; and the ratio.
     ///
     /// Refuses with Stale of a dead `n`, and else with WrongKind where it is no box.
     fn set_ratio(&mut self, n: u64, sign: u8, order: u8, r: Ratio) -> Result<(), Trouble>
@@ -128,17 +130,19 @@ pub trait Nodes: Drop {
         ensures step { StepsAtOnce result (visited self.old) (visited self.new) (visit_step n (heap self.old) (visited self.old)) }
         ensures same { heap self.new ≡ heap self.old };
 
-    /// How many nodes are live.
+    /// How many nodes are live, which is at most 2^18.
     fn live(&self) -> u64
         ensures { result ≡ map.len (heap self.now).nodes };
 
     /// How many nodes of a kind are sure to be made without memory, one after another; no more than may be live beside those
-    /// that are.
+    /// that are, which is 2^18 less `live`.
     fn spare(&self, kind: Kind) -> u64
         ensures spare { result ≡ spare_of self.now kind }
         ensures few { result ≤ max_nodes - map.len (heap self.now).nodes };
 
-    /// Does nothing. Its contract tells what is true of every heap, and that visited nodes are live.
+    /// Does nothing. Its contract tells what is true of every heap, and that visited nodes are live. In every heap at most
+    /// 2^18 nodes are live, each number is in its field's range, each live name and each name linked to is below the next
+    /// one, and at most 64 attributes are on a node or current.
     fn lawful(&self)
         ensures lawful { IsLawful (heap self.now) }
         ensures visited { AreLive (heap self.now) (visited self.now) };

@@ -48,7 +48,7 @@ impl Model for PlainHeap {
 }
 
 impl PlainHeap {
-    /// An empty heap whose next name is given.
+    /// An empty heap whose next name is `first`, which has to be below 2^48.
     pub fn new(alloc: Global, first: u64) -> Result<PlainHeap, NoMemory>
         requires { first < 2 ^ 48 }
         ensures heap { IfOk result (λ made. made.heap ≡ empty_heap first) }

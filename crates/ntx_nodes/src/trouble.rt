@@ -5,7 +5,7 @@
 pub enum Trouble {
     /// No live node has this name.
     Stale(u64),
-    /// This node is of a kind that may not stand there.
+    /// This node is of a kind that may not stand there, or is no box where a box is asked for.
     WrongKind(u64),
     /// A walk reached this node a second time, or the node that was to be inserted is in the list already.
     Loop(u64),
@@ -21,21 +21,22 @@ pub enum Trouble {
     NamesOut,
     /// There would be a 65th attribute.
     AttrFull,
-    /// A size, or a position on the page, is beyond TeX's largest dimension, 2^30 - 1.
+    /// A size is beyond TeX's largest dimension, 2^30-1 scaled points, in absolute value. For a position on the page, which
+    /// is of parts that are not built yet, no call gives it.
     Dimension,
-    /// The 256th ligature step without a move.
+    /// The 256th ligature step without a move. It is of parts that are not built yet: no call gives it.
     LigLoop,
     /// This glyph names a font or a character that is not there.
     NoChar(u64),
-    /// The paragraph's lines have no hlist at their top level.
+    /// The paragraph's lines have no hlist at their top level. It is of parts that are not built yet: no call gives it.
     NoBox,
-    /// A ninth job would run inside the others.
+    /// A ninth job would run inside the others. It is of parts that are not built yet: no call gives it.
     Deep,
-    /// A list lies at depth 101 inside others.
+    /// A list that is not empty lies at depth 101 inside others.
     Nest,
 }
 
-/// What was being done when trouble came.
+/// What was being done when trouble came. It is for parts that are not built yet: no call gives it.
 #[derive(Clone, Copy, Debug, PartialEq, Eq)]
 pub enum Phase {
     /// Words were hyphenated.

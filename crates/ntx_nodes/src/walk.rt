@@ -81,7 +81,7 @@ fn walk_list<N: Nodes>(
     Ok(())
 }
 
-/// Walks a list at a depth from the nodes that are visited already, which count as reached. Takes no memory.
+/// Walks a list at a depth of at most 101 from the nodes that are visited already, which count as reached. Takes no memory.
 ///
 /// Refuses as `visit_list`, with Loop too where it reaches one of them.
 pub fn visit_on<N: Nodes>(
@@ -103,7 +103,8 @@ pub fn visit_on<N: Nodes>(
     }
 }
 
-/// Walks as `visit_on`, and puts the names that it reaches at the end of others.
+/// Walks as `visit_on`, at a depth of at most 101, and puts the names that it reaches at the end of others. Refuses as
+/// `visit_on`.
 pub fn names_on<N: Nodes>(
     alloc: Global,
     nodes: &mut N,

@@ -14,14 +14,14 @@ use ntx_num::badness;
 const OVERFULL: i64 = 1_000_000;
 
 /// How the glue of a box is set, as the box says it ("TeX: The Program", section 135). The size of all glue of the order
-/// changes by the ratio `num / den` of its stretch or shrink.
+/// changes by the ratio `num / den` of its stretch or shrink. [`set_glue`] gives numbers in the ranges that are told here.
 #[derive(Clone, Copy, Debug, PartialEq, Eq)]
 pub struct GlueSet {
     /// 0 where the glue keeps its natural size, 1 where it stretches, 2 where it shrinks.
     pub sign: u8,
     /// The order of the glue that changes, from 0 to 3; 0 where none does.
     pub order: u8,
-    /// The numerator of the ratio.
+    /// The numerator of the ratio, within 2^32 in absolute value.
     pub num: i64,
     /// The denominator of the ratio, at least 1.
     pub den: i64,
@@ -139,6 +139,8 @@ fn badness_of(items: &[Item], shortfall: i64, glue: Available) -> i64
 /// their natural size, and the box's badness: 0 where there are no items, or where the total of some infinite order is not
 /// 0; else that of the shortfall and the finite glue for it, from 0 to 10000, or 1000000 where that glue shrinks by less
 /// than is needed.
+///
+/// The items have to be in range, as [`Item`] tells, and the shortfall within 2^32 in absolute value.
 pub fn set_glue(items: &[Item], shortfall: i64) -> (GlueSet, i64)
     requires in_range { AreItemsInRange items.now }
     requires shortfall { unsigned_abs shortfall ≤ 2 ^ 32 }

@@ -14,19 +14,20 @@ pub fn natural_boxes_are_unset()
 {}
 
 /// The law that in output items are together larger by the shortfall, exactly, if some glue makes up for it, their box is
-/// not overfull, and the shortfall is at most 10^9.
+/// not overfull, and the shortfall is within 10^9 scaled points in absolute value.
 pub fn set_sizes_add_up()
     ensures { SetSizesAddUp }
 {}
 
 /// The law that the items of an hlist in output are together as wide as the box, and those of a vlist as high and deep, if
-/// some glue makes up for the shortfall, the box is not overfull, and the shortfall is at most 10^9.
+/// some glue makes up for the shortfall, the box is not overfull, and the shortfall is within 10^9 scaled points in absolute
+/// value.
 pub fn boxes_are_filled()
     ensures { BoxesAreFilled }
 {}
 
-/// The law that in output the items of an overfull box are together smaller by all that its glue can shrink, which is at
-/// most 10^9.
+/// The law that in output the items of an overfull box are together smaller by all that its glue can shrink, if that is
+/// within 10^9 scaled points in absolute value.
 pub fn overfull_boxes_shrink_fully()
     ensures { OverfullBoxesShrinkFully }
 {}
@@ -41,12 +42,13 @@ pub fn boxes_are_sized()
     ensures { BoxesAreSized }
 {}
 
-/// The law that running totals over items in range stay within 2^48.
+/// The law that running totals over items in range stay within 2^48 in absolute value.
 pub fn totals_stay_bounded()
     ensures { TotalsStayBounded }
 {}
 
-/// The law that boxes, rules, glue and kerns of a heap have no width, height, depth or shift beyond TeX's largest dimension.
+/// The law that boxes, rules, glue and kerns of a heap have no width, height, depth or shift beyond TeX's largest dimension,
+/// 2^30-1 scaled points, in absolute value.
 pub fn heaps_are_measured()
     ensures { HeapsAreMeasured }
 {}

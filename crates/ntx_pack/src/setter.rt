@@ -15,7 +15,7 @@ pub struct GlueSetter {
     /// How the glue of the box is set.
     pub glue: GlueSet,
     /// By how much the glue so far stretches, or minus what it shrinks, at a ratio of 1, in scaled points or units of its
-    /// order.
+    /// order. It is within 2^48 in absolute value.
     pub total: i64,
     pub ghost ratio: { IsRatio glue },
     pub ghost bounded: { unsigned_abs total ≤ max_total },
@@ -45,7 +45,8 @@ fn with_difference(width: i64, after: i64, before: i64) -> i64
 }
 
 impl GlueSetter {
-    /// Before the first item of a box whose glue is set so.
+    /// Before the first item of a box whose glue is set so. The numerator has to be within 2^32 in absolute value, and the
+    /// denominator at least 1.
     pub fn new(glue: GlueSet) -> Self
         requires { IsRatio glue }
         ensures glue { result.glue ≡ glue }
@@ -63,7 +64,11 @@ impl GlueSetter {
     }
 
     /// The width of the next glue in output, or its height in a vertical list, in scaled points: its natural width and the
-    /// difference that it makes to the rounded multiple of the ratio.
+    /// difference that it makes to the rounded multiple of the ratio. In absolute value it is at most 2000000000 more than
+    /// the natural width.
+    ///
+    /// The natural width, the shrink and the total with this glue have to be within 2^48 in absolute value. They are where
+    /// the items of the box are in range.
     pub fn size_of(&mut self, spec: &GlueSpec) -> i64
         requires width { unsigned_abs spec.now.width ≤ max_total }
         requires shrink { unsigned_abs spec.now.shrink ≤ max_total }

@@ -66,8 +66,12 @@ fn size_of_all(items: &[Item]) -> Size
 
 /// The natural size of a vertical list of these items. Its height and depth together are the heights and depths of its
 /// boxes and rules and the sizes of its glue and kerns; its depth is that of the last box or rule, or 0 where there is none or
-/// where glue or a kern stands after it; its width is the greatest of 0, the widths of rules, and the widths of boxes, each with its shift.
-/// All in scaled points.
+/// where glue or a kern stands after it; its width is the greatest of 0, the widths of rules, and the widths of boxes, each
+/// with its shift. All in scaled points.
+///
+/// There may be at most 2^18 items. The widths, heights, depths and shifts of boxes and rules, the widths of glue, and kerns
+/// have to be within 2^30-1 in absolute value. Then the width is at most 2^31, and in absolute value the height is within
+/// 2^51 and the depth within 2^31.
 pub fn vlist_size(items: &[Item]) -> Size
     requires few { length items.now ≤ max_items }
     requires measured { All IsMeasured items.now }

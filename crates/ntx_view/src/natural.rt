@@ -91,6 +91,10 @@ fn size_of_all(items: &[Item]) -> Size
 /// The natural size of a horizontal list of these items: the sum of their widths, and the greatest of 0 and of how far
 /// they reach above and below the baseline. All in scaled points; a discretionary counts with what stands there without
 /// a break.
+///
+/// The items have to be in range, as [`Item`] tells, and none may reach farther than 2^31 scaled points above or below the
+/// baseline, in absolute value. Then the width is within 2^48 in absolute value, and the height and the depth are at most
+/// 2^31.
 pub fn hlist_size(items: &[Item]) -> Size
     requires in_range { AreItemsInRange items.now }
     requires reaching { All IsReaching items.now }

@@ -183,8 +183,9 @@ fn items_of<N: Nodes>(
     Ok(items)
 }
 
-/// The list at a head as items, one for each of its nodes, where the list is one of kind `k`. They are in range, and none
-/// reaches farther than 2^31 scaled points above or below the baseline.
+/// The list at a head as items, one for each of its nodes, where the list is one of kind `k`. They are in range, as
+/// [`Item`] tells, and none reaches farther than 2^31 scaled points above or below the baseline. The number of a glyph's
+/// font is its place in `fonts`, counted from 0.
 ///
 /// Refuses as `check` does: at each node of the walk through the list and all lists in it with Stale where it is dead,
 /// Loop where the walk reached it before, Nest at depth 101, and WrongKind where its list may not hold its kind, in this
