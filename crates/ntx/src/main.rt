@@ -1,7 +1,10 @@
 //! The program `ntx DOC SCRIPT PATTERNS DVI`: opens the files that the command line names and typesets the document.
 //!
-//! Which files are opened, and what they hold, no contract says; the rest is [`ntx_run::run`]'s. The process ends with the number of
-//! the run's status.
+//! It stands on `ntx_io` and `ntx_run`. Of `main` nothing is proved: neither which files are opened, nor that [`ntx_run::run`] is called,
+//! nor that the process ends with the number of the run's status. Of its parts it is proved that `number` gives each status its number,
+//! that `words` stops for want of memory alone, and that in `typeset` words that are not four paths end with `Words`, `WriteFault` or
+//! `Memory`, and no others with `Words`. Files and standard output tell no bytes, so that over them the contract of `run` speaks of the
+//! status, the place, the order of reading and the counts of faults, and not of what is read or written.
 #![tactic(auto)]
 
 ghost use Rattle.std.specs.Prelude.{◌≡◌, ◌⊎◌, false, map, string_bytes, IfErr};

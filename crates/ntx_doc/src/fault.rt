@@ -6,19 +6,19 @@ ghost use Rattle.ntx_doc.specs.Why.{why_text};
 /// What is wrong with a line, or with the document as a whole.
 #[derive(Clone, Copy, Debug, PartialEq, Eq)]
 pub enum DocWhy {
-    /// A byte that may not stand in a line.
+    /// A byte that may not stand in a line: any but 32 to 126 and the tab.
     Byte,
-    /// A first field that is no command, or a command that may not stand in this place.
+    /// A first field that is no command, or a command that may not stand in this place, a 501st rule among them.
     Command,
-    /// A wrong number of fields.
+    /// Any field behind `hbox` or `end`, or other than three behind `rule`.
     Fields,
-    /// A field that is no number.
+    /// A field that is no number. A number is 1 to 10 decimal digits, behind a `-` or not.
     Number,
-    /// A number out of its range.
+    /// A number out of its range, which is from 0 to 2^20 scaled points.
     Range,
-    /// A group that the document does not close.
+    /// A box that the document does not close.
     Open,
-    /// More bytes than a document may have. It is given by who takes the bytes in.
+    /// More bytes than a document may have. No call of this crate gives it: it is given by who takes the bytes in.
     Size,
 }
 

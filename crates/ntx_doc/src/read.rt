@@ -58,7 +58,8 @@ pub fn read_doc(alloc: Global, bytes: &[u8], fonts: u64) -> Result<Vec<Command>,
     }
 }
 
-/// Each box of up to 500 rules, with sizes from 0 to 2^20, has a document that says it: a law of the format.
+/// Each box of up to 500 rules, with sizes from 0 to 2^20 scaled points, has a document that says it: a law of the
+/// format.
 pub fn each_box_has_a_document()
     ensures { (sizes : List Size) (fonts : ℕ) → AreRuleSizes sizes →
         document_of (spelling sizes) fonts ≡ Ok (box_of sizes ∷ []) }

@@ -21,7 +21,8 @@ use std::marker::Model;
 /// [`Dvi::page_start`], any of [`Dvi::push`], [`Dvi::pop`], [`Dvi::right`], [`Dvi::down`] and [`Dvi::rule`], and [`Dvi::page_end`].
 ///
 /// Each operation is refused with [`DviFull`] exactly where its bytes would end past the limit on the file's length. Then, and where
-/// memory runs out, nothing has changed.
+/// memory runs out, nothing has changed. An operation out of order is not refused: that it is in order is a condition of its call.
+/// *Between pages* is behind the preamble or a page that has ended, and before [`Dvi::end`].
 #[derive(Drop)]
 pub struct Dvi {
     output: Output,
@@ -61,7 +62,7 @@ impl Model for Dvi {
 
 #[tactic(auto, unfolding(crate::specs::Bytes::operation_bytes, crate::specs::Writer::step))]
 impl Dvi {
-    /// A file of at most `limit` bytes, with nothing in it.
+    /// A file of at most `limit` bytes, with nothing in it. `limit` is below 2^31.
     pub fn new(alloc: Global, limit: u64) -> Result<Dvi, NoMemory>
         requires { limit < 2 ^ 31 }
         ensures { Gives result (new_writer limit) }
@@ -78,7 +79,7 @@ impl Dvi {
         })
     }
 
-    /// Writes the preamble.
+    /// Writes the preamble. It comes before any other operation.
     pub fn begin(&mut self) -> Result<(), Fail<DviFull>>
         requires { IsNew self.old }
         ensures steps { Steps result self.old self.new (step Begin self.old) }
@@ -89,7 +90,7 @@ impl Dvi {
         Ok(())
     }
 
-    /// Begins the page of this number.
+    /// Begins the page of this number. It comes between pages.
     pub fn page_start(&mut self, number: i32) -> Result<(), Fail<DviFull>>
         requires { IsBetweenPages self.old }
         ensures steps { Steps result self.old self.new (step (PageStart number) self.old) }
@@ -105,7 +106,7 @@ impl Dvi {
         Ok(())
     }
 
-    /// Puts the place on the page on the stack.
+    /// Puts the place on the page on the stack. It comes in a page with fewer than 65535 open pushes.
     pub fn push(&mut self) -> Result<(), Fail<DviFull>>
         requires in_page { IsInPage self.old }
         requires may_push { MayPush self.old }
@@ -118,7 +119,7 @@ impl Dvi {
         Ok(())
     }
 
-    /// Takes the place on the page that was put on the stack last.
+    /// Takes the place on the page that was put on the stack last. It comes in a page with an open push.
     pub fn pop(&mut self) -> Result<(), Fail<DviFull>>
         requires in_page { IsInPage self.old }
         requires has_push { HasOpenPush self.old }
@@ -130,7 +131,8 @@ impl Dvi {
         Ok(())
     }
 
-    /// Moves the place on the page to the right by `x` scaled points. A movement by 0 writes nothing and is never refused.
+    /// Moves the place on the page to the right by `x` scaled points. A movement by 0 writes nothing and is never refused. It comes in a
+    /// page.
     pub fn right(&mut self, x: i32) -> Result<(), Fail<DviFull>>
         requires { IsInPage self.old }
         ensures steps { Steps result self.old self.new (step (Right x) self.old) }
@@ -140,7 +142,7 @@ impl Dvi {
         append_movement(&mut self.output, RIGHT, x)
     }
 
-    /// Moves the place on the page down by `y` scaled points. A movement by 0 writes nothing and is never refused.
+    /// Moves the place on the page down by `y` scaled points. A movement by 0 writes nothing and is never refused. It comes in a page.
     pub fn down(&mut self, y: i32) -> Result<(), Fail<DviFull>>
         requires { IsInPage self.old }
         ensures steps { Steps result self.old self.new (step (Down y) self.old) }
@@ -151,7 +153,7 @@ impl Dvi {
     }
 
     /// A rule of this height and width in scaled points, with its left lower corner at the place on the page, which then moves right
-    /// by the width.
+    /// by the width. It comes in a page.
     pub fn rule(&mut self, height: i32, width: i32) -> Result<(), Fail<DviFull>>
         requires { IsInPage self.old }
         ensures steps { Steps result self.old self.new (step (Rule height width) self.old) }
@@ -160,7 +162,8 @@ impl Dvi {
         self.output.append(&encode::rule(height, width))
     }
 
-    /// Ends the page. `total` is its height plus depth and `width` its width, both in scaled points.
+    /// Ends the page. `total` is its height plus depth and `width` its width, both in scaled points. It comes in a page without an open
+    /// push.
     pub fn page_end(&mut self, total: i32, width: i32) -> Result<(), Fail<DviFull>>
         requires in_page { IsInPage self.old }
         requires no_push { HasNoOpenPush self.old }
@@ -174,7 +177,8 @@ impl Dvi {
         Ok(())
     }
 
-    /// Writes the postamble and what follows it, to a length that is a multiple of four bytes.
+    /// Writes the postamble and what follows it, to a length that is a multiple of four bytes. It comes between pages, and no operation
+    /// after it.
     pub fn end(&mut self) -> Result<(), Fail<DviFull>>
         requires { IsBetweenPages self.old }
         ensures steps { Steps result self.old self.new (step End self.old) }

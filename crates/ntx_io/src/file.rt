@@ -1,5 +1,5 @@
 //! Files and standard output. What they hold is outside what any contract says: these adapters tell no content, only the count of their
-//! faults. They pass on what the file under them gives and takes.
+//! faults. Where the file under a [`FileSource`] or a [`FileSink`] tells its bytes, the clause `passes` says what a call does to them.
 
 ghost use Rattle.std.specs.Prelude.{None, ◌≡◌, ◌≤◌, IfOk, length};
 ghost use Rattle.std.specs.Io.KnownBytes.{ReadConsumes, WriteAppends};
@@ -11,7 +11,7 @@ use std::fs;
 use std::io::{Read, Write};
 use std::rt::Files;
 
-/// A source over a file. Where the file cannot be opened every read fails.
+/// A source over a file. Where the file cannot be opened every read fails: so it is written, and no clause says it.
 #[derive(Drop)]
 pub struct FileSource<F> {
     file: Option<F>,
@@ -19,7 +19,7 @@ pub struct FileSource<F> {
 }
 
 impl<F: Read + Drop> FileSource<F> {
-    /// A source over the file at `path`.
+    /// A source over the file at `path`, with no fault yet, also where the file cannot be opened.
     pub fn open<R: Files<File = F>>(rt: &R, path: &str) -> FileSource<F>
         ensures { result.faults ≡ 0 }
     {
@@ -52,7 +52,7 @@ impl<F: Read + Drop> Source for FileSource<F> {
     }
 }
 
-/// A sink over a file. Where the file cannot be created every write fails.
+/// A sink over a file. Where the file cannot be created every write fails: so it is written, and no clause says it.
 #[derive(Drop)]
 pub struct FileSink<F> {
     file: Option<F>,
@@ -60,7 +60,8 @@ pub struct FileSink<F> {
 }
 
 impl<F: Write + Drop> FileSink<F> {
-    /// A sink over the file at `path`, which is created or emptied.
+    /// A sink over the file at `path`, with no fault yet, also where the file cannot be created. The file is created or emptied: so it is
+    /// written, and no clause says it.
     pub fn create<R: Files<File = F>>(rt: &R, path: &str) -> FileSink<F>
         ensures { result.faults ≡ 0 }
     {
@@ -103,7 +104,7 @@ pub struct StdoutSink<'a, P> {
 }
 
 impl<'a, P: Print> StdoutSink<'a, P> {
-    /// A sink over the standard output of this runtime.
+    /// A sink over the standard output of this runtime, with no fault yet.
     pub fn new(rt: &'a P) -> StdoutSink<'a, P>
         ensures { result.faults ≡ 0 }
     {

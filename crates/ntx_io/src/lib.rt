@@ -1,8 +1,8 @@
 //! The outside of `ntx`: where bytes come from and where they go, with a count of faults beside each.
 //!
 //! The traits [`Source`], [`Sink`] and [`Feed`] say what may be known of the outside: the bytes that a source has left and
-//! those that a sink has taken, where it tells them, and how often it has failed. The adapters over memory tell everything; those over
-//! files and standard output tell nothing of their content. It stands on `ntx_num`.
+//! those that a sink has taken, where it tells them, and how often it has failed. [`MemSource`] and [`MemSink`] tell everything;
+//! [`NullSink`] and the adapters over files and standard output tell nothing of their content. It stands on `ntx_num`.
 #![tactic(auto)]
 
 mod file;

@@ -11,7 +11,8 @@ use ntx_num::NoMemory;
 use std::alloc::Global;
 use std::marker::Model;
 
-/// A source over bytes in memory. It tells its bytes.
+/// A source over bytes in memory. It tells its bytes. A read fails at the calls that it was told to fail at and at no others; any other
+/// gives all bytes that are left, as far as the buffer has room for them.
 #[derive(Drop)]
 pub struct MemSource {
     bytes: Vec<u8>,
@@ -33,7 +34,7 @@ impl Model for MemSource {
 }
 
 impl MemSource {
-    /// A source of these bytes whose k-th read, counted from 1, fails where k is among `fails`.
+    /// A source of these bytes whose k-th read, counted from 1, fails where k is among `fails`. The count of reads stands still at 2^64-1.
     pub fn new(bytes: Vec<u8>, fails: Vec<u64>) -> MemSource
         ensures { result ≡ record { left = bytes.items; calls = 0; fails = fails.items; faults = 0 } }
     {
@@ -74,7 +75,8 @@ impl Source for MemSource {
     }
 }
 
-/// A sink over memory that was taken beforehand. It tells what it took.
+/// A sink over memory that was taken beforehand. It tells what it took. A write fails at the calls that it was told to fail at and where
+/// there is no room for a byte of a nonempty piece, and at no others; any other takes the whole piece, as far as there is room for it.
 #[derive(Drop)]
 pub struct MemSink {
     bytes: Vec<u8>,
@@ -96,7 +98,8 @@ impl Model for MemSink {
 }
 
 impl MemSink {
-    /// A sink with room for `room` bytes, whose k-th write, counted from 1, fails where k is among `fails`.
+    /// A sink with room for `room` bytes in all, whose k-th write, counted from 1, fails where k is among `fails`. The count of writes
+    /// stands still at 2^64-1.
     pub fn new(alloc: Global, room: u64, fails: Vec<u64>) -> Result<MemSink, NoMemory>
         ensures { Gives result (record { taken = []; room = room; calls = 0; fails = fails.items; faults = 0 }) }
     {

@@ -25,9 +25,11 @@ pub struct WriteFault;
 /// How many bytes one read asks for.
 const PIECE: usize = 4096;
 
-/// All bytes of the source to its end, where they are at most `limit`.
+/// All bytes of the source to its end, where they are at most `limit`. That they are all is said where the source tells its bytes, and that
+/// they are no more than `limit` of every source.
 ///
-/// `TooLarge`: the source gave more than `limit` bytes. `ReadFault`: a read failed.
+/// `TooLarge`: the source gave more than `limit` bytes. `ReadFault`: a read failed. At a fault, and where memory ran out, a source that
+/// tells its bytes gave no more than `limit` of them.
 pub fn read_all<S: Source>(
     alloc: Global,
     source: &mut S,
@@ -54,7 +56,9 @@ pub fn read_all<S: Source>(
     }
 }
 
-/// Writes all bytes of the text. `WriteFault`: a write failed, and the sink took some first bytes.
+/// Writes all bytes of the text. An empty text is never refused and leaves the sink as it was.
+///
+/// `WriteFault`: a write failed, and the sink, where it tells its bytes, took some first bytes or none.
 pub fn write_all<K: Sink>(sink: &mut K, bytes: &[u8]) -> Result<(), WriteFault>
     ensures bytes { TakesWhole (K.taken sink.old) (K.taken sink.new) bytes.now result }
     ensures cause { HasCause (K.faults sink.old) (K.faults sink.new) result }

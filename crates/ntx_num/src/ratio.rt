@@ -29,7 +29,8 @@ fn part(product: i128, den: u64) -> i64
 }
 
 /// `num * x / den`, rounded to the nearest whole number, a half away from zero, and kept within 10^9 in absolute value.
-/// `num / den` is the ratio at which a box's glue is set.
+/// `num / den` is the ratio at which a box's glue is set. `den` is 1 or more, and in absolute value `num` is 2^32 at most
+/// and `x` 2^48 at most.
 pub fn round_ratio(num: i64, den: i64, x: i64) -> i64
     requires num { unsigned_abs num ≤ 2 ^ 32 }
     requires den { pos 0 <ℤ den }

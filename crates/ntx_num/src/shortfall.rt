@@ -42,8 +42,8 @@ fn cube(ratio: u64) -> u64
 }
 
 /// How bad it is to make up for the shortfall `t` by the glue `s`, both in scaled points: about 100 times the cube of
-/// t/s, from 0 for none to 10000. Where `s` is 0 or less, every shortfall but 0 has badness 10000. A badness of 10001, of a
-/// line that is too wide, is not this function's.
+/// t/s, from 0 for none to 10000. `t` is 0 or more. Where `s` is 0 or less, every shortfall but 0 has badness 10000. A
+/// badness of 10001, of a line that is too wide, is not this function's.
 pub fn badness(t: i64, s: i64) -> i64
     requires { pos 0 ≤ℤ t }
     ensures value { result ≡ pos (badness_of (unsigned_abs t) s) }
@@ -59,7 +59,7 @@ pub fn badness(t: i64, s: i64) -> i64
     }
 }
 
-/// The law that badness does not fall as the shortfall grows.
+/// The law that badness does not fall as the shortfall grows, for the same glue.
 pub fn badness_grows()
     ensures { BadnessGrows }
 {}

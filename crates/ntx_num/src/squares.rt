@@ -33,7 +33,8 @@ fn penalty(p: i64) -> i64
 
 /// The demerits of a line of badness `b` that ends at a break of penalty `p`: the square of `linepenalty + b`, or 10^8
 /// where that sum is 10000 or more in absolute value, and the square of `p` with its sign, or nothing at a forced
-/// break, which has penalty -10000.
+/// break, which has penalty -10000. `linepenalty` is 10^8 at most in absolute value, `b` is from 0 to 10001, and `p` from
+/// -10000 to 9999.
 pub fn demerits(linepenalty: i64, b: i64, p: i64) -> i64
     requires linepenalty_low { negsuc 99999999 ≤ℤ linepenalty }
     requires linepenalty_high { linepenalty ≤ℤ pos 100000000 }

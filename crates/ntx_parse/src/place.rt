@@ -7,7 +7,7 @@ ghost use Rattle.ntx_parse.specs.Grammar as grammar;
 #[derive(Clone, Copy, Debug, PartialEq, Eq)]
 pub struct Place {
     /// How many counted parts of the script hold it: blocks, bodies of functions, tables, parts in brackets, operands behind
-    /// operators.
+    /// operators. In a script that is accepted it is 200 at most for each word.
     pub nesting: u64,
     /// Whether it stands in a loop of its function.
     pub in_loop: bool,

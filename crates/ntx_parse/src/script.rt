@@ -92,7 +92,8 @@ fn whole(alloc: Global, words: &[Word<'_>], last_line: u64) -> Result<Block, Fai
     }
 }
 
-/// The tree of a script (Lua 5.3 Reference Manual, section 9), of its tokens.
+/// The tree of a script (Lua 5.3 Reference Manual, section 9), of its tokens. `tokens` are those of `bytes`, as
+/// `ntx_syntax::tokens` gives them.
 ///
 /// Operators of one precedence that associate to the left, the suffixes of one prefix and the arms of one `if` are lists in
 /// the tree. A statement has the line of its first token, and a name that is declared local that of its token.

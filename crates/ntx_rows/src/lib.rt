@@ -1,4 +1,5 @@
-//! Tests that go through several crates: whole runs, with every source and sink in memory.
+//! Tests that go through several crates: whole runs, with every source and sink in memory. The rows are those of the tables that tests go
+//! through, each with what a run is given and how it has to end.
 //!
 //! It holds nothing but tests, since a crate with tests is proved twice.
 #![tactic(auto)]

@@ -7,13 +7,13 @@ use ntx_doc::DocFault;
 pub enum Status {
     /// All was read and the DVI file is whole.
     Done = 0,
-    /// The command line is not of its form.
+    /// The command line is not of its form, or there are fonts.
     Words = 2,
-    /// The document is refused.
+    /// The document is refused, for a line of it or for more than 2^24 bytes.
     Document = 3,
-    /// The script is refused.
+    /// The script is refused, since it is not empty.
     Script = 4,
-    /// The patterns are refused.
+    /// The patterns are refused, since they are not empty.
     Patterns = 5,
     /// A source failed.
     ReadFault = 9,
@@ -50,6 +50,6 @@ pub enum Place {
 pub struct Outcome {
     /// How it ended.
     pub status: Status,
-    /// Where it stopped, for the statuses that have a place.
+    /// Where it stopped. The statuses `Document` and `ReadFault` have a place, and no others.
     pub place: Option<Place>,
 }

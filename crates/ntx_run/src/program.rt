@@ -36,6 +36,17 @@ fn report<L: Sink>(alloc: Global, stop: Stop, lines: &mut L) -> Outcome
 ///
 /// The inputs are read in this order, and the first refusal ends the run: of the words, the document, the script, the patterns. What is
 /// behind a refusal, or behind a source that failed, is not read. A script and patterns have to be empty, and there are no fonts.
+///
+/// # Refusals
+///
+/// - `Words`: the words are not four paths ([`are_paths`](crate::are_paths)), or there is any feed in `fonts`, whatever the words are;
+/// - `Document`: the document has more than 2^24 bytes, with line 0 and `Size`, or `read_doc` refuses it, with its fault;
+/// - `Script` and `Patterns`: they are not empty;
+/// - `DviFull`: the DVI file would be longer than 2^31-1 bytes.
+///
+/// That just these are refused is said of the words always, and of the others where the sources tell their bytes and no count of faults
+/// rose. `ReadFault` is a source that failed, `WriteFault` a sink that failed, and `Memory` want of memory; of these three the last two may
+/// stand for any refusal, and the first for any but that of the words.
 pub fn run<D: Source, S: Source, P: Source, O: Sink, L: Sink>(
     alloc: Global,
     words: &[String],

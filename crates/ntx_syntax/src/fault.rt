@@ -20,11 +20,13 @@ pub enum SyntaxWhy {
     Expected,
     /// `break` outside of a loop.
     Break,
-    /// Syntax that is nested too deep.
+    /// A token that lies in more than 200 of these: blocks (the script's own not counted), bodies of functions, tables, parts
+    /// in `( )` or `[ ]`, operands of unary and right operands of binary operators.
     Depth,
-    /// More named locals of one function in scope at once than there may be.
+    /// More named locals of one function in scope at once than there may be. It is for a part that is not built yet: no
+    /// call gives it.
     Locals,
-    /// More bytes than a script may have.
+    /// More bytes than a script may have. It is for a part that is not built yet: no call gives it.
     Size,
 }
 
@@ -51,7 +53,7 @@ impl SyntaxWhy {
 /// A refused script: the line, and what is wrong there.
 #[derive(Clone, Copy, Debug, PartialEq, Eq)]
 pub struct SyntaxFault {
-    /// The number of the line, from 1; 0 where the script as a whole is too large.
+    /// The number of the line, from 1; 0 is for a script that is too large as a whole, of which no call tells yet.
     pub line: u64,
     /// What is wrong there.
     pub why: SyntaxWhy,

@@ -47,6 +47,9 @@ fn hexadecimal_value(digits: &[u8]) -> u64
 }
 
 /// The integer that a numeral stands for. A hexadecimal one wraps to 64 bits.
+///
+/// `bytes` spell one numeral, as those of a token of sort `Numeral` do: decimal digits, one or more, that write 2^63-1 at
+/// most, or `0x` and one hexadecimal digit or more.
 pub fn numeral_value(bytes: &[u8]) -> i64
     requires { IsSome (numeral_value bytes.now) }
     ensures { numeral_value bytes.now ≡ Some result }

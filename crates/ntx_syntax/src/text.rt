@@ -139,6 +139,8 @@ fn character(bytes: &[u8]) -> Option<(u8, usize)>
 }
 
 /// The bytes that a text stands for, of those that spell it with its quotes.
+///
+/// `bytes` spell one text from its opening quote to its closing one, as those of a token of sort `Text` do.
 pub fn text_value(alloc: Global, bytes: &[u8]) -> Result<Vec<u8>, NoMemory>
     requires { IsSome (value.text_value bytes.now) }
     ensures { Gives (result_map (λ found. Some found.items) result) (value.text_value bytes.now) }

@@ -13,7 +13,7 @@ pub type Name = Items<u8>;
 pub struct LocalName {
     /// The name.
     pub name: Name,
-    /// The line of its token.
+    /// The line of its token, from 1.
     pub line: u64,
 }
 
@@ -38,7 +38,7 @@ pub struct Block {
 #[cycle(tree)]
 #[derive(Drop)]
 pub struct Return {
-    /// The line of `return`.
+    /// The line of `return`, from 1.
     pub line: u64,
     /// The values.
     pub values: Items<Exp>,
@@ -48,7 +48,7 @@ pub struct Return {
 #[cycle(tree)]
 #[derive(Drop)]
 pub struct Stat {
-    /// The line of its first token.
+    /// The line of its first token, from 1.
     pub line: u64,
     /// What it is.
     pub kind: StatKind,

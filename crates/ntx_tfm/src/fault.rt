@@ -12,7 +12,7 @@ pub enum FontFault {
     Range,
     /// The header has fewer than two words.
     Header,
-    /// The length of the file is not the sum of the lengths of its parts.
+    /// The length that the file says it has is not the sum of the lengths of its parts, in words.
     Lengths,
     /// The design size is 1024 points or more, or below one point.
     Size,
@@ -20,12 +20,12 @@ pub enum FontFault {
     Index,
     /// The first width, height, depth or italic correction is not zero.
     FirstNotZero,
-    /// A number is not between -16 and 16.
+    /// A width, height, depth, italic correction or kern, or a parameter from the second on, is below -16 or not below 16.
     FixWord,
     /// A program of ligatures and kerns begins or leads outside the steps, or a step has no kern, no operation or no
     /// character.
     LigProgram,
-    /// The file is larger than its reader takes: for callers that read files.
+    /// The file is larger than its reader takes: for callers that read files. No call gives it yet.
     TooLarge,
 }
 

@@ -78,7 +78,7 @@ impl Font {
         self.characters[usize::from(c)].and_then(|character| character.start)
     }
 
-    /// The `i`-th step of the programs, from 0; `None` where there are no more.
+    /// The `i`-th step of the programs, from 0; `None` where there are no more. There are fewer than 32768.
     pub fn lig_step(&self, i: u64) -> Option<LigStep>
         ensures value { result ≡ slice_get self.now.steps i }
         ensures good { IfSome result (IsGoodStep self.now i) }
@@ -167,7 +167,8 @@ fn size_or_design(bytes: &[u8], lengths: Lengths, size: Option<i64>) -> u32
 
 /// The font of a TFM file's bytes at a size in scaled points, or at its design size ("TeX: The Program", sections 539 to
 /// 546 and 560 to 576). The answer is the first fault of the bytes, in the order of `FontFault`, where they have one.
-/// Further bytes after those that the file's own length names are ignored.
+/// Further bytes after those that the file's own length names are ignored. `name` has 1 to 255 bytes, and a `size` that is
+/// given is from 1 to 2^26 - 1.
 #[tactic(auto, unfolding(crate::specs::Font::font_of))]
 pub fn read_font(
     alloc: Global,

@@ -1,8 +1,8 @@
 //! TeX font metric (TFM) files: a font as a function of the file's bytes, a name and a size, or the first fault of the
 //! file ("TeX: The Program", sections 539 to 546 and 560 to 576).
 //!
-//! It stands on `ntx_num` and on the kit's `byteorder`. Extensible recipes, larger characters and the boundary
-//! character are read over: no part of a `Font` speaks of them.
+//! It stands on `ntx_num` and on the kit's `byteorder`. Italic corrections are tested and not kept; extensible recipes,
+//! larger characters and the boundary character are read over: no part of a `Font` speaks of any of them.
 #![tactic(auto)]
 
 mod checks;
