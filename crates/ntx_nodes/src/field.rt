@@ -18,13 +18,13 @@ pub enum Field {
     Shift,
     /// The first node in a box.
     List,
-    /// 0 where the glue in a box keeps its natural width, 1 where it stretches, 2 where it shrinks. It cannot be set.
+    /// 0 where the glue in a box keeps its natural width, 1 where it stretches, 2 where it shrinks. `set_ratio` alone sets it.
     GlueSign,
-    /// The order of the glue that stretches or shrinks, from 0 to 3. It cannot be set.
+    /// The order of the glue that stretches or shrinks, from 0 to 3. `set_ratio` alone sets it.
     GlueOrder,
-    /// The numerator of the ratio by which it does, within 2^32 in absolute value. It cannot be set.
+    /// The numerator of the ratio by which it does, within 2^32 in absolute value. `set_ratio` alone sets it.
     GlueNum,
-    /// The denominator of that ratio, at least 1. It cannot be set.
+    /// The denominator of that ratio, at least 1. `set_ratio` alone sets it.
     GlueDen,
     /// The first node of what stands before a break at a disc.
     Pre,

@@ -5,7 +5,7 @@ ghost use Rattle.ntx_nodes.specs.declared.kind.Kind.{Kind};
 ghost use Rattle.ntx_nodes.specs.Fields.{number_of, last_subtype};
 ghost use Rattle.ntx_nodes.specs.Walk.{allows, admits};
 
-/// The kind of a node, with the number by which scripts know it (LuaTeX Reference Manual, chapter "Nodes").
+/// The kind of a node (LuaTeX Reference Manual, chapter "Nodes"), with a number that is this engine's own.
 #[derive(Clone, Copy, Debug, PartialEq, Eq)]
 pub enum Kind {
     /// A box whose list runs from the left to the right.
