@@ -11,26 +11,23 @@ use Rattle.ntx_parse.specs.Reading.{Answer, Stop, stopped, script_by}
 use Rattle.ntx_parse.specs.Faults.{CannotStand, IsNoScript, IsWrong}
 use Rattle.ntx_parse.proofs.BeginsLemmas.{plain}
 use Rattle.ntx_parse.proofs.More.{more_script}
-use Rattle.ntx_parse.proofs.Local.{same_behind, local_here}
-use Rattle.ntx_parse.proofs.Told.{Tells, IsTold, read_whole, stops_behind, answer_told, told}
+use Rattle.ntx_parse.proofs.Local.{same_behind, local_here, why_stopped}
+use Rattle.ntx_parse.proofs.Told.{SettlesTo, IsTold, read_whole, stops_behind, answer_told, told}
 
 -- ---- words that derive
 
 -- If something else is expected there, nothing else is told of the script.
-told_there : (n : ℕ) (words behind : List Word) (x : Result (Block × List Word) Stop) → script_by n words ≡ stopped why.Expected behind → Tells words x
+told_there : (n : ℕ) (words behind : List Word) (x : Result (Block × List Word) Stop) → script_by n words ≡ stopped why.Expected behind → SettlesTo words x
     → stopped why.Expected behind ≡ Some x
 told_there n words behind x e known =
     let m : ℕ = max n known.from in
     let deeper : n ≤ m = omega arith in
     let enough : known.from ≤ m = omega arith in
-    sym (more_script n m deeper words _ e) ∙ known.is m enough
-
-reason_of : {stop : Stop} {behind : List Word} → ◌≡◌ {A = Answer Block} (stopped why.Expected behind) (Some (Err stop)) → stop.why ≡ why.Expected
-reason_of e = cc
+    sym (more_script n m deeper words _ e) ∙ known.gives m enough
 
 not_both : (n : ℕ) (words behind : List Word) → script_by n words ≡ stopped why.Expected behind → IsTold words [] → ⊥
 not_both n words behind e (read_whole {b} known) = let same = told_there n words behind (Ok (b, [])) e known in cc
-not_both n words behind e (stops_behind {stop} other shorter known) = other (reason_of (told_there n words behind (Err stop) e known))
+not_both n words behind e (stops_behind {stop} other shorter known) = other (why_stopped (sym (told_there n words behind (Err stop) e known)))
 
 pub no_script : (n : ℕ) (words behind : List Word) → script_by n words ≡ stopped why.Expected behind → IsNoScript words
 no_script n words behind e placed chunk same derives = not_both n (plain placed) behind (ap (script_by n) same ∙ e) (told placed chunk derives)
@@ -52,7 +49,7 @@ cannot_follow n front o others e given same begin =
     let same_there = same_behind others (plain begin.0) front o in
     elim (local_here others (plain begin.0) (front ++ o ∷ others) (front ++ o ∷ plain begin.0) o why.Expected n m deeper same_there e) [
       | inl stops_there ↦ no_script m (front ++ o ∷ plain begin.0) (o ∷ plain begin.0) stops_there (given ++ begin.0) begin.1 words_are begin.2
-      | inr none ↦ told_nothing (known.is m enough) (ap (script_by m) words_are ∙ none)
+      | inr none ↦ told_nothing (known.gives m enough) (ap (script_by m) words_are ∙ none)
     ]
 
 pub cannot : (n : ℕ) (words front behind : List Word) (placed : List Placed) → words ≡ front ++ behind → script_by n words ≡ stopped why.Expected behind

@@ -42,7 +42,7 @@ pub data StopsToo (those these words : List Word) (reason : SyntaxWhy) {A : Type
   stops_too : {rest : List Word} → Same those these words rest → b ≡ stopped reason rest → StopsToo those these words reason b
   calls_too_few : b ≡ None → StopsToo those these words reason b
 
-why_stopped : {A : Type 0} {stop : Stop} {reason : SyntaxWhy} {words : List Word} → ◌≡◌ {A = Answer A} (Some (Err stop)) (stopped reason words)
+pub why_stopped : {A : Type 0} {stop : Stop} {reason : SyntaxWhy} {words : List Word} → ◌≡◌ {A = Answer A} (Some (Err stop)) (stopped reason words)
     → stop.why ≡ reason
 why_stopped e = cc
 

@@ -29,7 +29,8 @@ use Rattle.ntx_parse.proofs.Cannot.{told_nothing}
 use Rattle.ntx_parse.proofs.Local.{same_behind, local_here}
 use Rattle.ntx_parse.proofs.More.{told_once}
 use Rattle.ntx_parse.proofs.Stuck.{begins_less}
-use Rattle.ntx_parse.proofs.Told.{Tells, read_whole, stops_behind, told_behind}
+use Rattle.ntx_parse.proofs.StuckAnswers.{stop-injective}
+use Rattle.ntx_parse.proofs.Told.{SettlesTo, read_whole, stops_behind, told_behind}
 
 -- ---- words and their places
 
@@ -80,7 +81,7 @@ order (o ∷ f) (u ∷ g) b c e =
 -- ---- a word that is not fine
 
 -- A word is not fine at this place, behind words that are, and together they can stand at the front of a script.
-record IsStuck (front : List Word) (o : Word) (reason : SyntaxWhy) : Type 0 where
+record IsBarred (front : List Word) (o : Word) (reason : SyntaxWhy) : Type 0 where
   pub placed : List Placed
   pub place : Place
   pub spells : plain placed ≡ front
@@ -88,8 +89,8 @@ record IsStuck (front : List Word) (o : Word) (reason : SyntaxWhy) : Type 0 wher
   pub bad : IsBad reason (at_place o place)
   pub begin : CanBegin (placed ++ at_place o place ∷ [])
 
-stops_in : {front : List Word} {o : Word} {reason : SyntaxWhy} (s : IsStuck front o reason)
-    → Tells (front ++ o ∷ plain s.begin.0) (Err (record { why = reason; words = o ∷ plain s.begin.0 }))
+stops_in : {front : List Word} {o : Word} {reason : SyntaxWhy} (s : IsBarred front o reason)
+    → SettlesTo (front ++ o ∷ plain s.begin.0) (Err (record { why = reason; words = o ∷ plain s.begin.0 }))
 stops_in {front} {o} {reason} s =
     let here : Placed = at_place o s.place in
     let others = s.begin.0 in
@@ -97,19 +98,19 @@ stops_in {front} {o} {reason} s =
     let there = stops_at_bad s.placed here others reason s.begin.1 s.fine s.bad derives in
     let spelled : plain (s.placed ++ here ∷ others) ≡ front ++ o ∷ plain others =
     map-append (λ (w : Placed). w.word) s.placed (here ∷ others) ∙ ap (λ l. l ++ o ∷ plain others) s.spells in
-    record { from = there.0; is = λ n h. sym (ap (script_by n) spelled) ∙ there.1 n h }
+    record { from = there.0; gives = λ n h. sym (ap (script_by n) spelled) ∙ there.1 n h }
 
 -- The reading of each script that begins with these words stops there.
-stops_there : {front : List Word} {o : Word} {reason : SyntaxWhy} (s : IsStuck front o reason) (words these : List Word) (x : Result (Block × List Word) Stop)
-    → words ≡ front ++ o ∷ these → Tells words x → x ≡ Err (record { why = reason; words = o ∷ these })
+stops_there : {front : List Word} {o : Word} {reason : SyntaxWhy} (s : IsBarred front o reason) (words these : List Word) (x : Result (Block × List Word) Stop)
+    → words ≡ front ++ o ∷ these → SettlesTo words x → x ≡ Err (record { why = reason; words = o ∷ these })
 stops_there {front} {o} {reason} s words these x e known =
     let those = plain s.begin.0 in
     let first = stops_in s in
     let n : ℕ = max first.from known.from in
     let one : first.from ≤ n = omega arith in
     let two : known.from ≤ n = omega arith in
-    let second : script_by n (front ++ o ∷ these) ≡ Some x = sym (ap (script_by n) e) ∙ known.is n two in
-    elim (local_here those these (front ++ o ∷ those) (front ++ o ∷ these) o reason n n (omega arith) (same_behind those these front o) (first.is n one)) [
+    let second : script_by n (front ++ o ∷ these) ≡ Some x = sym (ap (script_by n) e) ∙ known.gives n two in
+    elim (local_here those these (front ++ o ∷ those) (front ++ o ∷ these) o reason n n (omega arith) (same_behind those these front o) (first.gives n one)) [
       | inl stops ↦ told_once (sym second ∙ stops)
       | inr none ↦ absurd (told_nothing second none)
     ]
@@ -118,10 +119,10 @@ whole_stops : {b : Block} {stop : Stop} → ◌≡◌ {A = Result (Block × List
 whole_stops e = cc
 
 same_stop : {stop other : Stop} → ◌≡◌ {A = Result (Block × List Word) Stop} (Err stop) (Err other) → stop ≡ other
-same_stop e = cc
+same_stop e = stop-injective (ap (λ x. Some x) e)
 
 -- No words that go on behind it are all fine.
-none_fine : {front : List Word} {o : Word} {reason : SyntaxWhy} → IsStuck front o reason → (placed others : List Placed) (middle : List Word) (chunk : Chunk)
+none_fine : {front : List Word} {o : Word} {reason : SyntaxWhy} → IsBarred front o reason → (placed others : List Placed) (middle : List Word) (chunk : Chunk)
     → IsChunk chunk (placed ++ others) → AllByRecursion IsFine placed → plain placed ≡ front ++ o ∷ middle → ⊥
 none_fine {front} {o} {reason} s placed others middle chunk derives fine e =
     let these : List Word = middle ++ plain others in
@@ -142,7 +143,7 @@ none_fine {front} {o} {reason} s placed others middle chunk derives fine e =
 data IsFault (front : List Word) : SyntaxWhy → List Word → Type 0 where
   no_end : IsNoScript front → IsFault front why.Expected []
   no_word : {o : Word} {behind : List Word} → CannotStand (front ++ o ∷ []) → IsFault front why.Expected (o ∷ behind)
-  not_fine : {reason : SyntaxWhy} {o : Word} {behind : List Word} → IsStuck front o reason → IsFault front reason (o ∷ behind)
+  not_fine : {reason : SyntaxWhy} {o : Word} {behind : List Word} → IsBarred front o reason → IsFault front reason (o ∷ behind)
 
 fault_there : (reason : SyntaxWhy) (front : List Word) (s : Stand front) (behind : List Word) → IsWrong reason front s.placed behind → IsFault front reason behind
 fault_there why.Expected front s [] h = no_end h
@@ -168,7 +169,7 @@ none_stand middle (not_fine stuck) s e = none_fine stuck s.placed s.can_begin.0 
 spelled_with : (placed : List Placed) (front : List Word) (o : Placed) → plain placed ≡ front → plain (placed ++ o ∷ []) ≡ front ++ o.word ∷ []
 spelled_with placed front o e = map-append (λ (w : Placed). w.word) placed (o ∷ []) ∙ ap (λ l. l ++ o.word ∷ []) e
 
-expected_there : {front : List Word} {o : Word} {reason : SyntaxWhy} → CannotStand (front ++ o ∷ []) → IsStuck front o reason → ⊥
+expected_there : {front : List Word} {o : Word} {reason : SyntaxWhy} → CannotStand (front ++ o ∷ []) → IsBarred front o reason → ⊥
 expected_there {front} {o} none s = none (s.placed ++ at_place o s.place ∷ []) (spelled_with s.placed front (at_place o s.place) s.spells) s.begin
 
 same_why : {front : List Word} {reason other : SyntaxWhy} {behind : List Word} → IsFault front reason behind → IsFault front other behind → reason ≡ other

@@ -93,7 +93,7 @@ spelled_twice : (one two : List Placed) (rest words middle : List Word) → word
 spelled_twice one two rest words middle e h =
     e ∙ ap (λ z. spelled_by one ++ z) h ∙ sym (append_assoc (spelled_by one) (spelled_by two) rest) ∙ ap (λ z. z ++ rest) (sym (map-append (λ o. o.word) one two))
 
-fine_twice : (one two : List Placed) → AreFine one → AreFine two → AreFine (one ++ two)
+pub fine_twice : (one two : List Placed) → AreFine one → AreFine two → AreFine (one ++ two)
 fine_twice [] two f g = g
 fine_twice (o ∷ one) two f g = (f.0, fine_twice one two f.1 g)
 

@@ -1,8 +1,7 @@
 -- What the reading of words that derive tells.
---     Tells words answer     from some depth on it tells this
---     IsTold words front     it reads the words to the end, or stops behind these for a reason that is not Expected
---     told, told_behind      it is so of words that derive, and behind those of them that are fine
-use Rattle.std.specs.Prelude.{◌≡◌, ◌≤◌, ℕ, ◌+◌, length, List, [], ◌∷◌, ◌++◌, Some, Result, Ok, Err}
+--     IsTold words front    it reads the words to the end, or stops behind these for a reason that is not Expected
+--     told, told_behind     it is so of words that derive, and behind those of them that are fine
+use Rattle.std.specs.Prelude.{◌≡◌, ◌≤◌, ◌+◌, length, List, [], ◌∷◌, ◌++◌, Result, Ok, Err}
 use Rattle.std.proofs.Common.{inl, inr, ◌⊎◌, refl, sym, ap, ◌∙◌, subst, append_assoc, arith}
 use Rattle.std.proofs.lemmas.List.{map-append, length-append}
 use Rattle.std.specs.List.{AllByRecursion}
@@ -13,19 +12,21 @@ use Rattle.ntx_syntax.specs.declared.tree.Chunk.{Chunk}
 use Rattle.ntx_parse.specs.Words.{Word}
 use Rattle.ntx_parse.specs.Grammar.{Placed, IsFine, IsChunk}
 use Rattle.ntx_parse.specs.Reading.{Stop, script_by}
+use Rattle.ntx_parse.specs.Reads.{Settles}
 use Rattle.ntx_parse.proofs.BeginsLemmas.{plain}
 use Rattle.ntx_parse.proofs.ComesLemmas.{IsBad, too_deep, no_loop}
+use Rattle.ntx_parse.proofs.StuckAnswers.{fine_twice}
 use Rattle.ntx_parse.proofs.Complete.{complete_script, stops_at_bad, FirstBad, first_bad}
 
-pub record Tells (words : List Word) (answer : Result (Block × List Word) Stop) : Type 0 where
-  pub from : ℕ
-  pub is : (n : ℕ) → from ≤ n → script_by n words ≡ Some answer
+-- From some depth on the reading of a script of these words tells this.
+abbrev pub SettlesTo : List Word → Result (Block × List Word) Stop → Type 0
+SettlesTo words answer = Settles (λ n. script_by n words) answer
 
 pub data IsTold (words front : List Word) : Type 0 where
-  read_whole : {b : Block} → Tells words (Ok (b, [])) → IsTold words front
-  stops_behind : {stop : Stop} → (stop.why ≡ why.Expected → ⊥) → length stop.words + length front ≤ length words → Tells words (Err stop) → IsTold words front
+  read_whole : {b : Block} → SettlesTo words (Ok (b, [])) → IsTold words front
+  stops_behind : {stop : Stop} → (stop.why ≡ why.Expected → ⊥) → length stop.words + length front ≤ length words → SettlesTo words (Err stop) → IsTold words front
 
-pub answer_told : {words front : List Word} → IsTold words front → (x : Result (Block × List Word) Stop) × Tells words x
+pub answer_told : {words front : List Word} → IsTold words front → (x : Result (Block × List Word) Stop) × SettlesTo words x
 answer_told (read_whole known) = (_, known)
 answer_told (stops_behind other shorter known) = (_, known)
 
@@ -33,28 +34,24 @@ not_expected : {reason : SyntaxWhy} {o : Placed} → IsBad reason o → reason �
 not_expected (too_deep h) e = cc
 not_expected (no_loop h is out) e = cc
 
-fine_behind : (first second : List Placed) → AllByRecursion IsFine first → AllByRecursion IsFine second → AllByRecursion IsFine (first ++ second)
-fine_behind [] second f g = g
-fine_behind (o ∷ first) second f g = (f.0, fine_behind first second f.1 g)
-
 told_with : (front others : List Placed) (chunk : Chunk) → IsChunk chunk (front ++ others) → AllByRecursion IsFine front
     → AllByRecursion IsFine others ⊎ FirstBad others → IsTold (plain (front ++ others)) (plain front)
 told_with front others chunk derives fine (inl more) =
-    let all = fine_behind front others fine more in
+    let all = fine_twice front others fine more in
     let c = complete_script (plain (front ++ others)) chunk (record { placed = front ++ others; words_are = refl; derives = derives; fine = all }) in
-    read_whole (record { from = c.0; is = c.1 })
+    read_whole (record { from = c.0; gives = c.1 })
 told_with front others chunk derives fine (inr d) =
     let same : front ++ others ≡ (front ++ d.front) ++ d.first ∷ d.behind =
     ap (λ l. front ++ l) d.placed_are ∙ sym (append_assoc front d.front (d.first ∷ d.behind)) in
     let there =
-    stops_at_bad (front ++ d.front) d.first d.behind d.reason chunk (fine_behind front d.front fine d.fine) d.bad (subst (IsChunk chunk) same derives) in
+    stops_at_bad (front ++ d.front) d.first d.behind d.reason chunk (fine_twice front d.front fine d.fine) d.bad (subst (IsChunk chunk) same derives) in
     let whole : length (plain (front ++ others)) ≡ length (plain front) + length (plain others) =
     ap length (map-append (λ (w : Placed). w.word) front others) ∙ length-append (plain front) (plain others) in
     let more : length (plain others) ≡ length (plain d.front) + length (plain (d.first ∷ d.behind)) =
     ap (λ l. length (plain l)) d.placed_are ∙ ap length (map-append (λ (w : Placed). w.word) d.front (d.first ∷ d.behind))
     ∙ length-append (plain d.front) (plain (d.first ∷ d.behind)) in
     stops_behind {stop = record { why = d.reason; words = plain (d.first ∷ d.behind) }} (not_expected d.bad) (omega (arith, whole, more))
-    (record { from = there.0; is = λ n h. ap (λ l. script_by n (plain l)) same ∙ there.1 n h })
+    (record { from = there.0; gives = λ n h. ap (λ l. script_by n (plain l)) same ∙ there.1 n h })
 
 pub told_behind : (front others : List Placed) (chunk : Chunk) → IsChunk chunk (front ++ others) → AllByRecursion IsFine front
     → IsTold (plain (front ++ others)) (plain front)
