@@ -1,5 +1,5 @@
 -- What is read, said of one answer: the words that were read can be placed so that they spell the tree.
-use Rattle.std.proofs.Common.{◌≡◌, Bool, true, false, List, [], ◌∷◌, map, None, Some, Ok, Err, cond, nat_eq, nat_le, refl, sym, ap, ◌∙◌, subst, leb-true}
+use Rattle.std.proofs.Common.{◌≡◌, Bool, true, false, List, [], ◌∷◌, None, Some, Ok, Err, cond, nat_eq, nat_le, refl, sym, ap, ◌∙◌, subst, leb-true}
 use Rattle.std.proofs.lemmas.Bool.{false≢true}
 use Rattle.std.specs.List.{AllByRecursion}
 use Rattle.ntx_syntax.specs.declared.fault.SyntaxWhy.{SyntaxWhy}
@@ -10,14 +10,12 @@ use Rattle.ntx_parse.specs.declared.terminal.Terminal.TheVariants as terminal
 use Rattle.ntx_parse.specs.Words.{Word}
 use Rattle.ntx_parse.specs.Grammar.{Placed, Is, IsFine, max_nesting}
 use Rattle.ntx_parse.specs.Reading.{Answer, Stop, read, stopped, and_then, number, begins, taken, expected}
+use Rattle.ntx_parse.proofs.BeginsLemmas.{plain}
 use Rattle.ntx_parse.proofs.TerminalLemmas.{other_terminal, begins-is}
 
 -- A relation of a tree, the placed words at whose front it stands, and those behind it.
 abbrev pub Phrase : Type 0 → Type 1
 Phrase A = A → List Placed → List Placed → Type 0
-
-abbrev pub spelled_by : List Placed → List Word
-spelled_by placed = map (λ o. o.word) placed
 
 abbrev pub AreFine : List Placed → Type 0
 AreFine placed = AllByRecursion IsFine placed
@@ -25,13 +23,13 @@ AreFine placed = AllByRecursion IsFine placed
 -- The words can be placed before these, so that the phrase stands at their front and they are fine where these are.
 pub record IsSpelled {A : Type 0} (D : Phrase A) (words : List Word) (x : A) (behind : List Placed) : Type 0 where
   pub placed : List Placed
-  pub words_are : spelled_by placed ≡ words
+  pub words_are : plain placed ≡ words
   pub derives : D x placed behind
   pub fine : AreFine behind → AreFine placed
 
 -- What is read from these words, if anything is, stands at their front.
 pub record IsSound {A : Type 0} (D : Phrase A) (words : List Word) (answer : Answer A) : Type 0 where
-  pub holds : (x : A) (behind : List Placed) → answer ≡ read x (spelled_by behind) → IsSpelled D words x behind
+  pub holds : (x : A) (behind : List Placed) → answer ≡ read x (plain behind) → IsSpelled D words x behind
 
 -- ---- answers and their parts
 
@@ -57,11 +55,11 @@ module _ {A : Type 0} {D : Phrase A} {words : List Word} where
   pub sound_stopped : {why : SyntaxWhy} {rest : List Word} → IsSound D words (stopped why rest)
   sound_stopped = record { holds = λ x behind e. not_read _ e }
 
-  pub sound_read : {x : A} → ((behind : List Placed) → spelled_by behind ≡ words → D x behind behind) → IsSound D words (read x words)
+  pub sound_read : {x : A} → ((behind : List Placed) → plain behind ≡ words → D x behind behind) → IsSound D words (read x words)
   sound_read {x} h = record {
     holds = λ y behind e.
         let same = read-injective e in
-        let left : words ≡ spelled_by behind = ap (λ f. f.1) same in
+        let left : words ≡ plain behind = ap (λ f. f.1) same in
         record {
           placed = behind;
           words_are = sym left;
@@ -88,7 +86,7 @@ Completes D x F = λ y placed behind. (start : List Placed) → D x start placed
 pub sound_then : {A B : Type 0} {D : Phrase A} {F : Phrase B} {words : List Word} {a : Answer A} {next : A → List Word → Answer B} → IsSound D words a → ((x : A) (rest : List Word) → IsSound (Completes D x F) rest (next x rest)) → IsSound F words (and_then a next)
 sound_then {D = D} {a = a} {next = next} h g = record {
   holds = λ y behind e.
-      let parts = parts_read a next y (spelled_by behind) e in
+      let parts = parts_read a next y (plain behind) e in
       let x = parts.0 in
       let second = (g x parts.1).holds y behind parts.3 in
       let first = h.holds x second.placed (parts.2 ∙ ap (read x) (sym second.words_are)) in
@@ -104,13 +102,13 @@ sound_then {D = D} {a = a} {next = next} h g = record {
 pub sound_never : {A B : Type 0} {F : Phrase B} {words : List Word} (a : Answer A) (next : A → List Word → Answer B) → ((x : A) (rest : List Word) → (stop : Stop) × (next x rest ≡ Some (Err stop))) → IsSound F words (and_then a next)
 sound_never a next h = record {
   holds = λ y behind e.
-      let parts = parts_read a next y (spelled_by behind) e in
+      let parts = parts_read a next y (plain behind) e in
       let stops = h parts.0 parts.1 in
       not_read stops.0 (sym stops.1 ∙ parts.3);
 }
 
 -- What is read begins the words.
-pub sound_spelled : {A : Type 0} {D : Phrase A} {words : List Word} {answer : Answer A} → IsSound D words answer → IsSound (λ x placed behind. (spelled_by placed ≡ words) × D x placed behind) words answer
+pub sound_spelled : {A : Type 0} {D : Phrase A} {words : List Word} {answer : Answer A} → IsSound D words answer → IsSound (λ x placed behind. (plain placed ≡ words) × D x placed behind) words answer
 sound_spelled h = record {
   holds = λ x behind e.
       let found = h.holds x behind e in
@@ -132,7 +130,7 @@ taken_if p t o words false fits looped is = sound_stopped
 taken_if p t o words true fits looped is = record {
   holds = λ x behind e.
       let same = read-injective e in
-      let left : words ≡ spelled_by behind = ap (λ f. f.1) same in
+      let left : words ≡ plain behind = ap (λ f. f.1) same in
       let first : Placed = record { word = o; place = p } in
       record {
         placed = first ∷ behind;

@@ -11,7 +11,8 @@ use Rattle.ntx_parse.specs.Words.{Word}
 use Rattle.ntx_parse.specs.Grammar as grammar
 use Rattle.ntx_parse.specs.Grammar.{Placed, Is, IsSemicolon, no_semicolon, IsBlock, IsStats, no_stats, more_stats, IsLast, no_return, IsReturned, returns_nothing, IsStat, statement, IsKind}
 use Rattle.ntx_parse.specs.Reading.{Readers, begins_statement, stats_behind, semicolon_behind, ends_returned, returned_behind, last_behind, block_at}
-use Rattle.ntx_parse.proofs.SoundAnswers.{spelled_by, IsSound, IsTaken, word_taken, sound_read, sound_as, sound_if, sound_then, sound_spelled, sound_where}
+use Rattle.ntx_parse.proofs.BeginsLemmas.{plain}
+use Rattle.ntx_parse.proofs.SoundAnswers.{IsSound, IsTaken, word_taken, sound_read, sound_as, sound_if, sound_then, sound_spelled, sound_where}
 use Rattle.ntx_parse.proofs.SoundPhrases.{IsBehind, behind_all, behind_one, behind_none, AreSound}
 use Rattle.ntx_parse.proofs.SoundLists.{sound_read_exps}
 use Rattle.ntx_parse.proofs.SoundStatements.{sound_kind}
@@ -25,9 +26,9 @@ pub first_is : (o other : Word) (words others : List Word) → o ∷ words ≡ o
 first_is o other words others e = cc
 
 -- a statement of this kind, whose first word this is
-pub stat_read : {p : Place} (o : Word) (words : List Word) {kind : StatKind} (placed : List Placed) {rest : List Placed} → spelled_by placed ≡ o ∷ words → IsKind p kind placed rest → IsStat p (record { line = o.line; kind = kind }) placed rest
+pub stat_read : {p : Place} (o : Word) (words : List Word) {kind : StatKind} (placed : List Placed) {rest : List Placed} → plain placed ≡ o ∷ words → IsKind p kind placed rest → IsStat p (record { line = o.line; kind = kind }) placed rest
 stat_read o words [] same h = none_are o words same
-stat_read {p} o words {kind} (first ∷ placed) {rest} same h = subst (λ w. IsStat p (record { line = w.line; kind = kind }) (first ∷ placed) rest) (first_is first.word o (spelled_by placed) words same) (statement h)
+stat_read {p} o words {kind} (first ∷ placed) {rest} same h = subst (λ w. IsStat p (record { line = w.line; kind = kind }) (first ∷ placed) rest) (first_is first.word o (plain placed) words same) (statement h)
 
 pub stats_on : {p : Place} {first : Stat} {before all : List Stat} {words inner rest : List Placed} → IsStat p first words inner → IsBehind (before ++ first ∷ []) (IsStats p) all inner rest → IsBehind before (IsStats p) all words rest
 stats_on first h = behind_one _ h (λ others stats. more_stats first stats)

@@ -12,13 +12,14 @@ use Rattle.ntx_parse.specs.Grammar as grammar
 use Rattle.ntx_parse.specs.Grammar.{Placed, Is, within, within_function, NotBefore, IsNames, IsParameters, no_parameters, IsBlock, IsBody, IsExp, IsExps, IsIndex, index, IsArguments, no_arguments, IsPrefix, name_prefix, index_prefix, field_prefix, call_prefix, IsField, keyed, named_field, positional, IsFields, no_fields, last_field, more_fields, IsSeparator}
 use Rattle.ntx_parse.specs.Reading.{Readers, begins, joined, read_index, read_arguments, suffixes_behind, read_parenthesized, read_prefix}
 use Rattle.ntx_parse.proofs.TerminalLemmas.{begins-not}
-use Rattle.ntx_parse.proofs.SoundAnswers.{spelled_by, IsSound, IsTaken, word_taken, sound_read, sound_as, sound_if, sound_then, sound_expected, sound_where}
+use Rattle.ntx_parse.proofs.BeginsLemmas.{plain}
+use Rattle.ntx_parse.proofs.SoundAnswers.{IsSound, IsTaken, word_taken, sound_read, sound_as, sound_if, sound_then, sound_expected, sound_where}
 use Rattle.ntx_parse.proofs.SoundPhrases.{IsName, name_read, IsPart, name_part, parenthesized_part, index_part, field_part, call_part, IsLonger, IsWhole, AreSound}
 use Rattle.ntx_parse.proofs.SoundLists.{sound_name, sound_read_exps}
 
-pub not_before : (t : Terminal) (words : List Word) → begins t words ≡ false → (behind : List Placed) → spelled_by behind ≡ words → NotBefore t behind
+pub not_before : (t : Terminal) (words : List Word) → begins t words ≡ false → (behind : List Placed) → plain behind ≡ words → NotBefore t behind
 not_before t words h behind same o others is this =
-    begins-not t o.word (spelled_by others) (ap (λ placed. begins t (spelled_by placed)) (sym is) ∙ ap (begins t) same ∙ h) this
+    begins-not t o.word (plain others) (ap (λ placed. begins t (plain placed)) (sym is) ∙ ap (begins t) same ∙ h) this
 
 -- ---- brackets
 

@@ -10,7 +10,8 @@ use Rattle.ntx_parse.specs.Grammar as grammar
 use Rattle.ntx_parse.specs.Grammar.{Placed, outermost, max_nesting, IsBlock, IsExp, IsSimple}
 use Rattle.ntx_parse.specs.Faults.{CanBegin, Stand, IsWrong, IsRefusedAt}
 use Rattle.ntx_parse.specs.Reading.{Answer, Stop, Readers, nothing, over, readers, and_then, ended, script_by}
-use Rattle.ntx_parse.proofs.SoundAnswers.{Phrase, spelled_by}
+use Rattle.ntx_parse.proofs.BeginsLemmas.{plain}
+use Rattle.ntx_parse.proofs.SoundAnswers.{Phrase}
 use Rattle.ntx_parse.proofs.SoundPhrases.{behind_all, names_end, exps_end, vars_end}
 use Rattle.ntx_parse.proofs.StuckAnswers.{Ends, no_call, MayFollow, EachHasValue, IsFront, IsWrongWord, not_expected, too_deep, no_loop, IsStuck, HasPhrase, IsViable, stop-injective}
 use Rattle.ntx_parse.proofs.StuckWords.{viable_nothing}
@@ -27,7 +28,7 @@ use Rattle.ntx_parse.proofs.StuckBlocks.{viable_stats, viable_block}
 -- ---- all readings
 
 -- a phrase of no words
-none_phrase : {A : Type 0} {c : Ends} {D : Phrase A} (x : A) → ((behind : List Placed) → MayFollow c (spelled_by behind) → D x behind behind) → HasPhrase c c D
+none_phrase : {A : Type 0} {c : Ends} {D : Phrase A} (x : A) → ((behind : List Placed) → MayFollow c (plain behind) → D x behind behind) → HasPhrase c c D
 none_phrase x h = record { others = []; tree = x; derives = h; begins = λ behind f. f }
 
 nothing_is_viable : AreViable nothing
@@ -78,7 +79,7 @@ pub record IsStopped (words : List Word) (s : Stop) : Type 0 where
   pub stand : Stand front
   pub wrong : IsWrongThere s.why front stand.placed s.words
 
-wrong_there : {reason : SyntaxWhy} {behind : List Word} {last : List Placed} (placed : List Placed) → IsWrongWord reason behind last → CanBegin (placed ++ last) → IsWrongThere reason (spelled_by placed) placed behind
+wrong_there : {reason : SyntaxWhy} {behind : List Word} {last : List Placed} (placed : List Placed) → IsWrongWord reason behind last → CanBegin (placed ++ last) → IsWrongThere reason (plain placed) placed behind
 wrong_there placed not_expected h = tt
 wrong_there placed (too_deep {p = p} deep) h = (p, h, deep)
 wrong_there placed (no_loop {p = p} fits breaks outside) h = (p, h, fits, breaks, outside)
@@ -91,7 +92,7 @@ stopped_in {words} {s} f =
     let w = f.completed in
     let begins : CanBegin (f.front ++ f.last) = (w.others ++ [], record { block = w.tree }, w.derives [] refl) in
     record {
-      front = spelled_by f.front;
+      front = plain f.front;
       words_are = f.words_are;
       stand = record { placed = f.front; words_are = refl; can_begin = begins_less f.front f.last begins; fine = f.fine };
       wrong = wrong_there f.front f.wrong begins;
@@ -99,7 +100,7 @@ stopped_in {words} {s} f =
 
 stopped_behind : {words : List Word} {tree : Block} {o : Word} {behind : List Word} → IsFront no_call no_call (IsBlock outermost) words tree (o ∷ behind) → IsStopped words (record { why = why.Expected; words = o ∷ behind })
 stopped_behind {tree = tree} f = record {
-  front = spelled_by f.front;
+  front = plain f.front;
   words_are = f.words_are;
   stand = record { placed = f.front; words_are = refl; can_begin = ([], record { block = tree }, f.derives [] (λ _. refl)); fine = f.fine };
   wrong = tt;

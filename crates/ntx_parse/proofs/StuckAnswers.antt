@@ -13,7 +13,8 @@ use Rattle.ntx_parse.specs.Words.{Word}
 use Rattle.ntx_parse.specs.Grammar.{Placed, max_nesting}
 use Rattle.ntx_parse.specs.Faults.{at_place}
 use Rattle.ntx_parse.specs.Reading.{Answer, Stop, read, and_then, begins}
-use Rattle.ntx_parse.proofs.SoundAnswers.{Phrase, spelled_by, AreFine, Completes, parts_read}
+use Rattle.ntx_parse.proofs.BeginsLemmas.{plain}
+use Rattle.ntx_parse.proofs.SoundAnswers.{Phrase, AreFine, Completes, parts_read}
 
 -- What may follow: any words, or those that do not begin with a parenthesis, which would open the arguments of a call.
 pub data Ends : Type 0 where
@@ -38,17 +39,17 @@ EachHasValue words = AllByRecursion HasValue words
 -- that they may follow on what these words may follow on.
 pub record IsFront {A : Type 0} (b c : Ends) (D : Phrase A) (words : List Word) (x : A) (rest : List Word) : Type 0 where
   pub front : List Placed
-  pub words_are : words ≡ spelled_by front ++ rest
+  pub words_are : words ≡ plain front ++ rest
   pub fine : AreFine front
-  pub derives : (behind : List Placed) → (MayFollow c rest → MayFollow c (spelled_by behind)) → D x (front ++ behind) behind
-  pub begins : (behind : List Placed) → (MayFollow c rest → MayFollow c (spelled_by behind)) → MayFollow b words → MayFollow b (spelled_by (front ++ behind))
+  pub derives : (behind : List Placed) → (MayFollow c rest → MayFollow c (plain behind)) → D x (front ++ behind) behind
+  pub begins : (behind : List Placed) → (MayFollow c rest → MayFollow c (plain behind)) → MayFollow b words → MayFollow b (plain (front ++ behind))
 
 -- Some words complete these to the phrase, before all that may follow.
 pub record IsCompleted {A : Type 0} (b c : Ends) (D : Phrase A) (words : List Word) (upto : List Placed) : Type 0 where
   pub others : List Placed
   pub tree : A
-  pub derives : (behind : List Placed) → MayFollow c (spelled_by behind) → D tree (upto ++ (others ++ behind)) behind
-  pub begins : (behind : List Placed) → MayFollow c (spelled_by behind) → MayFollow b words → MayFollow b (spelled_by (upto ++ (others ++ behind)))
+  pub derives : (behind : List Placed) → MayFollow c (plain behind) → D tree (upto ++ (others ++ behind)) behind
+  pub begins : (behind : List Placed) → MayFollow c (plain behind) → MayFollow b words → MayFollow b (plain (upto ++ (others ++ behind)))
 
 -- What is wrong with the first of the words; and that word at its place, if it is not one that something else is expected for.
 pub data IsWrongWord : SyntaxWhy → List Word → List Placed → Type 0 where
@@ -59,7 +60,7 @@ pub data IsWrongWord : SyntaxWhy → List Word → List Placed → Type 0 where
 -- The words before the stop have places at which they can be completed, together with the word of the stop if it lies too deep there or is a `break`.
 pub record IsStuck {A : Type 0} (b c : Ends) (D : Phrase A) (words : List Word) (s : Stop) : Type 0 where
   pub front : List Placed
-  pub words_are : words ≡ spelled_by front ++ s.words
+  pub words_are : words ≡ plain front ++ s.words
   pub fine : AreFine front
   pub last : List Placed
   pub wrong : IsWrongWord s.why s.words last
@@ -69,8 +70,8 @@ pub record IsStuck {A : Type 0} (b c : Ends) (D : Phrase A) (words : List Word) 
 pub record HasPhrase {A : Type 0} (b c : Ends) (D : Phrase A) : Type 0 where
   pub others : List Placed
   pub tree : A
-  pub derives : (behind : List Placed) → MayFollow c (spelled_by behind) → D tree (others ++ behind) behind
-  pub begins : (behind : List Placed) → MayFollow c (spelled_by behind) → MayFollow b (spelled_by (others ++ behind))
+  pub derives : (behind : List Placed) → MayFollow c (plain behind) → D tree (others ++ behind) behind
+  pub begins : (behind : List Placed) → MayFollow c (plain behind) → MayFollow b (plain (others ++ behind))
 
 pub record IsViable {A : Type 0} (b c : Ends) (D : Phrase A) (words : List Word) (answer : Answer A) : Type 0 where
   pub whole : HasPhrase b c D
@@ -82,16 +83,16 @@ pub record IsViable {A : Type 0} (b c : Ends) (D : Phrase A) (words : List Word)
 pub stop-injective : {A : Type 0} {stop other : Stop} → ◌≡◌ {A = Answer A} (Some (Err stop)) (Some (Err other)) → stop ≡ other
 stop-injective e = cc
 
-values_behind : (front : List Placed) (rest : List Word) → EachHasValue (spelled_by front ++ rest) → EachHasValue rest
+values_behind : (front : List Placed) (rest : List Word) → EachHasValue (plain front ++ rest) → EachHasValue rest
 values_behind [] rest h = h
 values_behind (o ∷ front) rest h = values_behind front rest h.1
 
 regroup : (a b c d : List Placed) → a ++ b ++ c ++ d ≡ a ++ (b ++ c ++ d)
 regroup a b c d = ap (λ z. z ++ d) (append_assoc a b c) ∙ append_assoc a (b ++ c) d
 
-spelled_twice : (one two : List Placed) (rest words middle : List Word) → words ≡ spelled_by one ++ middle → middle ≡ spelled_by two ++ rest → words ≡ spelled_by (one ++ two) ++ rest
+spelled_twice : (one two : List Placed) (rest words middle : List Word) → words ≡ plain one ++ middle → middle ≡ plain two ++ rest → words ≡ plain (one ++ two) ++ rest
 spelled_twice one two rest words middle e h =
-    e ∙ ap (λ z. spelled_by one ++ z) h ∙ sym (append_assoc (spelled_by one) (spelled_by two) rest) ∙ ap (λ z. z ++ rest) (sym (map-append (λ o. o.word) one two))
+    e ∙ ap (λ z. plain one ++ z) h ∙ sym (append_assoc (plain one) (plain two) rest) ∙ ap (λ z. z ++ rest) (sym (map-append (λ o. o.word) one two))
 
 pub fine_twice : (one two : List Placed) → AreFine one → AreFine two → AreFine (one ++ two)
 fine_twice [] two f g = g
@@ -105,7 +106,7 @@ module _ {A B : Type 0} {b m c : Ends} {D : Phrase A} {F : Phrase B} where
     others = w.others ++ v.others;
     tree = v.tree;
     derives = λ behind h. subst (λ z. F v.tree z behind) (sym (append_assoc w.others v.others behind)) (v.derives behind h (w.others ++ (v.others ++ behind)) (w.derives (v.others ++ behind) (v.begins behind h)));
-    begins = λ behind h. subst (λ z. MayFollow b (spelled_by z)) (sym (append_assoc w.others v.others behind)) (w.begins (v.others ++ behind) (v.begins behind h));
+    begins = λ behind h. subst (λ z. MayFollow b (plain z)) (sym (append_assoc w.others v.others behind)) (w.begins (v.others ++ behind) (v.begins behind h));
   }
 
   completed_then : {words : List Word} {upto : List Placed} → (w : IsCompleted b m D words upto) → HasPhrase m c (Completes D w.tree F) → IsCompleted b c F words upto
@@ -113,7 +114,7 @@ module _ {A B : Type 0} {b m c : Ends} {D : Phrase A} {F : Phrase B} where
     others = w.others ++ v.others;
     tree = v.tree;
     derives = λ behind h. subst (λ z. F v.tree (upto ++ z) behind) (sym (append_assoc w.others v.others behind)) (v.derives behind h (upto ++ (w.others ++ (v.others ++ behind))) (w.derives (v.others ++ behind) (v.begins behind h)));
-    begins = λ behind h k. subst (λ z. MayFollow b (spelled_by (upto ++ z))) (sym (append_assoc w.others v.others behind)) (w.begins (v.others ++ behind) (v.begins behind h) k);
+    begins = λ behind h k. subst (λ z. MayFollow b (plain (upto ++ z))) (sym (append_assoc w.others v.others behind)) (w.begins (v.others ++ behind) (v.begins behind h) k);
   }
 
   stuck_then : {words : List Word} {s : Stop} → (first : IsStuck b m D words s) → HasPhrase m c (Completes D first.completed.tree F) → IsStuck b c F words s
@@ -125,7 +126,7 @@ module _ {A B : Type 0} {b m c : Ends} {D : Phrase A} {F : Phrase B} where
     words_are = spelled_twice first.front second.front rest words middle first.words_are second.words_are;
     fine = fine_twice first.front second.front first.fine second.fine;
     derives = λ behind h. subst (λ z. F y z behind) (sym (append_assoc first.front second.front behind)) (second.derives behind h (first.front ++ (second.front ++ behind)) (first.derives (second.front ++ behind) (second.begins behind h)));
-    begins = λ behind h k. subst (λ z. MayFollow b (spelled_by z)) (sym (append_assoc first.front second.front behind)) (first.begins (second.front ++ behind) (second.begins behind h) k);
+    begins = λ behind h k. subst (λ z. MayFollow b (plain z)) (sym (append_assoc first.front second.front behind)) (first.begins (second.front ++ behind) (second.begins behind h) k);
   }
 
   stuck_behind : {words middle : List Word} {x : A} {s : Stop} → IsFront b m D words x middle → IsStuck m c (Completes D x F) middle s → IsStuck b c F words s
@@ -142,7 +143,7 @@ module _ {A B : Type 0} {b m c : Ends} {D : Phrase A} {F : Phrase B} where
           tree = w.tree;
           derives = λ behind h. subst (λ z. F w.tree z behind) (sym (regroup first.front second.front second.last (w.others ++ behind)))
               (w.derives behind h (first.front ++ (second.front ++ second.last ++ (w.others ++ behind))) (first.derives (second.front ++ second.last ++ (w.others ++ behind)) (w.begins behind h)));
-          begins = λ behind h k. subst (λ z. MayFollow b (spelled_by z)) (sym (regroup first.front second.front second.last (w.others ++ behind)))
+          begins = λ behind h k. subst (λ z. MayFollow b (plain z)) (sym (regroup first.front second.front second.last (w.others ++ behind)))
               (first.begins (second.front ++ second.last ++ (w.others ++ behind)) (w.begins behind h) k);
         };
       }

@@ -15,7 +15,8 @@ use Rattle.ntx_parse.specs.Grammar as grammar
 use Rattle.ntx_parse.specs.Grammar.{Placed, IsPrefix, IsVar, IsVars, IsCall, IsArm, IsKind, IsStat, statement}
 use Rattle.ntx_parse.specs.Faults.{at_place}
 use Rattle.ntx_parse.specs.Reading.{Answer, Stop}
-use Rattle.ntx_parse.proofs.SoundAnswers.{Phrase, spelled_by}
+use Rattle.ntx_parse.proofs.BeginsLemmas.{plain}
+use Rattle.ntx_parse.proofs.SoundAnswers.{Phrase}
 use Rattle.ntx_parse.proofs.StuckAnswers.{no_call, MayFollow, IsCompleted, IsWrongWord, not_expected, too_deep, no_loop, HasPhrase, IsViable}
 
 -- ---- phrases that are never empty
@@ -72,7 +73,7 @@ stat_phrase p o = record {
   begins = λ behind _. refl;
 }
 
-front_lined : {p : Place} {o : Word} {words : List Word} {kind : StatKind} (rest : List Word) (front : List Placed) → o ∷ words ≡ spelled_by front ++ rest → ((behind : List Placed) → (MayFollow no_call rest → MayFollow no_call (spelled_by behind)) → IsKind p kind (front ++ behind) behind) → (behind : List Placed) → (MayFollow no_call rest → MayFollow no_call (spelled_by behind)) → IsStatAt p o kind (front ++ behind) behind
+front_lined : {p : Place} {o : Word} {words : List Word} {kind : StatKind} (rest : List Word) (front : List Placed) → o ∷ words ≡ plain front ++ rest → ((behind : List Placed) → (MayFollow no_call rest → MayFollow no_call (plain behind)) → IsKind p kind (front ++ behind) behind) → (behind : List Placed) → (MayFollow no_call rest → MayFollow no_call (plain behind)) → IsStatAt p o kind (front ++ behind) behind
 front_lined rest [] same h behind f = absurd (kind_word (h [] (λ _. refl)))
 front_lined rest (first ∷ front) same h behind f = lined (first_is same) (h behind f)
 
@@ -88,7 +89,7 @@ completed_at not_expected same w = completed_none
 completed_at (too_deep deep) same w = completed_some (first_is same) w
 completed_at (no_loop fits breaks outside) same w = completed_some (first_is same) w
 
-completed_lined : {p : Place} {o : Word} {words : List Word} {s : Stop} {last : List Placed} (front : List Placed) → o ∷ words ≡ spelled_by front ++ s.words → IsWrongWord s.why s.words last → IsCompleted no_call no_call (IsKind p) (o ∷ words) (front ++ last) → IsCompleted no_call no_call (IsStatAt p o) (o ∷ words) (front ++ last)
+completed_lined : {p : Place} {o : Word} {words : List Word} {s : Stop} {last : List Placed} (front : List Placed) → o ∷ words ≡ plain front ++ s.words → IsWrongWord s.why s.words last → IsCompleted no_call no_call (IsKind p) (o ∷ words) (front ++ last) → IsCompleted no_call no_call (IsStatAt p o) (o ∷ words) (front ++ last)
 completed_lined [] same wrong w = completed_at wrong same w
 completed_lined (first ∷ front) same wrong w = completed_some (first_is same) w
 

@@ -8,7 +8,7 @@ use Rattle.ntx_parse.specs.declared.terminal.Terminal.TheVariants as terminal
 use Rattle.ntx_parse.specs.Words.{Word}
 use Rattle.ntx_parse.specs.Grammar.{Placed, within, NotBefore, IsIndex, IsArguments}
 use Rattle.ntx_parse.specs.Reading.{Readers, and_then, begins, joined, read_name, read_index, read_arguments, suffixes_behind, read_parenthesized, read_prefix}
-use Rattle.ntx_parse.proofs.SoundAnswers.{spelled_by}
+use Rattle.ntx_parse.proofs.BeginsLemmas.{plain}
 use Rattle.ntx_parse.proofs.SoundPhrases.{IsLonger, IsWhole}
 use Rattle.ntx_parse.proofs.SoundPrefixes.{not_before, index_read, none_read, arguments_read, IsParenthesized, parenthesized_read, longer_index, longer_field, longer_call, whole_parenthesized, whole_name}
 use Rattle.ntx_parse.proofs.StuckAnswers.{any_words, no_call, MayFollow, IsViable, viable_then}
@@ -16,10 +16,10 @@ use Rattle.ntx_parse.proofs.StuckWords.{viable_read, viable_if, viable_parenthes
 use Rattle.ntx_parse.proofs.StuckPhrases.{AreViable}
 use Rattle.ntx_parse.proofs.StuckLists.{viable_name, viable_read_exps}
 
-pub no_parenthesis : (behind : List Placed) → MayFollow no_call (spelled_by behind) → NotBefore terminal.LeftParenthesis behind
-no_parenthesis behind h = not_before terminal.LeftParenthesis (spelled_by behind) h behind refl
+pub no_parenthesis : (behind : List Placed) → MayFollow no_call (plain behind) → NotBefore terminal.LeftParenthesis behind
+no_parenthesis behind h = not_before terminal.LeftParenthesis (plain behind) h behind refl
 
-longer_none : (p : Place) (before : Part) (behind : List Placed) → MayFollow no_call (spelled_by behind) → IsLonger p before before behind behind
+longer_none : (p : Place) (before : Part) (behind : List Placed) → MayFollow no_call (plain behind) → IsLonger p before before behind behind
 longer_none p before behind h = record { derives = λ start prefix. prefix; ends = no_parenthesis behind h }
 
 module _ (r : Readers) (v : AreViable r) where

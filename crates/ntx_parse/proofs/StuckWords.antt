@@ -10,7 +10,8 @@ use Rattle.ntx_parse.specs.Grammar.{Placed, IsFine, max_nesting}
 use Rattle.ntx_parse.specs.Faults.{at_place}
 use Rattle.ntx_parse.specs.Reading.{Answer, Stop, read, stopped, and_then, number, begins, taken, expected}
 use Rattle.ntx_parse.proofs.TerminalLemmas.{other_terminal, begins-is}
-use Rattle.ntx_parse.proofs.SoundAnswers.{Phrase, spelled_by, Completes, IsTaken, word_taken, IsOther, read-injective, not_read}
+use Rattle.ntx_parse.proofs.BeginsLemmas.{plain}
+use Rattle.ntx_parse.proofs.SoundAnswers.{Phrase, Completes, IsTaken, word_taken, IsOther, read-injective, not_read}
 use Rattle.ntx_parse.proofs.StuckAnswers.{Ends, any_words, no_call, MayFollow, EachHasValue, IsFront, IsWrongWord, not_expected, too_deep, IsStuck, HasPhrase, IsViable, stop-injective, viable_then}
 
 not_stopped : {A X : Type 0} {found : A × List Word} {stop : Stop} → ◌≡◌ {A = Answer A} (Some (Ok found)) (Some (Err stop)) → X
@@ -30,7 +31,7 @@ module _ {A : Type 0} {D : Phrase A} where
   pub viable_nothing : {b c : Ends} {words : List Word} → HasPhrase b c D → IsViable b c D words None
   viable_nothing w = record { whole = w; reads = λ values x rest e. absurd cc; stops = λ values s e. absurd cc }
 
-  pub viable_read : {c : Ends} {words : List Word} {x : A} → ((behind : List Placed) → (MayFollow c words → MayFollow c (spelled_by behind)) → D x behind behind) → IsViable c c D words (read x words)
+  pub viable_read : {c : Ends} {words : List Word} {x : A} → ((behind : List Placed) → (MayFollow c words → MayFollow c (plain behind)) → D x behind behind) → IsViable c c D words (read x words)
   viable_read {c} {words} {x} h = record {
     whole = record { others = []; tree = x; derives = λ behind f. h behind (λ _. f); begins = λ behind f. f };
     reads = λ values y rest e. subst (λ f. IsFront c c D words f.0 f.1) (read-injective e) (record {
@@ -67,7 +68,7 @@ module _ {A : Type 0} {D : Phrase A} where
       fine = tt;
       last = at_place o p ∷ [];
       wrong = wrong;
-      completed = let found = h values in record { others = []; tree = found.0; derives = λ behind _. found.1 behind; begins = λ behind _. first_counts b o words (spelled_by behind) };
+      completed = let found = h values in record { others = []; tree = found.0; derives = λ behind _. found.1 behind; begins = λ behind _. first_counts b o words (plain behind) };
     });
   }
 
@@ -79,7 +80,7 @@ module _ {A : Type 0} {D : Phrase A} where
       words_are = refl;
       fine = (fine, tt);
       derives = λ behind _. h behind;
-      begins = λ behind _. first_counts b o words (spelled_by behind);
+      begins = λ behind _. first_counts b o words (plain behind);
     });
     stops = λ values s e. not_stopped e;
   }
@@ -142,7 +143,7 @@ taken_phrase b p t h = record {
   others = at_place (some_word t) p ∷ [];
   tree = some_word t;
   derives = λ behind _. word_taken (record { is = refl; place = refl });
-  begins = λ behind _. first_counts b (some_word t) [] (spelled_by behind) h;
+  begins = λ behind _. first_counts b (some_word t) [] (plain behind) h;
 }
 
 taken_if : {b c : Ends} (p : Place) (t : Terminal) (o : Word) (words : List Word) (fits : Bool) → nat_le p.nesting max_nesting ≡ fits → (t ≡ terminal.Break → p.in_loop ≡ true) → o.is ≡ t → HasPhrase b c (IsTaken p t) → IsViable b c (IsTaken p t) (o ∷ words) (cond fits (read o words) (stopped why.Depth (o ∷ words)))
