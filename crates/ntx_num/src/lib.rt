@@ -14,7 +14,7 @@ mod size;
 mod squares;
 
 pub use answer::{Fail, NoMemory};
-pub use dimension::MAX_DIMENSION;
+pub use dimension::{MAX_DIMENSION, MAX_NODES, MAX_ORDER, MAX_PENALTY, is_dimension};
 pub use range::in_range;
 pub use ratio::{round_ratio, round_ratio_is_odd};
 pub use shortfall::{badness, badness_grows};

@@ -38,6 +38,8 @@ fn demerits_add_squares(rt: HostRuntime) {
 
 #[test]
 fn a_range_has_both_its_ends(rt: HostRuntime) {
+    assert!(rt; is_dimension(1_073_741_823) && is_dimension(-1_073_741_823));
+    assert!(rt; !is_dimension(1_073_741_824) && !is_dimension(-1_073_741_824));
     assert!(rt; in_range(1, 1, 2));
     assert!(rt; in_range(2, 1, 2));
     assert!(rt; !in_range(3, 1, 2));
