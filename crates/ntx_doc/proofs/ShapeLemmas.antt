@@ -62,7 +62,7 @@ rule_size-shaped (w ∷ h ∷ d ∷ x ∷ more) size e = cc
 abbrev AreRules : List Command → Type 0
 AreRules body = (sizes : List Size) × AreRuleSizes sizes × (body ≡ map Rule sizes)
 
--- The place is outside of any group, with nothing or the box before it, or in the box, behind rules.
+-- The place is outside any box, with no box or one box before it, or in the box, after rules.
 abbrev IsShapedAt : List Command → Option (List Command) → Type 0
 IsShapedAt done None = IsBoxOfRules done
 IsShapedAt done (Some body) = (done ≡ []) × AreRules body

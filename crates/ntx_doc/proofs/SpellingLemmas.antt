@@ -28,7 +28,7 @@ use Rattle.ntx_doc.proofs.FieldsLemmas.{is_field-filled}
 
 -- ---- words
 
--- a byte that may stand in a field
+-- a byte that a field may hold
 abbrev is_ink : ℕ → Bool
 is_ink byte = nat_le 33 byte && nat_le byte 126
 

@@ -1,7 +1,8 @@
 -- What a document says: its commands, or the first line that is refused and why.
--- A line stands in a place, and is refused or leads to the place of the line after it. What a document says is what its lines
--- lead to, one after the other. The form is this project's own; `hbox` and `rule` are TeX's \hbox and \vrule ("The TeXbook",
--- chapter 21).
+--     document_of bytes fonts      what a document of these bytes says
+--     after_line line place        where a line leads to from a place, or why it is refused there
+-- A place is what the lines before it say. Each line is refused, or leads from its place to the next one. The form is this
+-- project's own; `hbox` and `rule` are TeX's \hbox and \vrule ("The TeXbook", chapter 21).
 use Rattle.std.specs.Prelude.{ℕ, ◌+◌, ◌^◌, ◌==◌, nat_lt, nat_le, ◌&&◌, Bool, List, [], ◌∷◌, ◌++◌, length, ℤ, pos, negsuc, Option, None, Some, is_none, Result, Ok, Err, if◌then◌else◌, bytes_eq, codes, slice_index}
 use Rattle.std.specs.List.{list_all}
 use Rattle.std.specs.Str.Lines.{lines}
@@ -17,13 +18,13 @@ use Rattle.ntx_doc.specs.Text.{is_plain, fields_of, number_of}
 
 -- ---- refusals
 
--- a refusal for this reason, unless the test holds; then what follows
+-- what follows, if the test holds; otherwise a refusal for this reason
 abbrev pub refused_unless : {A : Type 0} → DocWhy → Bool → Result A DocWhy → Result A DocWhy
 refused_unless reason test next = if test then next else Err reason
 
 -- ---- places
 
--- Where a line stands: the commands that are finished outside of any group, and the commands so far of the group that is open.
+-- What the lines before a line say: the finished commands outside any box, and the commands of the open box so far, if one is open.
 pub record Place : Type 0 where
   pub done : List Command
   pub group : Option (List Command)
@@ -48,7 +49,7 @@ size_in field = size_from (number_of field)
 
 -- ---- commands
 
--- `hbox` opens a box of its natural width. It takes no fields, and the document has one box at most.
+-- `hbox` opens a box of its natural width. No field follows it, and a document has at most one box.
 abbrev pub may_open : Place → Bool
 may_open place = is_none place.group && length place.done == 0
 
@@ -58,7 +59,7 @@ hbox arguments place =
     (refused_unless why.Fields (length arguments == 0)
     (Ok (record { done = place.done; group = Some [] })))
 
--- `rule W H D` is a rule in a box, which has 500 at most.
+-- `rule W H D` is a rule in the box, which has at most 500.
 abbrev pub max_rules : ℕ
 max_rules = 500
 
@@ -78,7 +79,7 @@ rule_in arguments done (Some body) =
 abbrev pub rule : List (List ℕ) → Place → Result Place DocWhy
 rule arguments place = rule_in arguments place.done place.group
 
--- `end` closes the box that is open. It takes no fields.
+-- `end` closes the open box. No field follows it.
 abbrev pub end_in : List (List ℕ) → List Command → Option (List Command) → Result Place DocWhy
 end_in arguments done None = Err why.Command
 end_in arguments done (Some body) =
@@ -97,7 +98,7 @@ after_command word arguments place =
     else (if bytes_eq word (codes "end") then end arguments place
     else Err why.Command))
 
--- A line without fields says nothing, and so does one whose first field begins with a percent sign.
+-- A line without fields is skipped, and so is one whose first field begins with a percent sign.
 abbrev pub after_fields : List (List ℕ) → Place → Result Place DocWhy
 after_fields [] place = Ok place
 after_fields (word ∷ arguments) place = if slice_index word 0 == 37 then Ok place else after_command word arguments place
@@ -108,21 +109,21 @@ after_line line place = refused_unless why.Byte (list_all is_plain line) (after_
 
 -- ---- documents
 
--- what a document says whose last line has this number: a group that is still open is refused
+-- what a document says at its end, after the line of this number: a box that is still open is refused
 abbrev pub at_end : ℕ → List Command → Option (List Command) → Result (List Command) DocFault
 at_end last done None = Ok done
 at_end last done (Some body) = Err (record { line = last; why = why.Open })
 
--- what a document says where the line of this number has this answer, and the lines after it say this
+-- what a document says if the line of this number has this answer, and the lines after it say `others`
 abbrev pub at_line : ℕ → Result Place DocWhy → (Place → Result (List Command) DocFault) → Result (List Command) DocFault
 at_line number (Ok place) others = others place
 at_line number (Err reason) others = Err (record { line = number; why = reason })
 
--- what a document says of which n lines led to this place, and these lines follow
+-- what a document says if n lines led to this place and these lines follow
 abbrev pub commands_after : ℕ → List (List ℕ) → Place → Result (List Command) DocFault
 commands_after n [] place = at_end n place.done place.group
 commands_after n (line ∷ others) place = at_line (n + 1) (after_line line place) (λ after. commands_after (n + 1) others after)
 
--- what a document says where this many fonts are loaded
+-- what a document of these bytes says; the number of fonts that are loaded changes nothing
 abbrev pub document_of : List ℕ → ℕ → Result (List Command) DocFault
 document_of bytes fonts = commands_after 0 (lines bytes) first_place

@@ -1,4 +1,4 @@
--- The place in which the draft of a document stands.
+-- The place that a draft holds: what the lines read so far say. Only contracts of private calls use it.
 use Rattle.ntx_doc.specs.declared.draft.Draft.{Draft}
 use Rattle.ntx_doc.specs.Document.{Place}
 

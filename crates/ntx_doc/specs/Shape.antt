@@ -16,7 +16,7 @@ pub record IsRuleSize (size : Size) : Type 0 where
   pub height : IsRuleLength size.h
   pub depth : IsRuleLength size.d
 
--- the sizes of the rules of a box, which are not too many
+-- at most 500 sizes of rules, each in range
 pub record AreRuleSizes (sizes : List Size) : Type 0 where
   pub each : AllByRecursion IsRuleSize sizes
   pub few : length sizes ≤ max_rules

@@ -3,7 +3,7 @@ use Rattle.std.specs.Prelude.{ℕ, List, [], ◌∷◌, ◌++◌, codes, flat_ma
 use Rattle.std.specs.Fmt.{signed_decimal}
 use Rattle.ntx_num.specs.declared.size.Size.{Size}
 
--- fields with a space between each two
+-- fields separated by single spaces
 abbrev pub spaced : List (List ℕ) → List ℕ
 spaced [] = []
 spaced (field ∷ []) = field
@@ -12,9 +12,10 @@ spaced (field ∷ next ∷ others) = field ++ 32 ∷ spaced (next ∷ others)
 abbrev pub rule_fields : Size → List (List ℕ)
 rule_fields size = codes "rule" ∷ signed_decimal size.w ∷ signed_decimal size.h ∷ signed_decimal size.d ∷ []
 
--- a line of these fields, with the line feed that ends it
+-- a line of these fields, with its line feed
 abbrev pub line_of : List (List ℕ) → List ℕ
 line_of fields = spaced fields ++ 10 ∷ []
 
+-- the document of a box of rules of these sizes
 abbrev pub spelling : List Size → List ℕ
 spelling sizes = line_of (codes "hbox" ∷ []) ++ flat_map (λ size. line_of (rule_fields size)) sizes ++ line_of (codes "end" ∷ [])

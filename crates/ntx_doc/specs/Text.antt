@@ -1,4 +1,4 @@
--- A line of a document as text: the bytes that may stand in it, its fields, and the number that a field writes.
+-- A line of a document as text: the bytes that it may hold, its fields, and the number that a field writes.
 -- The form is this project's own. Lines are those of Rust's `str::lines`, and digits are decimal.
 use Rattle.std.specs.Prelude.{ℕ, ◌==◌, nat_le, ◌&&◌, ◌||◌, Bool, not, List, [], ◌∷◌, length, filter, ℤ, pos, neg_ℤ, Option, None, Some, option_map, if◌then◌else◌}
 use Rattle.std.specs.List.{slice_split, list_all}
@@ -9,7 +9,7 @@ use Rattle.std.specs.Str.Parse.{digits_value}
 abbrev pub is_blank : ℕ → Bool
 is_blank byte = byte == 32 || byte == 9
 
--- a byte that may stand in a line: a space, a printed character of ASCII, or a tab
+-- a byte that a line may hold: a space, a printed character of ASCII, or a tab
 abbrev pub is_plain : ℕ → Bool
 is_plain byte = (nat_le 32 byte && nat_le byte 126) || byte == 9
 
@@ -21,11 +21,11 @@ is_filled byte = not (is_blank byte)
 abbrev pub is_feed : ℕ → Bool
 is_feed byte = byte == 10
 
--- what stands between two blanks is a field if it is something
+-- a part between two blanks is a field if it is not empty
 abbrev pub is_field : List ℕ → Bool
 is_field part = not (length part == 0)
 
--- the fields of a line: what stands between blanks, as far as something does
+-- the fields of a line: its nonempty parts between blanks
 abbrev pub fields_of : List ℕ → List (List ℕ)
 fields_of line = filter is_field (slice_split is_blank line)
 
@@ -37,7 +37,7 @@ is_numeral digits = nat_le 1 (length digits) && nat_le (length digits) 10 && lis
 abbrev pub natural_of : List ℕ → Option ℕ
 natural_of digits = if is_numeral digits then Some (digits_value 10 digits) else None
 
--- the number that a field writes: digits, behind a minus sign the number below 0
+-- the number that a field writes: an optional minus sign and digits
 abbrev pub number_of : List ℕ → Option ℤ
 number_of [] = None
 number_of (byte ∷ bytes) =

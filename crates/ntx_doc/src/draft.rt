@@ -1,4 +1,4 @@
-//! A document that is read line by line.
+//! The state of a document that is read line by line.
 
 ghost use Rattle.std.specs.Prelude.{◌≡◌, ◌≢◌, [], ◌∷◌, length, MatchOption, slice_index, ◌==◌};
 ghost use Rattle.ntx_num.specs.Answer.{Answers, result_map};
@@ -19,12 +19,12 @@ const MAX_RULES: usize = 500;
 /// The greatest width, height and depth of a rule, in scaled points.
 const MAX_SIZE: i64 = 1 << 20;
 
-/// What the lines so far say.
+/// What the lines read so far say.
 #[derive(Drop)]
 pub struct Draft {
     /// The commands outside of the box.
     pub done: Vec<Command>,
-    /// The commands so far of the box that is open, if one is.
+    /// The commands of the open box read so far, if a box is open.
     pub group: Option<Items<Command>>,
 }
 
@@ -41,7 +41,7 @@ impl Draft {
         }
     }
 
-    /// The draft behind this line.
+    /// The draft after this line.
     pub fn after_line(self, alloc: Global, line: &[u8]) -> Result<Draft, Fail<DocWhy>>
         ensures { Answers (result_map place_of result)
             (document.after_line line.now (place_of self)) }
@@ -55,7 +55,7 @@ impl Draft {
         }
     }
 
-    /// The draft behind a line of which `word` is the first field, and `arguments` has the others.
+    /// The draft after a line with the first field `word`; `arguments` holds the other fields.
     fn after_fields(
         self,
         alloc: Global,
@@ -72,7 +72,7 @@ impl Draft {
         }
     }
 
-    /// The draft behind the command `word` with the fields of `arguments`.
+    /// The draft after the command `word` with the fields of `arguments`.
     fn after_command(
         self,
         alloc: Global,
@@ -93,7 +93,7 @@ impl Draft {
         }
     }
 
-    /// The draft behind `hbox`, which opens the box.
+    /// The draft after `hbox`, which opens the box.
     fn after_hbox(self, alloc: Global, arguments: &[u8]) -> Result<Draft, Fail<DocWhy>>
         ensures { Answers (result_map place_of result)
             (document.hbox (fields_of arguments.now) (place_of self)) }
@@ -111,7 +111,7 @@ impl Draft {
         })
     }
 
-    /// The draft behind `rule W H D`, which puts a rule into the box.
+    /// The draft after `rule W H D`, which puts a rule into the box.
     fn after_rule(self, arguments: &[u8]) -> Result<Draft, Fail<DocWhy>>
         ensures { Answers (result_map place_of result)
             (document.rule (fields_of arguments.now) (place_of self)) }
@@ -135,7 +135,7 @@ impl Draft {
         }
     }
 
-    /// The draft behind `end`, which closes the box.
+    /// The draft after `end`, which closes the box.
     fn after_end(self, arguments: &[u8]) -> Result<Draft, Fail<DocWhy>>
         ensures { Answers (result_map place_of result)
             (document.end (fields_of arguments.now) (place_of self)) }
@@ -155,14 +155,14 @@ impl Draft {
     }
 }
 
-/// Whether a line whose first field this is says nothing: it begins with a percent sign.
+/// Whether a line with this first field is a comment: the field begins with a percent sign.
 fn is_comment(word: &[u8]) -> bool
     ensures { result ≡ (slice_index word.now 0 == 37) }
 {
     word.first() == Some(&b'%')
 }
 
-/// The three fields of a line, if it has just three.
+/// The three fields of a line, if it has exactly three.
 fn three_fields(line: &[u8]) -> Option<(&[u8], &[u8], &[u8])>
     ensures { MatchOption result (length (fields_of line.now) ≢ 3)
         (λ found. fields_of line.now ≡ found.0.now ∷ found.1.now ∷ found.2.now ∷ []) }
@@ -176,7 +176,7 @@ fn three_fields(line: &[u8]) -> Option<(&[u8], &[u8], &[u8])>
     }
 }
 
-/// A width, a height or a depth of a rule, from 0 to 2^20 scaled points.
+/// The width, the height or the depth that a field writes, from 0 to 2^20 scaled points.
 fn size_in(field: &[u8]) -> Result<i64, DocWhy>
     ensures { result ≡ document.size_in field.now }
 {

@@ -6,19 +6,19 @@ ghost use Rattle.ntx_doc.specs.Why.{why_text};
 /// What is wrong with a line, or with the document as a whole.
 #[derive(Clone, Copy, Debug, PartialEq, Eq)]
 pub enum DocWhy {
-    /// A byte that may not stand in a line: any but 32 to 126 and the tab.
+    /// A byte that a line may not hold: any other than 32 to 126 and the tab.
     Byte,
-    /// A first field that is no command, or a command that may not stand in this place, a 501st rule among them.
+    /// A first field that is no command, or a command that may not stand in this place; this includes a 501st rule.
     Command,
-    /// Any field behind `hbox` or `end`, or other than three behind `rule`.
+    /// A field after `hbox` or `end`, or not exactly three after `rule`.
     Fields,
-    /// A field that is no number. A number is 1 to 10 decimal digits, behind a `-` or not.
+    /// A field that is not a number. A number is an optional `-` and 1 to 10 decimal digits.
     Number,
-    /// A number out of its range, which is from 0 to 2^20 scaled points.
+    /// A number outside its range of 0 to 2^20 scaled points.
     Range,
-    /// A box that the document does not close.
+    /// The document ends and its box is not closed.
     Open,
-    /// More bytes than a document may have. No call of this crate gives it: it is given by who takes the bytes in.
+    /// More bytes than a document may have. No call of this crate gives it: the caller that reads the bytes does.
     Size,
 }
 
@@ -42,7 +42,7 @@ impl DocWhy {
 /// A refused document: the line, and what is wrong there.
 #[derive(Clone, Copy, Debug, PartialEq, Eq)]
 pub struct DocFault {
-    /// The number of the line, from 1; 0 where the document as a whole is too large.
+    /// The number of the line, from 1; 0 if the document as a whole is too large.
     pub line: u64,
     /// What is wrong there.
     pub why: DocWhy,

@@ -14,23 +14,25 @@ use crate::text::next_line;
 use ntx_num::Fail;
 use std::alloc::Global;
 
-/// The commands of a document. `fonts` is the number of fonts that are loaded; no line names one.
+/// The commands of a document. `fonts` is the number of fonts that are loaded; it changes nothing, since no line names a
+/// font.
 ///
-/// Lines are ended by LF, and the last LF may be missing; one CR directly before an LF is dropped. A line has bytes
-/// 32 to 126 and tabs. Spaces and tabs separate its fields. A line without fields, or whose first field begins with
-/// `%`, is skipped. What remains is nothing, or `hbox`, up to 500 lines `rule W H D` with numbers from 0 to 2^20 in
-/// scaled points, and `end`. A number is 1 to 10 decimal digits, behind a `-` or not.
+/// A line ends with LF; the last LF may be missing, and one CR directly before an LF is dropped. A line holds bytes 32
+/// to 126 and tabs. Spaces and tabs separate its fields. A line without fields is skipped, and so is one whose first
+/// field begins with `%`. Without skipped lines a document is empty, or `hbox`, up to 500 lines `rule W H D` with numbers
+/// from 0 to 2^20 in scaled points, and `end`. A number is an optional `-` and 1 to 10 decimal digits.
 ///
 /// # Refusals
 ///
-/// The first line that is refused decides, counted from 1 with the skipped ones, and in it the first of these reasons:
+/// The first line that is refused decides. Lines are counted from 1, including the skipped ones. In this line the first
+/// of these reasons counts:
 ///
-/// - `Byte`: a byte that may not stand, in a skipped line too;
-/// - `Command`: a first field that is no command, `rule` or `end` outside of the box, a second `hbox`, a 501st rule;
-/// - `Fields`: other fields than none behind `hbox` and `end`, or than three behind `rule`;
-/// - then, for each field from the left, `Number`: no number, and `Range`: a number outside of 0 to 2^20.
+/// - `Byte`: a byte that a line may not hold; this includes skipped lines;
+/// - `Command`: a first field that is no command, `rule` or `end` outside the box, a second `hbox`, a 501st rule;
+/// - `Fields`: a field after `hbox` or `end`, or not exactly three after `rule`;
+/// - for each field of `rule`, from the left: `Number`, not a number, and then `Range`, not from 0 to 2^20.
 ///
-/// `Open`, at the number of the last line, is a box that the document does not close.
+/// `Open`, with the number of the last line: the document ends and the box is not closed.
 pub fn read_doc(alloc: Global, bytes: &[u8], fonts: u64) -> Result<Vec<Command>, Fail<DocFault>>
     ensures document { Answers (result_map (λ commands. commands.items) result) (document_of bytes.now fonts) }
     ensures shape { IfOk result (λ commands. IsBoxOfRules commands.items) }
@@ -58,8 +60,7 @@ pub fn read_doc(alloc: Global, bytes: &[u8], fonts: u64) -> Result<Vec<Command>,
     }
 }
 
-/// Each box of up to 500 rules, with sizes from 0 to 2^20 scaled points, has a document that says it: a law of the
-/// format.
+/// The law that each box of up to 500 rules, with sizes from 0 to 2^20 scaled points, has a document that says it.
 pub fn each_box_has_a_document()
     ensures { (sizes : List Size) (fonts : ℕ) → AreRuleSizes sizes →
         document_of (spelling sizes) fonts ≡ Ok (box_of sizes ∷ []) }

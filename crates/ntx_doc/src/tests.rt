@@ -4,7 +4,7 @@ use ntx_num::{Fail, Size};
 use std::process::Abort;
 use std::test::Fail as TestFail;
 
-/// What is refused of a document, or nothing where it is accepted.
+/// The fault of a document, or nothing if it is accepted.
 fn fault_of<R: Abort + AllocGlobal>(rt: &R, bytes: &[u8]) -> Option<DocFault> {
     match read_doc(rt.alloc(), bytes, 0) {
         Ok(_) => None,
@@ -25,7 +25,7 @@ fn refuses_the_first_fault_of_the_first_line(rt: HostRuntime) {
         (b"hbox\nend\nhbox\nend", 3, DocWhy::Command),
         (b"hbox\nend\nrule 1 1 1", 3, DocWhy::Command),
         (b"hbox\nend\nend", 3, DocWhy::Command),
-        // Bytes that may not stand, in a skipped line too, and carriage returns that are not just before a line feed.
+        // Bytes that a line may not hold, also in a skipped line, and carriage returns that are not directly before a line feed.
         (b"\n\x1f", 2, DocWhy::Byte),
         (b"\n%\x7f", 2, DocWhy::Byte),
         (b"hbox\r\nend\r", 2, DocWhy::Byte),

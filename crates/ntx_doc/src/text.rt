@@ -10,14 +10,14 @@ ghost use Rattle.ntx_doc.specs.Text as text;
 /// The most digits that a number has.
 const MAX_DIGITS: usize = 10;
 
-/// Whether a byte may stand in a line: a space, a printed character of ASCII, or a tab.
+/// Whether a line may hold this byte: a space, a printed character of ASCII, or a tab.
 fn is_plain(byte: u8) -> bool
     ensures { result ≡ text.is_plain byte }
 {
     (32 <= byte && byte <= 126) || byte == b'\t'
 }
 
-/// Whether each byte may stand in a line.
+/// Whether a line may hold each of these bytes.
 pub fn are_plain(line: &[u8]) -> bool
     ensures { result ≡ list_all text.is_plain line.now }
 {
@@ -42,28 +42,28 @@ fn without_return(line: &[u8]) -> &[u8]
     }
 }
 
-/// Where the first LF stands.
+/// The place of the first LF.
 fn first_feed(bytes: &[u8]) -> Option<usize>
     ensures { result ≡ position text.is_feed bytes.now }
 {
     bytes.iter().position(|byte| *byte == b'\n')
 }
 
-/// Where the first byte stands that is no blank.
+/// The place of the first byte that is not a blank.
 fn first_filled(line: &[u8]) -> Option<usize>
     ensures { result ≡ position text.is_filled line.now }
 {
     line.iter().position(|byte| !is_blank(*byte))
 }
 
-/// Where the first blank stands.
+/// The place of the first blank.
 fn first_blank(line: &[u8]) -> Option<usize>
     ensures { result ≡ position text.is_blank line.now }
 {
     line.iter().position(|byte| is_blank(*byte))
 }
 
-/// The first line of a text, without what ends it, and the text behind.
+/// The first line of a text without its LF or CR LF, and the text after it.
 pub fn next_line(bytes: &[u8]) -> Option<(&[u8], &[u8])>
     ensures lines { MatchOption result (lines bytes.now ≡ [])
         (λ found. lines bytes.now ≡ found.0.now ∷ lines found.1.now) }
@@ -78,7 +78,7 @@ pub fn next_line(bytes: &[u8]) -> Option<(&[u8], &[u8])>
     }
 }
 
-/// The first field of a line, and the line behind it.
+/// The first field of a line, and the rest of the line.
 pub fn next_field(line: &[u8]) -> Option<(&[u8], &[u8])>
     ensures { MatchOption result (text.fields_of line.now ≡ [])
         (λ found. text.fields_of line.now ≡ found.0.now ∷ text.fields_of found.1.now) }
@@ -130,7 +130,7 @@ fn natural(digits: &[u8]) -> Option<i64>
     }
 }
 
-/// The number that a field writes: 1 to 10 decimal digits, behind a minus sign the number below 0.
+/// The number that a field writes: an optional minus sign and 1 to 10 decimal digits.
 pub fn number(field: &[u8]) -> Option<i64>
     ensures { result ≡ text.number_of field.now }
 {
