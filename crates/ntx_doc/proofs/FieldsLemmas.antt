@@ -34,7 +34,7 @@ skip (byte ∷ bytes) =
           ∙ sym (ap (λ n. fields_of (drop n (byte ∷ bytes))) (position_later is_filled byte bytes blank) ∙ ap fields_of (drop_more (position_or_len is_filled bytes) byte bytes))
     ]
 
--- The blanks at the front are in no field.
+-- Leading blanks are in no field.
 pub fields_skip : (line : List ℕ) (start : ℕ) → Some start ≡ position is_filled line → fields_of line ≡ fields_of (drop start line)
 fields_skip line start found =
     skip line ∙ ap (λ n. fields_of (drop n line)) (sym (position_found is_filled line start (sym found)).0)
