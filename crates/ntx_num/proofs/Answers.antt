@@ -1,4 +1,4 @@
--- What equal answers hold, and what is behind an Ok.
+-- What equal answers hold, and what an Ok came from.
 use Rattle.std.proofs.Common.{◌≡◌, Bool, true, false, cond, Some, Ok, Err, refl}
 use Rattle.std.specs.Prelude.{Result}
 use Rattle.ntx_num.specs.Answer.{result_map, result_and_then}

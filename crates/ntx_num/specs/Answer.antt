@@ -3,7 +3,7 @@
 --     Steps, StepsAtOnce  a call that is one step of a stated machine
 --     Traces              a call that goes through several states and may stop among them
 --     result_map, result_and_then      as Rust's `map` and `and_then`: an answer with its value seen in another way; one answer after another
--- Want of memory is the one answer that no definition predicts: each word says what stands after it.
+-- Out of memory is the one answer that no definition predicts: each word says what stands after it.
 use Rattle.std.specs.Prelude.{◌≡◌, List, ◌∷◌, [], ◌++◌, Contains, Result, Ok, Err}
 use Rattle.ntx_num.specs.declared.answer.Fail.{Fail}
 use Rattle.ntx_num.specs.declared.answer.Fail.TheVariants.{NoMemory, Is}
@@ -28,7 +28,7 @@ Answers (Ok a) answer = answer ≡ Ok a
 Answers (Err (Is e)) answer = answer ≡ Err e
 Answers (Err NoMemory) answer = Unit {0}
 
--- The call gives what the step gives: its value and the new state, or its refusal and the old state. Want of memory changes nothing.
+-- The call gives what the step gives: its value and the new state, or its refusal and the old state. Running out of memory changes nothing.
 abbrev pub Steps : {S A E : Type 0} → Result A (Fail E) → S → S → Result (A × S) E → Type 0
 Steps (Ok a) old new step = step ≡ Ok (a, new)
 Steps (Err (Is e)) old new step = (step ≡ Err e) × (new ≡ old)

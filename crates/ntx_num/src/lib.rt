@@ -1,4 +1,4 @@
-//! Numbers and answers that every crate of `ntx` speaks of: want of memory and refusals as values, sizes in scaled
+//! Numbers and answers that every crate of `ntx` uses: out of memory and refusals as values, sizes in scaled
 //! points, tests of ranges, and the arithmetic of glue and lines: badness, rounded ratios and demerits.
 //!
 //! It stands on `std` alone. Badness and demerits are those of "TeX: The Program", and rounded ratios take the place of
