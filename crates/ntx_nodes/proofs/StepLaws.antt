@@ -1,6 +1,7 @@
 -- Each step of a lawful heap leaves a lawful heap.
 use Rattle.std.proofs.Common.{◌≡◌, ℕ, ℤ, pos, ◌<◌, ◌≤◌, Some, None, Ok, Err, refl, sym, ◌∙◌, ap, subst, arith}
 use Rattle.std.specs.Prelude.{Option, Result, IfSome}
+use Rattle.std.specs.Ordering.{nat_cmp}
 use Rattle.std.specs.FinMap as map
 use Rattle.std.proofs.lemmas.Int.{ints}
 use Rattle.ntx_num.specs.Answer.{result_map, Steps}
@@ -202,7 +203,30 @@ wear_current_step-lawful heap n r l e =
     let at = at_Ok {A = Unit {0} × Heap} heap n (λ node. Ok (tt, put_attributes heap n node heap.current)) r e in
     left _ _ r refl at.gives (put_attributes-lawful heap n at.node heap.current l at.is l.current)
 
--- the same where attributes may have been set
+attributes_kept : (heap : Heap) (n : ℕ) (nodes : map.FinMap nat_cmp Node) (r : Result (Unit {0}) (Fail Trouble)) (change : Attributes → Result Attributes Trouble) (o : Option Node) → map.get heap.nodes n ≡ o
+    → ((a b : Attributes) → AreLawful a → change a ≡ Ok b → AreLawful b) → IsLawful heap
+    → Steps r heap.nodes nodes (of_found n (λ (node : Node). result_map {B = Unit {0} × map.FinMap nat_cmp Node} (λ b. (tt, map.insert heap.nodes n (record node { attributes = b }))) (change node.attributes)) o)
+    → IsLawful (record heap { nodes = nodes })
+attributes_kept heap n nodes (Ok u) change None at keeps l s = cc
+attributes_kept heap n nodes (Ok u) change (Some node) at keeps l s =
+    let m = mapped_Ok {B = Unit {0} × map.FinMap nat_cmp Node} (λ b. (tt, map.insert heap.nodes n (record node { attributes = b }))) (change node.attributes) (u, nodes) s in
+    subst (λ (x : map.FinMap nat_cmp Node). IsLawful (record heap { nodes = x })) (ap (λ p. p.1) m.gives) (put_attributes-lawful heap n node m.value l at (keeps node.attributes m.value (l.nodes n node at).attributes m.is))
+attributes_kept heap n nodes (Err (Is why)) change o at keeps l s = subst (λ (x : map.FinMap nat_cmp Node). IsLawful (record heap { nodes = x })) (sym s.1) l
+attributes_kept heap n nodes (Err NoMemory) change o at keeps l s = subst (λ (x : map.FinMap nat_cmp Node). IsLawful (record heap { nodes = x })) (sym s) l
+
+-- attributes of a node that may have been set,
+pub set_attr-kept : (heap : Heap) (n : ℕ) (id v : ℤ) (nodes : map.FinMap nat_cmp Node) (r : Result (Unit {0}) (Fail Trouble)) → IsLawful heap
+    → Steps r heap.nodes nodes (of_found n (λ (node : Node). result_map {B = Unit {0} × map.FinMap nat_cmp Node} (λ b. (tt, map.insert heap.nodes n (record node { attributes = b }))) (with_attribute node.attributes id v)) (map.get heap.nodes n))
+    → IsLawful (record heap { nodes = nodes })
+set_attr-kept heap n id v nodes r l s = attributes_kept heap n nodes r (λ a. with_attribute a id v) (map.get heap.nodes n) refl (λ a b lawful e. with_attribute-lawful a b id v lawful e) l s
+
+-- or taken off,
+pub unset_attr-kept : (heap : Heap) (n : ℕ) (id : ℤ) (nodes : map.FinMap nat_cmp Node) (r : Result (Unit {0}) (Fail Trouble)) → IsLawful heap
+    → Steps r heap.nodes nodes (of_found n (λ (node : Node). Ok (tt, map.insert heap.nodes n (record node { attributes = map.remove node.attributes id }))) (map.get heap.nodes n))
+    → IsLawful (record heap { nodes = nodes })
+unset_attr-kept heap n id nodes r l s = attributes_kept heap n nodes r (λ a. Ok (map.remove a id)) (map.get heap.nodes n) refl (λ a b lawful e. subst AreLawful (same_Ok _ b e) (remove_attribute-lawful a id lawful)) l s
+
+-- and current attributes that may have been set
 pub set_current-kept : (heap : Heap) (new : Attributes) (id v : ℤ) (r : Result (Unit {0}) (Fail Trouble)) → IsLawful heap
     → Steps r heap.current new (result_map {B = Unit {0} × Attributes} (λ a. (tt, a)) (with_attribute heap.current id v)) → IsLawful (record heap { current = new })
 set_current-kept heap new id v (Ok u) l e =

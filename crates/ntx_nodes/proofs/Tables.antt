@@ -11,9 +11,11 @@ use Rattle.std.specs.FinMap as map
 use Rattle.std.specs.FinSet as set
 use Rattle.std.proofs.lemmas.List.{length-map}
 use Rattle.std.proofs.lemmas.Map.Made.{lookup-map_values, keys_of-map_values}
-use Rattle.ntx_nodes.specs.Plain.{Slots, slot_at, Puts, nodes_of, visited_of, last_walk, IsCounted}
-use Rattle.ntx_num.specs.Answer.{StepsAtOnce}
-use Rattle.ntx_nodes.specs.Heap.{Names}
+use Rattle.ntx_nodes.specs.Plain.{Slots, slot_at, Puts, ChangesAttributes, nodes_of, visited_of, last_walk, IsCounted}
+use Rattle.ntx_num.specs.Answer.{result_map, Steps, StepsAtOnce}
+use Rattle.ntx_num.specs.declared.answer.Fail.{Fail}
+use Rattle.ntx_num.specs.declared.answer.Fail.TheVariants.{NoMemory, Is}
+use Rattle.ntx_nodes.specs.Heap.{Attributes, Names}
 use Rattle.ntx_nodes.specs.Steps.{of_found}
 use Rattle.ntx_nodes.specs.declared.trouble.Trouble.{Trouble}
 use Rattle.ntx_nodes.specs.declared.trouble.Trouble.TheVariants.{Stale}
@@ -158,6 +160,15 @@ counted_marked walk old new n r counted live dead =
       | Some slot ↦ λ live dead. counted_put walk old new n _ counted live.1 (omega arith)
     ] live dead
 
+-- the attributes of a slot's node change, where there is one
+pub counted_attributes : (walk : ℕ) (old new : Slots) (n : ℕ) (r : Result (Unit {0}) (Fail Trouble)) (change : Attributes → Result Attributes Trouble) → IsCounted walk old
+    → IfSome (slot_at old n) (λ slot. ChangesAttributes old new n slot (change slot.node.attributes) r) → IfNone (slot_at old n) ((r ≡ Err (Is (Stale n))) × (new ≡ old)) → IsCounted walk new
+counted_attributes walk old new n r change counted live dead =
+    elim (slot_at old n) as (λ o. last_walk o ≤ walk → IfSome o (λ slot. ChangesAttributes old new n slot (change slot.node.attributes) r) → IfNone o ((r ≡ Err (Is (Stale n))) × (new ≡ old)) → IsCounted walk new) [
+      | None ↦ λ low live dead. subst (IsCounted walk) (sym dead.1) counted
+      | Some slot ↦ λ low live dead. counted_put walk old new n _ counted live.2 low
+    ] (counted.1 n) live dead
+
 -- ---- the calls of a table
 pub node_found : (slots : Slots) (m : map.FinMap nat_cmp Node) (n : ℕ) (o : Option Slot) → nodes_of slots ≡ m → slot_at slots n ≡ o → option_map (λ slot. slot.node) o ≡ map.get m n
 node_found slots m n o is at = sym (ap (λ k. map.get k n) (sym is) ∙ get-nodes_of slots n ∙ ap (option_map (λ slot. slot.node)) at)
@@ -178,6 +189,42 @@ node_changed walk old new m v n g is marks live dead =
         subst (λ o. IfNone o (nodes_of new ≡ m)) (node_found old m n (Some slot) is at) tt,
         visited_of-kept walk old new n _ live (sym (ap (is_visited walk) at)) ∙ marks,
       )
+    ] refl live dead
+
+insert_same : (m : map.FinMap nat_cmp Node) (n : ℕ) (node : Node) → map.get m n ≡ Some node → map.insert m n node ≡ m
+insert_same m n node at = map.same_map nat_cmp_total map.nat_cmp-IsAntisymmetric (map.insert m n node) m (λ q.
+    map.get-insert nat_cmp_total m n node q
+    ∙ elim (eq_by_cmp nat_cmp q n) as (λ b. eq_by_cmp nat_cmp q n ≡ b → cond b (Some node) (map.get m q) ≡ map.get m q) [
+      | true ↦ λ t. sym at ∙ ap (map.get m) (sym (map.nat_cmp-IsAntisymmetric q n ((Equal-is (nat_cmp q n)).0 t)))
+      | false ↦ λ t. refl
+    ] refl)
+
+-- attributes that change, or stay
+attributes_put : (r : Result (Unit {0}) (Fail Trouble)) (change : Result Attributes Trouble) (m new : map.FinMap nat_cmp Node) (n : ℕ) (node : Node) (a : Attributes)
+    → Steps r node.attributes a (result_map {B = Unit {0} × Attributes} (λ b. (tt, b)) change) → new ≡ map.insert m n (record node { attributes = a }) → map.get m n ≡ Some node
+    → Steps r m new (result_map {B = Unit {0} × map.FinMap nat_cmp Node} (λ b. (tt, map.insert m n (record node { attributes = b }))) change)
+attributes_put (Ok u) (Ok b) m new n node a s is at =
+    let same : b ≡ a = cc in ap (λ (x : map.FinMap nat_cmp Node). Ok (tt, x)) (ap (λ x. map.insert m n (record node { attributes = x })) same ∙ sym is)
+attributes_put (Ok u) (Err why) m new n node a s is at = cc
+attributes_put (Err (Is e)) (Ok b) m new n node a s is at = (let no = s.0 in cc, is ∙ ap (λ x. map.insert m n (record node { attributes = x })) s.1 ∙ insert_same m n node at)
+attributes_put (Err (Is e)) (Err why) m new n node a s is at = (let no = s.0 in cc, is ∙ ap (λ x. map.insert m n (record node { attributes = x })) s.1 ∙ insert_same m n node at)
+attributes_put (Err NoMemory) change m new n node a s is at = is ∙ ap (λ x. map.insert m n (record node { attributes = x })) s ∙ insert_same m n node at
+
+pub attributes_changed : (walk : ℕ) (old new : Slots) (m : map.FinMap nat_cmp Node) (v : Names) (n : ℕ) (r : Result (Unit {0}) (Fail Trouble)) (change : Attributes → Result Attributes Trouble) → nodes_of old ≡ m → visited_of walk old ≡ v
+    → IfSome (slot_at old n) (λ slot. ChangesAttributes old new n slot (change slot.node.attributes) r) → IfNone (slot_at old n) ((r ≡ Err (Is (Stale n))) × (new ≡ old))
+    → Steps r m (nodes_of new) (of_found n (λ (node : Node). result_map {B = Unit {0} × map.FinMap nat_cmp Node} (λ b. (tt, map.insert m n (record node { attributes = b }))) (change node.attributes)) (map.get m n)) × (visited_of walk new ≡ v)
+attributes_changed walk old new m v n r change is marks live dead =
+    let f : Node → Result (Unit {0} × map.FinMap nat_cmp Node) Trouble = λ node. result_map (λ b. (tt, map.insert m n (record node { attributes = b }))) (change node.attributes) in
+    elim (slot_at old n) as (λ o. slot_at old n ≡ o → IfSome o (λ slot. ChangesAttributes old new n slot (change slot.node.attributes) r) → IfNone o ((r ≡ Err (Is (Stale n))) × (new ≡ old)) → Steps r m (nodes_of new) (of_found n f (map.get m n)) × (visited_of walk new ≡ v)) [
+      | None ↦ λ at live dead. (
+        subst (λ o. Steps r m (nodes_of new) (of_found n f o)) (node_found old m n None is at) (subst (λ x. Steps x m (nodes_of new) (Err (Stale n))) (sym dead.0) (refl, ap nodes_of dead.1 ∙ is)),
+        ap (visited_of walk) dead.1 ∙ marks,
+      )
+      | Some slot ↦ λ at live dead.
+          let there = node_found old m n (Some slot) is at in (
+            subst (λ o. Steps r m (nodes_of new) (of_found n f o)) there (attributes_put r (change slot.node.attributes) m (nodes_of new) n slot.node live.0 live.1 (nodes_of-put old new n _ live.2 ∙ ap (λ k. map.insert k n (record slot.node { attributes = live.0 })) is) (sym there)),
+            visited_of-kept walk old new n _ live.2 (sym (ap (is_visited walk) at)) ∙ marks,
+          )
     ] refl live dead
 
 unvisited : (walk : ℕ) (o : Option Slot) → option_map (λ slot. slot.node) o ≡ None → is_visited walk o ≡ false

@@ -1,13 +1,16 @@
 -- How a plain heap keeps its nodes: slots by name, each with a node and the number of the walk that last visited it.
-use Rattle.std.specs.Prelude.{◌≡◌, ◌≤◌, ℕ, nat_eq, cond, List, [], ◌∷◌, map, Option, None, Some, if◌then◌else◌}
+use Rattle.std.specs.Prelude.{◌≡◌, ◌≤◌, ℕ, nat_eq, cond, List, [], ◌∷◌, map, Option, None, Some, Result, if◌then◌else◌}
 use Rattle.std.specs.Ordering.{nat_cmp}
 use Rattle.std.specs.Map.{lookup}
 use Rattle.std.specs.BTreeMap.{is_at}
 use Rattle.std.specs.FinMap.{FinMap, from_entries}
 use Rattle.std.specs.FinSet as set
-use Rattle.ntx_nodes.specs.Heap.{Names}
+use Rattle.ntx_num.specs.Answer.{result_map, Steps}
+use Rattle.ntx_num.specs.declared.answer.Fail.{Fail}
+use Rattle.ntx_nodes.specs.Heap.{Attributes, Names}
 use Rattle.ntx_nodes.specs.declared.node.Node.{Node}
 use Rattle.ntx_nodes.specs.declared.table.Slot.{Slot}
+use Rattle.ntx_nodes.specs.declared.trouble.Trouble.{Trouble}
 
 -- the slots by name, in order
 abbrev pub Slots : Type 0
@@ -20,6 +23,12 @@ slot_at slots n = lookup (is_at (nat_cmp n)) slots
 -- the slot of this name is another, and all else is as it was
 abbrev pub Puts : Slots → Slots → ℕ → Option Slot → Type 0
 Puts old new n slot = (q : ℕ) → slot_at new q ≡ cond (is_at (nat_cmp n) q) slot (slot_at old q)
+
+-- The attributes of the node in a slot are changed as stated, or stay where the change is refused or memory runs out.
+abbrev pub ChangesAttributes : Slots → Slots → ℕ → Slot → Result Attributes Trouble → Result (Unit {0}) (Fail Trouble) → Type 0
+ChangesAttributes old new n slot change result =
+    (a : Attributes) × Steps result slot.node.attributes a (result_map (λ b. (tt, b)) change)
+    × Puts old new n (Some (record slot { node = record slot.node { attributes = a } }))
 
 -- the nodes in slots
 abbrev pub nodes_of : Slots → FinMap nat_cmp Node

@@ -67,6 +67,10 @@ free_one_step n heap = at heap n (λ _. Ok (tt, record heap { nodes = map.remove
 abbrev pub kind_answer : ℕ → Heap → Result (Kind × ℕ) Trouble
 kind_answer n heap = at heap n (λ node. Ok (kind_of node.fields.contents, node.fields.subtype))
 
+-- all the fields of a node
+abbrev pub fields_answer : ℕ → Heap → Result Fields Trouble
+fields_answer n heap = at heap n (λ node. Ok node.fields)
+
 abbrev pub get_answer : ℕ → Field → Heap → Result FieldValue Trouble
 get_answer n f heap = at heap n (λ node. field_of node.fields f)
 

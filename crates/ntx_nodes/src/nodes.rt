@@ -1,6 +1,6 @@
 //! The heap of nodes as a trait.
 
-ghost use Rattle.std.specs.Prelude.{◌≡◌, ◌≢◌, ℕ, ◌≤◌, ◌<◌, ◌+◌, ◌-◌, Bool, false, OnOk, OnErr, Some, Err};
+ghost use Rattle.std.specs.Prelude.{◌≡◌, ◌≢◌, ℕ, ◌≤◌, ◌<◌, ◌+◌, ◌-◌, Bool, false, OnOk, OnErr, Some, Ok, Err};
 ghost use Rattle.std.specs.FinMap as map;
 ghost use Rattle.std.specs.FinSet as set;
 ghost use Rattle.ntx_num.specs.Answer.{Steps, StepsAtOnce};
@@ -8,10 +8,10 @@ ghost use Rattle.ntx_nodes.specs.declared.kind.Kind.{Kind};
 ghost use Rattle.ntx_nodes.specs.declared.node.Node.{Node};
 ghost use Rattle.ntx_nodes.specs.Fields.{kind_of, last_subtype};
 ghost use Rattle.ntx_nodes.specs.Heap.{Heap, Names, IsLawful, AreLive, max_nodes};
-ghost use Rattle.ntx_nodes.specs.Steps.{make_step, copy_one_step, free_one_step, kind_answer, get_answer, set_step, set_ratio_step, attr_answer, set_attr_step, unset_attr_step, same_attrs_step, set_current_step, unset_current_step, wear_current_step, visit_step};
+ghost use Rattle.ntx_nodes.specs.Steps.{make_step, copy_one_step, free_one_step, kind_answer, fields_answer, get_answer, set_step, set_ratio_step, attr_answer, set_attr_step, unset_attr_step, same_attrs_step, set_current_step, unset_current_step, wear_current_step, visit_step};
 
-use crate::{Field, FieldValue, Kind, Ratio, Trouble};
-use ntx_num::Fail;
+use crate::{Field, FieldValue, Fields, Kind, Ratio, Trouble};
+use ntx_num::{Fail, NoMemory};
 
 /// A heap of nodes, whichever way it is kept (LuaTeX Reference Manual, chapter "Nodes").
 ///
@@ -54,11 +54,16 @@ pub trait Nodes: Drop {
     fn free_one(&mut self, n: u64) -> Result<(), Trouble>
         ensures step { StepsAtOnce result (heap self.old) (heap self.new) (free_one_step n (heap self.old)) }
         ensures freed { OnOk result (visited self.new ≡ set.remove (visited self.old) n) }
-        ensures refused { OnErr result (visited self.new ≡ visited self.old) };
+        ensures refused { OnErr result (visited self.new ≡ visited self.old) }
+        ensures keeps { (each : Kind) → spare_of self.old each ≤ spare_of self.new each };
 
     /// The kind and the subtype of a node. Refuses with Stale of a dead `n`.
     fn kind_of(&self, n: u64) -> Result<(Kind, u8), Trouble>
         ensures { result ≡ kind_answer n (heap self.now) };
+
+    /// All the fields of a node. Refuses with Stale of a dead `n`.
+    fn fields(&self, n: u64) -> Result<Fields, Trouble>
+        ensures { result ≡ fields_answer n (heap self.now) };
 
     /// What a field holds. Refuses with Stale of a dead `n`, and else with NoField where its kind has no such field.
     fn get(&self, n: u64, f: Field) -> Result<FieldValue, Trouble>
@@ -70,7 +75,8 @@ pub trait Nodes: Drop {
     /// is of the wrong sort or outside the field's range, or the field cannot be set; Stale of a dead node that it links to.
     fn set(&mut self, n: u64, f: Field, v: FieldValue) -> Result<(), Trouble>
         ensures step { StepsAtOnce result (heap self.old) (heap self.new) (set_step n f v (heap self.old)) }
-        ensures visits { visited self.new ≡ visited self.old };
+        ensures visits { visited self.new ≡ visited self.old }
+        ensures keeps { (each : Kind) → spare_of self.old each ≤ spare_of self.new each };
 
     /// Sets the glue in a box: 0 for none, 1 for stretching, 2 for shrinking; the order, from 0 to 3; and the ratio.
     ///
@@ -79,7 +85,8 @@ pub trait Nodes: Drop {
         requires sign { sign ≤ 2 }
         requires order { order ≤ 3 }
         ensures step { StepsAtOnce result (heap self.old) (heap self.new) (set_ratio_step n sign order r (heap self.old)) }
-        ensures visits { visited self.new ≡ visited self.old };
+        ensures visits { visited self.new ≡ visited self.old }
+        ensures keeps { (each : Kind) → spare_of self.old each ≤ spare_of self.new each };
 
     /// The value of an attribute, where it is set. Refuses with Stale of a dead `n`.
     fn attr(&self, n: u64, id: i64) -> Result<Option<i64>, Trouble>
@@ -91,44 +98,53 @@ pub trait Nodes: Drop {
     /// -2147483646 to 2147483647; AttrFull where it would be the 65th.
     fn set_attr(&mut self, n: u64, id: i64, v: i64) -> Result<(), Fail<Trouble>>
         ensures step { Steps result (heap self.old) (heap self.new) (set_attr_step n id v (heap self.old)) }
-        ensures visits { visited self.new ≡ visited self.old };
+        ensures visits { visited self.new ≡ visited self.old }
+        ensures keeps { (each : Kind) → spare_of self.old each ≤ spare_of self.new each };
 
     /// Takes an attribute off a node, where it is set. Refuses with Stale of a dead `n`.
     fn unset_attr(&mut self, n: u64, id: i64) -> Result<(), Fail<Trouble>>
         ensures step { Steps result (heap self.old) (heap self.new) (unset_attr_step n id (heap self.old)) }
-        ensures visits { visited self.new ≡ visited self.old };
+        ensures visits { visited self.new ≡ visited self.old }
+        ensures keeps { (each : Kind) → spare_of self.old each ≤ spare_of self.new each };
 
     /// Gives a node the attributes of another. Refuses with Stale of a dead `n`, and then of a dead `from`.
     fn same_attrs(&mut self, n: u64, from: u64) -> Result<(), Fail<Trouble>>
         ensures step { Steps result (heap self.old) (heap self.new) (same_attrs_step n from (heap self.old)) }
         ensures visits { visited self.new ≡ visited self.old }
-        ensures memory { copies ≡ false → result ≢ Err Fail.NoMemory };
+        ensures memory { copies ≡ false → result ≢ Err Fail.NoMemory }
+        ensures keeps { (each : Kind) → spare_of self.old each ≤ spare_of self.new each };
 
     /// Sets an attribute among the current ones. Refuses with BadValue and AttrFull as `set_attr`.
     fn set_current(&mut self, id: i64, v: i64) -> Result<(), Fail<Trouble>>
         ensures step { Steps result (heap self.old) (heap self.new) (set_current_step id v (heap self.old)) }
-        ensures visits { visited self.new ≡ visited self.old };
+        ensures visits { visited self.new ≡ visited self.old }
+        ensures keeps { (each : Kind) → spare_of self.old each ≤ spare_of self.new each };
 
     /// Takes an attribute off the current ones, where it is set. Refuses nothing.
-    fn unset_current(&mut self, id: i64) -> Result<(), Fail<Trouble>>
-        ensures step { Steps result (heap self.old) (heap self.new) (unset_current_step id (heap self.old)) }
-        ensures visits { visited self.new ≡ visited self.old };
+    fn unset_current(&mut self, id: i64) -> Result<(), NoMemory>
+        ensures done { OnOk result (unset_current_step id (heap self.old) ≡ Ok (tt, heap self.new)) }
+        ensures undone { OnErr result (heap self.new ≡ heap self.old) }
+        ensures visits { visited self.new ≡ visited self.old }
+        ensures keeps { (each : Kind) → spare_of self.old each ≤ spare_of self.new each };
 
     /// Gives a node the current attributes. Refuses with Stale of a dead `n`.
     fn wear_current(&mut self, n: u64) -> Result<(), Fail<Trouble>>
         ensures step { Steps result (heap self.old) (heap self.new) (wear_current_step n (heap self.old)) }
         ensures visits { visited self.new ≡ visited self.old }
-        ensures memory { copies ≡ false → result ≢ Err Fail.NoMemory };
+        ensures memory { copies ≡ false → result ≢ Err Fail.NoMemory }
+        ensures keeps { (each : Kind) → spare_of self.old each ≤ spare_of self.new each };
 
     /// Begins a walk: no node is visited.
     fn begin_walk(&mut self)
         ensures same { heap self.new ≡ heap self.old }
-        ensures visits { visited self.new ≡ set.empty };
+        ensures visits { visited self.new ≡ set.empty }
+        ensures keeps { (each : Kind) → spare_of self.old each ≤ spare_of self.new each };
 
     /// Visits a node: true at its first visit since the walk began. Refuses with Stale of a dead `n`.
     fn visit(&mut self, n: u64) -> Result<bool, Trouble>
         ensures step { StepsAtOnce result (visited self.old) (visited self.new) (visit_step n (heap self.old) (visited self.old)) }
-        ensures same { heap self.new ≡ heap self.old };
+        ensures same { heap self.new ≡ heap self.old }
+        ensures keeps { (each : Kind) → spare_of self.old each ≤ spare_of self.new each };
 
     /// How many nodes are live, which is at most 2^18.
     fn live(&self) -> u64

@@ -138,6 +138,10 @@ impl Nodes for PlainHeap {
         Ok((fields.contents.kind(), fields.subtype))
     }
 
+    fn fields(&self, n: u64) -> Result<Fields, Trouble> {
+        self.table.fields(n)
+    }
+
     fn get(&self, n: u64, f: Field) -> Result<FieldValue, Trouble> {
         self.table.fields(n)?.field(f)
     }
@@ -164,17 +168,11 @@ impl Nodes for PlainHeap {
     }
 
     fn set_attr(&mut self, n: u64, id: i64, v: i64) -> Result<(), Fail<Trouble>> {
-        let mut attributes = self.table.copied_attributes(n)?;
-        attributes.set(id, v)?;
-        self.table.put_attributes(n, attributes);
-        Ok(())
+        self.table.set_attribute(n, id, v)
     }
 
     fn unset_attr(&mut self, n: u64, id: i64) -> Result<(), Fail<Trouble>> {
-        let mut attributes = self.table.copied_attributes(n)?;
-        attributes.unset(id);
-        self.table.put_attributes(n, attributes);
-        Ok(())
+        self.table.unset_attribute(n, id)
     }
 
     fn same_attrs(&mut self, n: u64, from: u64) -> Result<(), Fail<Trouble>> {
@@ -190,7 +188,7 @@ impl Nodes for PlainHeap {
         self.current.set(id, v)
     }
 
-    fn unset_current(&mut self, id: i64) -> Result<(), Fail<Trouble>> {
+    fn unset_current(&mut self, id: i64) -> Result<(), NoMemory> {
         self.current.unset(id);
         Ok(())
     }

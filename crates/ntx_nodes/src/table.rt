@@ -8,7 +8,7 @@ ghost use Rattle.ntx_num.specs.Answer.{Answers, Steps, StepsAtOnce};
 ghost use Rattle.ntx_num.specs.Answer.{result_map};
 ghost use Rattle.ntx_nodes.specs.Steps.{with_attribute, copy_of};
 ghost use Rattle.ntx_nodes.specs.Table.{at_name};
-ghost use Rattle.ntx_nodes.specs.Plain.{slot_at, Puts};
+ghost use Rattle.ntx_nodes.specs.Plain.{slot_at, Puts, ChangesAttributes};
 
 use crate::{Attributes, Fields, Node, Trouble};
 use ntx_num::{Fail, NoMemory};
@@ -156,6 +156,23 @@ impl Table {
         write_attributes(&mut self.slots, n, attributes);
     }
 
+    /// Sets an attribute of a node in place. Refuses with Stale of a dead `n`, and then as `Attributes::set`. After each
+    /// refusal, and after running out of memory, nothing has changed.
+    pub fn set_attribute(&mut self, n: u64, id: i64, v: i64) -> Result<(), Fail<Trouble>>
+        ensures nodes { Steps result self.old.nodes self.new.nodes (at_name self.old n (λ node. result_map (λ a. (tt, map.insert self.old.nodes n (record node { attributes = a }))) (with_attribute node.attributes id v))) }
+        ensures visited { self.new.visited ≡ self.old.visited }
+    {
+        set_attribute(&mut self.slots, n, id, v)
+    }
+
+    /// Takes an attribute off a node in place, where it is set. Refuses with Stale of a dead `n`.
+    pub fn unset_attribute(&mut self, n: u64, id: i64) -> Result<(), Fail<Trouble>>
+        ensures nodes { Steps result self.old.nodes self.new.nodes (at_name self.old n (λ node. Ok (tt, map.insert self.old.nodes n (record node { attributes = map.remove node.attributes id })))) }
+        ensures visited { self.new.visited ≡ self.old.visited }
+    {
+        unset_attribute(&mut self.slots, n, id)
+    }
+
     /// Adds a node under a name that is not there. Where memory runs out nothing changes.
     pub fn add(&mut self, n: u64, node: Node) -> Result<(), NoMemory>
         requires { map.get self.old.nodes n ≡ None }
@@ -216,6 +233,40 @@ fn write_attributes(slots: &mut BTreeMap<u64, Slot>, n: u64, attributes: Attribu
 {
     if let Some(slot) = slots.get_mut(&n) {
         slot.node.attributes = attributes;
+    }
+}
+
+/// Sets an attribute of the node in a slot.
+fn set_attribute(
+    slots: &mut BTreeMap<u64, Slot>,
+    n: u64,
+    id: i64,
+    v: i64,
+) -> Result<(), Fail<Trouble>>
+    ensures live { IfSome (slot_at slots.old.entries n) (λ slot. ChangesAttributes slots.old.entries slots.new.entries n slot (with_attribute slot.node.attributes id v) result) }
+    ensures dead { IfNone (slot_at slots.old.entries n) ((result ≡ Err (Fail.Is (Trouble.Stale n))) × (slots.new.entries ≡ slots.old.entries)) }
+{
+    match slots.get_mut(&n) {
+        Some(slot) => slot.node.attributes.set(id, v),
+        None => Err(Fail::Is(Trouble::Stale(n))),
+    }
+}
+
+/// Takes an attribute off the node in a slot, where it is set.
+fn unset_attribute(
+    slots: &mut BTreeMap<u64, Slot>,
+    n: u64,
+    id: i64,
+) -> Result<(), Fail<Trouble>>
+    ensures live { IfSome (slot_at slots.old.entries n) (λ slot. ChangesAttributes slots.old.entries slots.new.entries n slot (Ok (map.remove slot.node.attributes id)) result) }
+    ensures dead { IfNone (slot_at slots.old.entries n) ((result ≡ Err (Fail.Is (Trouble.Stale n))) × (slots.new.entries ≡ slots.old.entries)) }
+{
+    match slots.get_mut(&n) {
+        Some(slot) => {
+            slot.node.attributes.unset(id);
+            Ok(())
+        }
+        None => Err(Fail::Is(Trouble::Stale(n))),
     }
 }
 

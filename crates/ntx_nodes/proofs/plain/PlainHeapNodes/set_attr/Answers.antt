@@ -1,15 +1,9 @@
-use Rattle.std.proofs.Common.{◌≡◌, Ok, rules, arith}
-use Rattle.std.specs.Prelude.{Result}
-use Rattle.std.proofs.lemmas.Grind.{common_steps}
+use Rattle.std.proofs.Common.{to_z, of_z, w64}
 use Rattle.ntx_nodes.specs.Heap.{Heap}
-use Rattle.ntx_nodes.specs.Steps.{set_attr_step}
-use Rattle.ntx_nodes.specs.declared.trouble.Trouble.{Trouble}
-use Rattle.ntx_nodes.proofs.StepLaws.{set_attr_step-lawful}
+use Rattle.ntx_nodes.proofs.StepLaws.{set_attr-kept}
 use Rattle.ntx_nodes.proofs.plain.PlainHeapNodes.set_attr.Goals as goal
 
 pub invariant_of-self : goal.invariant_of-self
 invariant_of-self c =
     let heap : Heap = record { next = c.self.inside.next; nodes = c.self.inside.table.nodes; current = c.self.inside.current } in
-    let new : Heap = record { next = c.self.inside.next; nodes = c.put_attributes.new.self.nodes; current = c.self.inside.current } in
-    let step : ◌≡◌ {A = Result (Unit {0} × Heap) Trouble} (set_attr_step c.args.n c.args.id c.args.v heap) (Ok (tt, new)) = first_of (search rules, grind (arith, common_steps)) in
-    set_attr_step-lawful heap c.args.n c.args.id c.args.v (tt, new) c.self.invariant step
+    set_attr-kept heap c.args.n (to_z w64 (of_z w64 c.args.id)) (to_z w64 (of_z w64 c.args.v)) c.set_attribute.new.self.nodes c.set_attribute.result c.self.invariant c.set_attribute.ensures.nodes
