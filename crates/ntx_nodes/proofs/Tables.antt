@@ -13,6 +13,7 @@ use Rattle.std.proofs.lemmas.List.{length-map}
 use Rattle.std.proofs.lemmas.Map.Made.{lookup-map_values, keys_of-map_values}
 use Rattle.ntx_nodes.specs.Plain.{Slots, slot_at, Puts, ChangesAttributes, nodes_of, visited_of, last_walk, IsCounted}
 use Rattle.ntx_num.specs.Answer.{result_map, Steps, StepsAtOnce}
+use Rattle.ntx_num.proofs.Answers.{same_Ok}
 use Rattle.ntx_num.specs.declared.answer.Fail.{Fail}
 use Rattle.ntx_num.specs.declared.answer.Fail.TheVariants.{NoMemory, Is}
 use Rattle.ntx_nodes.specs.Heap.{Attributes, Names}
@@ -204,7 +205,7 @@ attributes_put : (r : Result (Unit {0}) (Fail Trouble)) (change : Result Attribu
     → Steps r node.attributes a (result_map {B = Unit {0} × Attributes} (λ b. (tt, b)) change) → new ≡ map.insert m n (record node { attributes = a }) → map.get m n ≡ Some node
     → Steps r m new (result_map {B = Unit {0} × map.FinMap nat_cmp Node} (λ b. (tt, map.insert m n (record node { attributes = b }))) change)
 attributes_put (Ok u) (Ok b) m new n node a s is at =
-    let same : b ≡ a = cc in ap (λ (x : map.FinMap nat_cmp Node). Ok (tt, x)) (ap (λ x. map.insert m n (record node { attributes = x })) same ∙ sym is)
+    let same : b ≡ a = ap (λ p. p.1) (same_Ok {E = Trouble} (tt, b) (u, a) s) in ap (λ (x : map.FinMap nat_cmp Node). Ok (tt, x)) (ap (λ x. map.insert m n (record node { attributes = x })) same ∙ sym is)
 attributes_put (Ok u) (Err why) m new n node a s is at = cc
 attributes_put (Err (Is e)) (Ok b) m new n node a s is at = (let no = s.0 in cc, is ∙ ap (λ x. map.insert m n (record node { attributes = x })) s.1 ∙ insert_same m n node at)
 attributes_put (Err (Is e)) (Err why) m new n node a s is at = (let no = s.0 in cc, is ∙ ap (λ x. map.insert m n (record node { attributes = x })) s.1 ∙ insert_same m n node at)

@@ -23,7 +23,7 @@ pub trait Nodes: Drop {
     /// The names visited since the walk began.
     ghost visited: { Self → Names };
 
-    /// How many nodes of a kind can be made without memory.
+    /// How many nodes of a kind can be made without running out of memory. A call that makes no node never lowers it.
     ghost spare_of: { Self → Kind → ℕ };
 
     /// Whether a copy has attributes of its own, for which it takes memory.
@@ -150,8 +150,8 @@ pub trait Nodes: Drop {
     fn live(&self) -> u64
         ensures { result ≡ map.len (heap self.now).nodes };
 
-    /// How many nodes of a kind are sure to be made without memory, one after another; no more than may be live beside those
-    /// that are, which is 2^18 less `live`.
+    /// How many nodes of a kind can be made, one after another, without running out of memory; no more than may be live
+    /// beside those that are, which is 2^18 less `live`.
     fn spare(&self, kind: Kind) -> u64
         ensures spare { result ≡ spare_of self.now kind }
         ensures few { result ≤ max_nodes - map.len (heap self.now).nodes };

@@ -253,11 +253,7 @@ fn set_attribute(
 }
 
 /// Takes an attribute off the node in a slot, where it is set.
-fn unset_attribute(
-    slots: &mut BTreeMap<u64, Slot>,
-    n: u64,
-    id: i64,
-) -> Result<(), Fail<Trouble>>
+fn unset_attribute(slots: &mut BTreeMap<u64, Slot>, n: u64, id: i64) -> Result<(), Fail<Trouble>>
     ensures live { IfSome (slot_at slots.old.entries n) (λ slot. ChangesAttributes slots.old.entries slots.new.entries n slot (Ok (map.remove slot.node.attributes id)) result) }
     ensures dead { IfNone (slot_at slots.old.entries n) ((result ≡ Err (Fail.Is (Trouble.Stale n))) × (slots.new.entries ≡ slots.old.entries)) }
 {

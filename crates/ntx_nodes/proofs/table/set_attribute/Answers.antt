@@ -14,4 +14,4 @@ returns-in-Some-clause-live c =
     let slot : Slot = record { node = record { fields = c.in-Some.slot.now.node.fields; attributes = c.set.new.self }; walk = c.in-Some.slot.now.walk } in
     let puts : Puts c.args.slots.now.entries (c.get_mut.follows.lender slot).entries c.args.n (Some slot) = search rules in
     let sets = subst (λ (x : Result Attributes Trouble). Steps c.set.result c.in-Some.slot.now.node.attributes c.set.new.self (result_map {B = Unit {0} × Attributes} (λ b. (tt, b)) x)) (λ i. with_attribute c.in-Some.slot.now.node.attributes (to_z-of_z _ c.args.id c.ranges.id i) (to_z-of_z _ c.args.v c.ranges.v i)) c.set.ensures in
-    subst (λ (o : Option Slot). IfSome o (λ slot. ChangesAttributes c.args.slots.now.entries _ c.args.n slot (with_attribute slot.node.attributes c.args.id c.args.v) c.set.result)) c.in-Some.ensures.value (c.set.new.self, sets, puts)
+    subst (λ (o : Option Slot). IfSome o (λ slot. ChangesAttributes c.args.slots.now.entries (c.get_mut.follows.lender (record { node = record { fields = c.in-Some.slot.now.node.fields; attributes = c.set.new.self }; walk = c.in-Some.slot.now.walk })).entries c.args.n slot (with_attribute slot.node.attributes c.args.id c.args.v) c.set.result)) c.in-Some.ensures.value (c.set.new.self, sets, puts)
