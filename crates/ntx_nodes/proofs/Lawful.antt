@@ -24,7 +24,8 @@ use Rattle.ntx_nodes.specs.declared.fields.Contents.{Contents}
 use Rattle.ntx_nodes.specs.declared.fields.Contents.TheVariants as contents
 use Rattle.ntx_nodes.specs.declared.fields.Fields.{Fields}
 use Rattle.ntx_nodes.specs.declared.node.Node.{Node}
-use Rattle.ntx_nodes.proofs.Oks.{mapped_Ok, not_taken, number_within_Ok, number_to_Ok, link_Ok}
+use Rattle.ntx_num.proofs.Answers.{mapped_Ok, not_taken}
+use Rattle.ntx_nodes.proofs.Oks.{number_within_Ok, number_to_Ok, link_Ok}
 
 -- a value whose link, if it is one, has been given
 abbrev pub IsGivenValue : ℕ → FieldValue → Type 0

@@ -1,8 +1,8 @@
--- What stands behind an Ok, and numbers and links that fields take.
+-- What stands behind an Ok that a node gave, and numbers and links that fields take.
 use Rattle.std.proofs.Common.{◌≡◌, ℕ, ℤ, pos, negsuc, ◌≤◌, Bool, true, false, cond, ◌&&◌, Some, None, Ok, Err, refl, subst, arith}
 use Rattle.std.specs.Prelude.{Option, Result, neg_ℤ, ◌≤ℤ◌, int_le, nat_le}
 use Rattle.std.specs.FinMap as map
-use Rattle.ntx_num.specs.Answer.{result_map, result_and_then}
+use Rattle.ntx_num.proofs.Answers.{taken}
 use Rattle.ntx_nodes.specs.Heap.{Heap, IsWithin}
 use Rattle.ntx_nodes.specs.Fields.{number_within, number_to, link}
 use Rattle.ntx_nodes.specs.Steps.{of_found, at}
@@ -12,25 +12,6 @@ use Rattle.ntx_nodes.specs.declared.field.FieldValue.TheVariants.{Number, Link}
 use Rattle.ntx_nodes.specs.declared.trouble.Trouble.{Trouble}
 use Rattle.std.proofs.lemmas.Int.{ints}
 use Rattle.std.proofs.lemmas.Bool.{leb-true}
-
--- what gave an Ok
-pub record Mapped {A B E : Type 0} (f : A → B) (r : Result A E) (b : B) : Type 0 where
-  pub value : A
-  pub is : r ≡ Ok value
-  pub gives : f value ≡ b
-
-pub mapped_Ok : {A B E : Type 0} (f : A → B) (r : Result A E) (b : B) → result_map f r ≡ Ok b → Mapped f r b
-mapped_Ok f (Ok a) b e = record { value = a; is = refl; gives = cc }
-mapped_Ok f (Err x) b e = cc
-
-pub record Went {A B E : Type 0} (f : A → Result B E) (r : Result A E) (b : B) : Type 0 where
-  pub value : A
-  pub is : r ≡ Ok value
-  pub gives : f value ≡ Ok b
-
-pub went_Ok : {A B E : Type 0} (f : A → Result B E) (r : Result A E) (b : B) → result_and_then r f ≡ Ok b → Went f r b
-went_Ok f (Ok a) b e = record { value = a; is = refl; gives = e }
-went_Ok f (Err x) b e = cc
 
 pub record Found {A : Type 0} (heap : Heap) (n : ℕ) (f : Node → Result A Trouble) (a : A) : Type 0 where
   pub node : Node
@@ -43,15 +24,6 @@ found_Ok heap n f a (Some node) is e = record { node = node; is = is; gives = e 
 
 pub at_Ok : {A : Type 0} (heap : Heap) (n : ℕ) (f : Node → Result A Trouble) (a : A) → at heap n f ≡ Ok a → Found heap n f a
 at_Ok heap n f a e = found_Ok heap n f a (map.get heap.nodes n) refl e
-
--- a branch that gave an Ok
-pub not_taken : {A E : Type 0} (b : Bool) (x : E) (r : Result A E) (a : A) → cond b (Err x) r ≡ Ok a → (b ≡ false) × (r ≡ Ok a)
-not_taken true x r a e = cc
-not_taken false x r a e = (refl, e)
-
-pub taken : {A E : Type 0} (b : Bool) (x : E) (r : Result A E) (a : A) → cond b r (Err x) ≡ Ok a → (b ≡ true) × (r ≡ Ok a)
-taken true x r a e = (refl, e)
-taken false x r a e = cc
 
 -- ---- numbers and links
 both_true : (a b : Bool) → (a && b) ≡ true → (a ≡ true) × (b ≡ true)

@@ -2,35 +2,23 @@
 use Rattle.std.proofs.Common.{◌≡◌, ℕ, zero, suc, ◌+◌, ◌≤◌, ◌<◌, List, [], ◌∷◌, ◌++◌, Bool, true, false, Some, None, Ok, Err, refl, sym, ◌∙◌, ap, subst, inl, inr, append_assoc, append-nil, arith}
 use Rattle.std.specs.Prelude.{Option, Result, is_some, nat_eq, ◌||◌, ◌⊎◌}
 use Rattle.std.specs.FinMap as map
-use Rattle.std.proofs.lemmas.Bool.{eqb-true}
+use Rattle.std.proofs.lemmas.Bool.{eqb-true, or_left, or_cases}
 use Rattle.ntx_num.specs.Answer.{result_and_then}
 use Rattle.ntx_nodes.specs.Heap.{Heap}
-use Rattle.ntx_nodes.specs.Walk.{is_reached, node_reached, walk, turns_of}
-use Rattle.ntx_nodes.specs.Walker.{links_of, whole_walk}
+use Rattle.ntx_nodes.specs.Walk.{is_reached, entered, node_reached, walk, turns_of}
+use Rattle.ntx_nodes.specs.Walker.{whole_walk}
 use Rattle.ntx_nodes.specs.WalkLaws.{AreFresh, LeadsTo, LeadsOn, IsClosed, Sound}
 use Rattle.ntx_nodes.specs.declared.kind.ListKind.{ListKind}
 use Rattle.ntx_nodes.specs.declared.kind.Way.{Way}
-use Rattle.ntx_nodes.specs.declared.links.Links.{Links}
+use Rattle.ntx_nodes.specs.declared.inner.InnerLists.{InnerLists}
 use Rattle.ntx_nodes.specs.declared.node.Node.{Node}
 use Rattle.ntx_nodes.specs.declared.trouble.Trouble.{Trouble}
-use Rattle.ntx_nodes.proofs.Oks.{went_Ok}
+use Rattle.ntx_num.proofs.Answers.{same_Ok, went_Ok}
 use Rattle.ntx_nodes.proofs.Walks.{is_reached-append}
 use Rattle.ntx_nodes.proofs.Turns.{passes, unreached, unreached_less, unreached_falls, unreached_most, Extends, extends_on, last_reached}
-use Rattle.ntx_nodes.proofs.WalkSteps.{whole_None, whole_at, whole_refused, links_next}
+use Rattle.ntx_nodes.proofs.WalkSteps.{whole_None, whole_at, whole_refused}
 
 -- ---- lists of names
-or_right : (a b : Bool) → b ≡ true → (a || b) ≡ true
-or_right true b e = refl
-or_right false b e = e
-
-or_left : (a b : Bool) → a ≡ true → (a || b) ≡ true
-or_left true b e = refl
-or_left false b e = cc
-
-or_case : (a b : Bool) → (a || b) ≡ true → (a ≡ true) ⊎ (b ≡ true)
-or_case true b e = inl refl
-or_case false b e = inr e
-
 grown : (a b : List ℕ) (m : ℕ) → is_reached a m ≡ true → is_reached (a ++ b) m ≡ true
 grown a b m h = is_reached-append a b m ∙ or_left (is_reached a m) (is_reached b m) h
 
@@ -49,7 +37,7 @@ closed_later heap way a b of x h n node i e = on_later way a b node x (h n node 
 
 closed_append : (heap : Heap) (way : Way) (names a b : List ℕ) → IsClosed heap way names a → IsClosed heap way names b → IsClosed heap way names (a ++ b)
 closed_append heap way names a b p q n node i e =
-    elim (or_case (is_reached a n) (is_reached b n) (sym (is_reached-append a b n) ∙ i)) [ inl x ↦ p n node x e | inr x ↦ q n node x e ]
+    elim (or_cases (is_reached a n) (is_reached b n) (sym (is_reached-append a b n) ∙ i)) [ inl x ↦ p n node x e | inr x ↦ q n node x e ]
 
 leads_none : (names : List ℕ) → LeadsTo names None
 leads_none names m e = cc
@@ -61,23 +49,20 @@ begun names n h m e = let same : n ≡ m = cc in subst (λ x. is_reached names x
 pub sound_none : (heap : Heap) (way : Way) (r : List ℕ) → Sound heap way r None r
 sound_none heap way r = record { more = []; added = sym (append-nil r); fresh = tt; begins = leads_none r; closed = λ n node i e. cc }
 
-same_Ok : {A E : Type 0} (a b : A) → ◌≡◌ {A = Result A E} (Ok a) (Ok b) → a ≡ b
-same_Ok a b e = cc
-
 extends : (heap : Heap) (way : Way) (r : List ℕ) (head : Option ℕ) (names : List ℕ) → Sound heap way r head names → Extends r names
 extends heap way r head names s = record { more = s.more; is = s.added }
 
 closed_one : (heap : Heap) (way : Way) (names : List ℕ) (n : ℕ) (node : Node) → map.get heap.nodes n ≡ Some node → LeadsOn way names node → IsClosed heap way names (n ∷ [])
 closed_one heap way names n node live on q other i e =
-    let same : q ≡ n = eqb-true q n (elim (or_case (nat_eq q n) false i) [ inl x ↦ x | inr x ↦ cc ]) in
+    let same : q ≡ n = eqb-true q n (elim (or_cases (nat_eq q n) false i) [ inl x ↦ x | inr x ↦ cc ]) in
     let found : map.get heap.nodes n ≡ Some other = ap (map.get heap.nodes) (sym same) ∙ e in
     let node_same : node ≡ other = cc in
     subst (λ (x : Node). LeadsOn way names x) node_same on
 
 -- a node, its lists and what follows
 sound_on : (heap : Heap) (way : Way) (r a b c names : List ℕ) (n : ℕ) (node : Node) → is_reached r n ≡ false → map.get heap.nodes n ≡ Some node
-    → Sound heap way (r ++ n ∷ []) (links_of way node.fields).first a → Sound heap way a (links_of way node.fields).second b → Sound heap way b (links_of way node.fields).third c
-    → Sound heap way c (links_of way node.fields).next names → Sound heap way r (Some n) names
+    → Sound heap way (r ++ n ∷ []) (entered way node.fields.contents).first a → Sound heap way a (entered way node.fields.contents).second b → Sound heap way b (entered way node.fields.contents).third c
+    → Sound heap way c node.fields.next names → Sound heap way r (Some n) names
 sound_on heap way r a b c names n node new live s1 s2 s3 s4 =
     let x4 : Extends c names = extends heap way c _ names s4 in
     let x3 : Extends b names = extends_on b c names (extends heap way b _ c s3) x4 in
@@ -98,7 +83,7 @@ sound_on heap way r a b c names n node new live s1 s2 s3 s4 =
       first = leads_later a names _ x2 s1.begins;
       second = leads_later b names _ x3 s2.begins;
       third = leads_later c names _ x4 s3.begins;
-      next = subst (LeadsTo names) (links_next way node.fields) s4.begins;
+      next = s4.begins;
     } in
     let c1 : IsClosed heap way names m1 = closed_append heap way names (n ∷ []) s1.more (closed_one heap way names n node live on) (closed_later heap way a names s1.more x2 s1.closed) in
     let c2 : IsClosed heap way names m2 = closed_append heap way names m1 s2.more c1 (closed_later heap way b names s2.more x3 s2.closed) in
@@ -121,10 +106,10 @@ sound_at : (heap : Heap) (way : Way) (u : ℕ) → Below heap way u → (r : Lis
 sound_at heap way u below r n d k names (Err why) lt e is = let refused = whole_refused heap way r n d k why is in cc
 sound_at heap way u below r n d k names (Ok node) lt e is =
     let p = passes heap way r n d k node is in
-    let l : Links = links_of way node.fields in
+    let l : InnerLists = entered way node.fields.contents in
     let f : List ℕ → Option ℕ → ListKind → Result (List ℕ) Trouble = λ b to i. whole_walk heap way b to (d + 1) i in
     let r0 : List ℕ = r ++ n ∷ [] in
-    let goes = went_Ok (λ c. whole_walk heap way c l.next d k) (result_and_then (f r0 l.first l.kind) (λ a. result_and_then (f a l.second l.kind) (λ b. f b l.third l.kind))) names (sym (whole_at heap way r n d k node is) ∙ e) in
+    let goes = went_Ok (λ c. whole_walk heap way c node.fields.next d k) (result_and_then (f r0 l.first l.kind) (λ a. result_and_then (f a l.second l.kind) (λ b. f b l.third l.kind))) names (sym (whole_at heap way r n d k node is) ∙ e) in
     let first = went_Ok (λ a. result_and_then (f a l.second l.kind) (λ b. f b l.third l.kind)) (f r0 l.first l.kind) goes.value goes.is in
     let second = went_Ok (λ b. f b l.third l.kind) (f first.value l.second l.kind) goes.value first.gives in
     let less : unreached heap r0 < unreached heap r = unreached_less heap r n node p.live p.new in
@@ -134,7 +119,7 @@ sound_at heap way u below r n d k names (Ok node) lt e is =
     let less2 : unreached heap second.value ≤ unreached heap first.value = unreached_falls heap first.value second.value (extends heap way first.value l.second second.value s2) in
     let s3 = below second.value l.third (d + 1) l.kind goes.value (omega arith) second.gives in
     let less3 : unreached heap goes.value ≤ unreached heap second.value = unreached_falls heap second.value goes.value (extends heap way second.value l.third goes.value s3) in
-    let s4 = below goes.value l.next d k names (omega arith) goes.gives in
+    let s4 = below goes.value node.fields.next d k names (omega arith) goes.gives in
     sound_on heap way r first.value second.value goes.value names n node p.new p.live s1 s2 s3 s4
 
 sound_below : (heap : Heap) (way : Way) (u : ℕ) → Below heap way u

@@ -23,7 +23,8 @@ use Rattle.ntx_nodes.specs.declared.fields.Fields.{Fields}
 use Rattle.ntx_nodes.specs.declared.node.Node.{Node}
 use Rattle.ntx_nodes.specs.declared.ratio.Ratio.{Ratio}
 use Rattle.ntx_nodes.specs.declared.trouble.Trouble.{Trouble}
-use Rattle.ntx_nodes.proofs.Oks.{mapped_Ok, went_Ok, at_Ok}
+use Rattle.ntx_num.proofs.Answers.{same_Ok, same_Some, mapped_Ok, went_Ok}
+use Rattle.ntx_nodes.proofs.Oks.{at_Ok}
 use Rattle.ntx_nodes.proofs.Ranges.{IsGiven, IsLawfulBox, IsLawfulContents, IsLawfulFields}
 use Rattle.ntx_nodes.proofs.Lawful.{IsGivenValue, with_field-lawful, fields_of_lawful, lawful_node, no_attributes, with_attribute-lawful, remove_attribute-lawful, put-lawful, making-lawful, remove-lawful, current-lawful}
 
@@ -95,12 +96,6 @@ copy_lawful : (next : ℕ) (node : Node) → IsLawfulNode next node → IsLawful
 copy_lawful next node l =
     let f = fields_of_lawful next node l in
     lawful_node next _ node.attributes (record { subtype = subst (λ k. node.fields.subtype ≤ last_subtype k) (sym (kind_of-unlinked node.fields.contents)) f.subtype; link = nothing next; contents = unlinked_lawful next node.fields.contents f.contents }) l.attributes
-
-same_Ok : {A E : Type 0} (a b : A) → ◌≡◌ {A = Result A E} (Ok a) (Ok b) → a ≡ b
-same_Ok a b e = cc
-
-same_Some : (m n : ℕ) → Some m ≡ Some n → m ≡ n
-same_Some m n e = cc
 
 -- ---- steps
 pub make_step-lawful : (heap : Heap) (k : Kind) (subtype : ℕ) (r : ℕ × Heap) → IsLawful heap → subtype ≤ last_subtype k → make_step k subtype heap ≡ Ok r → IsLawful r.1

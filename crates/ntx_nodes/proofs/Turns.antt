@@ -5,15 +5,17 @@ use Rattle.std.specs.FinMap as map
 use Rattle.ntx_num.specs.Answer.{result_map, result_and_then}
 use Rattle.ntx_nodes.specs.Fields.{kind_of}
 use Rattle.ntx_nodes.specs.Heap.{Heap}
-use Rattle.ntx_nodes.specs.Walk.{is_reached, admits, entered, node_reached, in_turn, enter, walk, turns_of, max_depth}
+use Rattle.ntx_nodes.specs.Walk.{is_reached, admits, entered, node_reached, in_turn, enter, walk, turns_of, is_too_deep}
 use Rattle.ntx_nodes.specs.Walker.{failing}
+use Rattle.ntx_nodes.specs.declared.inner.InnerLists.{InnerLists}
 use Rattle.ntx_nodes.specs.declared.kind.ListKind.{ListKind}
 use Rattle.ntx_nodes.specs.declared.kind.Way.{Way}
 use Rattle.ntx_nodes.specs.declared.node.Node.{Node}
 use Rattle.ntx_nodes.specs.declared.trouble.Trouble.{Trouble}
 use Rattle.ntx_nodes.specs.declared.trouble.Trouble.TheVariants.{Loop, Nest, WrongKind}
-use Rattle.std.proofs.lemmas.Bool.{leb-false}
-use Rattle.ntx_nodes.proofs.Oks.{at_Ok, went_Ok, mapped_Ok, not_taken}
+use Rattle.std.proofs.lemmas.Bool.{not-false, or_left}
+use Rattle.ntx_num.proofs.Answers.{same_Ok, went_Ok, mapped_Ok, not_taken}
+use Rattle.ntx_nodes.proofs.Oks.{at_Ok}
 use Rattle.ntx_nodes.proofs.Walks.{falls, falls_at, failing-le, is_reached-append, nat_eq_same, or_true}
 
 -- a walker, from the names reached
@@ -31,49 +33,37 @@ extends_same a b e = record { more = []; is = sym e ∙ sym (append-nil a) }
 pub extends_on : (a b c : List ℕ) → Extends a b → Extends b c → Extends a c
 extends_on a b c p q = record { more = p.more ++ q.more; is = q.is ∙ ap (λ x. x ++ q.more) p.is ∙ append_assoc a p.more q.more }
 
-same_Ok : {A E : Type 0} (a b : A) → ◌≡◌ {A = Result A E} (Ok a) (Ok b) → a ≡ b
-same_Ok a b e = cc
-
 in_turn_extends : (f : List ℕ → Option ℕ → ListKind → Result (List ℕ) Trouble) → ((r : List ℕ) (n : Option ℕ) (k : ListKind) (names : List ℕ) → f r n k ≡ Ok names → Extends r names)
-    → (r : List ℕ) (ls : List (Option ℕ × ListKind)) (names : List ℕ) → in_turn f r ls ≡ Ok names → Extends r names
-in_turn_extends f h r [] names e = extends_same r names (same_Ok r names e)
-in_turn_extends f h r (l ∷ ls) names e =
-    let w = went_Ok (λ b. in_turn f b ls) (f r l.0 l.1) names e in
-    extends_on r w.value names (h r l.0 l.1 w.value w.is) (in_turn_extends f h w.value ls names w.gives)
+    → (r : List ℕ) (l : InnerLists) (names : List ℕ) → in_turn f r l ≡ Ok names → Extends r names
+in_turn_extends f h r l names e =
+    let one = went_Ok (λ a. result_and_then (f a l.second l.kind) (λ b. f b l.third l.kind)) (f r l.first l.kind) names e in
+    let two = went_Ok (λ b. f b l.third l.kind) (f one.value l.second l.kind) names one.gives in
+    extends_on r one.value names (h r l.first l.kind one.value one.is) (extends_on one.value two.value names (h one.value l.second l.kind two.value two.is) (h two.value l.third l.kind names two.gives))
 
 -- ---- what a node that passes its tests is
 pub record Passes (heap : Heap) (way : Way) (r : List ℕ) (n depth : ℕ) (k : ListKind) (node : Node) : Type 0 where
   pub live : map.get heap.nodes n ≡ Some node
   pub new : is_reached r n ≡ false
-  pub shallow : depth ≤ max_depth
+  pub shallow : is_too_deep way depth ≡ false
   pub kind : admits way k (kind_of node.fields.contents) ≡ true
-
-not_false : (b : Bool) → not b ≡ false → b ≡ true
-not_false true e = refl
-not_false false e = cc
 
 pub passes : (heap : Heap) (way : Way) (r : List ℕ) (n depth : ℕ) (k : ListKind) (node : Node) → node_reached heap way r n depth k ≡ Ok node → Passes heap way r n depth k node
 passes heap way r n depth k node e =
-    let at = at_Ok heap n (λ node. cond (is_reached r n) (Err (Loop n)) (cond (nat_lt max_depth depth) (Err Nest) (cond (not (admits way k (kind_of node.fields.contents))) (Err (WrongKind n)) (Ok node)))) node e in
+    let at = at_Ok heap n (λ node. cond (is_reached r n) (Err (Loop n)) (cond (is_too_deep way depth) (Err Nest) (cond (not (admits way k (kind_of node.fields.contents))) (Err (WrongKind n)) (Ok node)))) node e in
     let new = not_taken (is_reached r n) _ _ node at.gives in
-    let shallow = not_taken (nat_lt max_depth depth) _ _ node new.1 in
+    let shallow = not_taken (is_too_deep way depth) _ _ node new.1 in
     let kind = not_taken (not (admits way k (kind_of at.node.fields.contents))) _ _ node shallow.1 in
     let same : at.node ≡ node = same_Ok at.node node kind.1 in
-    let deep : depth < suc max_depth = leb-false (suc max_depth) depth shallow.0 in
     record {
       live = at.is ∙ ap Some same;
       new = new.0;
-      shallow = omega arith;
-      kind = subst (λ (x : Node). admits way k (kind_of x.fields.contents) ≡ true) same (not_false _ kind.0);
+      shallow = shallow.0;
+      kind = subst (λ (x : Node). admits way k (kind_of x.fields.contents) ≡ true) same (not-false _ kind.0);
     }
 
 -- ---- live nodes that were not reached
 abbrev pub unreached : Heap → List ℕ → ℕ
 unreached heap reached = failing (is_reached reached) (map.entries heap.nodes)
-
-or_left : (a b : Bool) → a ≡ true → (a || b) ≡ true
-or_left true b e = refl
-or_left false b e = cc
 
 still : (r more : List ℕ) (q : ℕ) → is_reached r q ≡ true → is_reached (r ++ more) q ≡ true
 still r more q h = is_reached-append r more q ∙ or_left (is_reached r q) (is_reached more q) h
@@ -126,12 +116,13 @@ then_same r s f g e h = ap (λ x. result_and_then x f) e ∙ pointwise s f g h
 in_turn_same : (heap : Heap) (t : ℕ) (f g : List ℕ → Option ℕ → ListKind → Result (List ℕ) Trouble)
     → ((r : List ℕ) (n : Option ℕ) (k : ListKind) → unreached heap r < t → f r n k ≡ g r n k)
     → ((r : List ℕ) (n : Option ℕ) (k : ListKind) (names : List ℕ) → g r n k ≡ Ok names → Extends r names)
-    → (r : List ℕ) (ls : List (Option ℕ × ListKind)) → unreached heap r < t → in_turn f r ls ≡ in_turn g r ls
-in_turn_same heap t f g same extends r [] lt = refl
-in_turn_same heap t f g same extends r (l ∷ ls) lt =
-    then_same (f r l.0 l.1) (g r l.0 l.1) (λ b. in_turn f b ls) (λ b. in_turn g b ls) (same r l.0 l.1 lt) (λ b is.
-    let fewer : unreached heap b ≤ unreached heap r = unreached_falls heap r b (extends r l.0 l.1 b is) in
-    in_turn_same heap t f g same extends b ls (omega arith))
+    → (r : List ℕ) (l : InnerLists) → unreached heap r < t → in_turn f r l ≡ in_turn g r l
+in_turn_same heap t f g same extends r l lt =
+    then_same (f r l.first l.kind) (g r l.first l.kind) _ _ (same r l.first l.kind lt) (λ a one.
+    let fewer : unreached heap a ≤ unreached heap r = unreached_falls heap r a (extends r l.first l.kind a one) in
+    then_same (f a l.second l.kind) (g a l.second l.kind) _ _ (same a l.second l.kind (omega arith)) (λ b two.
+    let fewest : unreached heap b ≤ unreached heap a = unreached_falls heap a b (extends a l.second l.kind b two) in
+    same b l.third l.kind (omega arith)))
 
 pub enough : (heap : Heap) (way : Way) (turns : ℕ) (r : List ℕ) (n : Option ℕ) (d : ℕ) (k : ListKind) → unreached heap r < turns → walk heap way turns r n d k ≡ walk heap way (suc turns) r n d k
 enough heap way zero r n d k lt = absurd (omega arith)

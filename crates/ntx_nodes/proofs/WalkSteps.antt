@@ -6,13 +6,14 @@ use Rattle.ntx_num.specs.Answer.{result_map, result_and_then}
 use Rattle.ntx_num.specs.declared.answer.Fail.{Fail}
 use Rattle.ntx_num.specs.declared.answer.Fail.TheVariants.{NoMemory, Is}
 use Rattle.ntx_nodes.specs.Heap.{Heap, Names}
-use Rattle.ntx_nodes.specs.Walk.{inner_lists, entered, node_reached, in_turn, enter, turns_of}
-use Rattle.ntx_nodes.specs.Walker.{inner_links, links_of, whole_walk, Marks, Ends, Stops, Walks, Comes, Reaches}
+use Rattle.ntx_nodes.specs.Walk.{entered, node_reached, in_turn, enter, turns_of}
+use Rattle.ntx_nodes.specs.Walker.{onward_of, whole_walk, Marks, Ends, Stops, Walks, Comes, Reaches}
 use Rattle.ntx_nodes.specs.declared.kind.ListKind.{ListKind}
 use Rattle.ntx_nodes.specs.declared.kind.ListKind.TheVariants.{H, V, Part}
 use Rattle.ntx_nodes.specs.declared.kind.Way.{Way}
 use Rattle.ntx_nodes.specs.declared.kind.Way.TheVariants.{Checked, Plain, Flat}
-use Rattle.ntx_nodes.specs.declared.links.Links.{Links}
+use Rattle.ntx_nodes.specs.declared.walk.Onward.{Onward}
+use Rattle.ntx_nodes.specs.declared.inner.InnerLists.{InnerLists}
 use Rattle.ntx_nodes.specs.declared.fields.Fields.{Fields}
 use Rattle.ntx_nodes.specs.declared.fields.Contents.{Contents}
 use Rattle.ntx_nodes.specs.declared.fields.Contents.TheVariants as contents
@@ -35,52 +36,6 @@ whole_Some heap way r n d k = enough heap way (turns_of heap) r (Some n) d k (un
 abbrev Lister : Type 0
 Lister = List ℕ → Option ℕ → ListKind → Result (List ℕ) Trouble
 
-abbrev three : Lister → List ℕ → Links → Result (List ℕ) Trouble
-three f r l = result_and_then (f r l.first l.kind) (λ a. result_and_then (f a l.second l.kind) (λ b. f b l.third l.kind))
-
-then_Ok : {A E : Type 0} (r : Result A E) → result_and_then r (λ a. Ok a) ≡ r
-then_Ok (Ok a) = refl
-then_Ok (Err e) = refl
-
-no_lists : (f : Lister) → ((r : List ℕ) (k : ListKind) → f r None k ≡ Ok r) → (r : List ℕ) (next : Option ℕ) → three f r (record { first = None; second = None; third = None; kind = H; next = next }) ≡ Ok r
-no_lists f none r next =
-    ap (λ x. result_and_then x (λ a. result_and_then (f a None H) (λ b. f b None H))) (none r H)
-    ∙ ap (λ x. result_and_then x (λ b. f b None H)) (none r H) ∙ none r H
-
-one_list : (f : Lister) → ((r : List ℕ) (k : ListKind) → f r None k ≡ Ok r) → (r : List ℕ) (to next : Option ℕ) (k : ListKind) → three f r (record { first = to; second = None; third = None; kind = k; next = next }) ≡ in_turn f r ((to, k) ∷ [])
-one_list f none r to next k = then_same (f r to k) (f r to k) (λ a. result_and_then (f a None k) (λ b. f b None k)) (λ a. Ok a) refl (λ a _. ap (λ x. result_and_then x (λ b. f b None k)) (none a k) ∙ none a k)
-
-inner_in_turn : (f : Lister) → ((r : List ℕ) (k : ListKind) → f r None k ≡ Ok r) → (c : Contents) (next : Option ℕ) (r : List ℕ) → in_turn f r (inner_lists c) ≡ three f r (inner_links c next)
-inner_in_turn f none (contents.Hlist b) next r = sym (one_list f none r b.list next H)
-inner_in_turn f none (contents.Vlist b) next r = sym (one_list f none r b.list next V)
-inner_in_turn f none (contents.Disc d) next r =
-    then_same (f r d.pre Part) (f r d.pre Part) _ _ refl (λ a _. then_same (f a d.post Part) (f a d.post Part) _ _ refl (λ b _. then_Ok (f b d.replace Part)))
-inner_in_turn f none (contents.Rule x) next r = sym (no_lists f none r next)
-inner_in_turn f none (contents.Glue x) next r = sym (no_lists f none r next)
-inner_in_turn f none (contents.Kern x) next r = sym (no_lists f none r next)
-inner_in_turn f none (contents.Penalty x) next r = sym (no_lists f none r next)
-inner_in_turn f none (contents.Glyph x) next r = sym (no_lists f none r next)
-
-entered_in_turn : (f : Lister) → ((r : List ℕ) (k : ListKind) → f r None k ≡ Ok r) → (way : Way) (fields : Fields) (r : List ℕ) → in_turn f r (entered way fields.contents) ≡ three f r (links_of way fields)
-entered_in_turn f none Flat fields r = sym (no_lists f none r fields.next)
-entered_in_turn f none Checked fields r = inner_in_turn f none fields.contents fields.next r
-entered_in_turn f none Plain fields r = inner_in_turn f none fields.contents fields.next r
-
-inner_next : (c : Contents) (next : Option ℕ) → (inner_links c next).next ≡ next
-inner_next (contents.Hlist b) next = refl
-inner_next (contents.Vlist b) next = refl
-inner_next (contents.Disc d) next = refl
-inner_next (contents.Rule x) next = refl
-inner_next (contents.Glue x) next = refl
-inner_next (contents.Kern x) next = refl
-inner_next (contents.Penalty x) next = refl
-inner_next (contents.Glyph x) next = refl
-
-pub links_next : (way : Way) (fields : Fields) → (links_of way fields).next ≡ fields.next
-links_next Flat fields = refl
-links_next Checked fields = inner_next fields.contents fields.next
-links_next Plain fields = inner_next fields.contents fields.next
-
 -- ---- at a node
 abbrev inner : Heap → Way → ℕ → Lister
 inner heap way d r n k = whole_walk heap way r n (d + 1) k
@@ -91,12 +46,11 @@ map_then (Err e) f g = refl
 
 -- the lists of a node that passes its tests, and then what follows it
 pub whole_at : (heap : Heap) (way : Way) (r : List ℕ) (n d : ℕ) (k : ListKind) (node : Node) → node_reached heap way r n d k ≡ Ok node
-    → whole_walk heap way r (Some n) d k ≡ result_and_then (three (inner heap way d) (r ++ n ∷ []) (links_of way node.fields)) (λ c. whole_walk heap way c (links_of way node.fields).next d k)
+    → whole_walk heap way r (Some n) d k ≡ result_and_then (in_turn (inner heap way d) (r ++ n ∷ []) (entered way node.fields.contents)) (λ c. whole_walk heap way c node.fields.next d k)
 whole_at heap way r n d k node e =
     whole_Some heap way r n d k
     ∙ ap (λ x. result_and_then (result_and_then x (λ (node : Node). result_map {B = Node × List ℕ} (λ names. (node, names)) (in_turn (inner heap way d) (r ++ n ∷ []) (entered way node.fields.contents)))) (λ entry. whole_walk heap way entry.1 entry.0.fields.next d k)) e
     ∙ map_then {B = Node × List ℕ} (in_turn (inner heap way d) (r ++ n ∷ []) (entered way node.fields.contents)) (λ names. (node, names)) (λ entry. whole_walk heap way entry.1 entry.0.fields.next d k)
-    ∙ (let lists = entered_in_turn (inner heap way d) (λ b j. whole_None heap way b (d + 1) j) way node.fields (r ++ n ∷ []) in let next = sym (links_next way node.fields) in λ i. result_and_then (lists i) (λ c. whole_walk heap way c (next i) d k))
 
 -- a node that fails its tests
 pub whole_refused : (heap : Heap) (way : Way) (r : List ℕ) (n d : ℕ) (k : ListKind) (why : Trouble) → node_reached heap way r n d k ≡ Err why → whole_walk heap way r (Some n) d k ≡ Err why
@@ -128,8 +82,8 @@ gets_ended heap way d k head v w told heard gets before marks =
     let g = gets before marks in
     (g.0, g.1 ∙ whole_None heap way (before ++ g.0) d k, g.2, g.3)
 
-three_Ok : (f : Lister) (r a b c : List ℕ) (l : Links) → f r l.first l.kind ≡ Ok a → f a l.second l.kind ≡ Ok b → f b l.third l.kind ≡ Ok c → three f r l ≡ Ok c
-three_Ok f r a b c l p q s =
+in_turn_Ok : (f : Lister) (r a b c : List ℕ) (l : InnerLists) → f r l.first l.kind ≡ Ok a → f a l.second l.kind ≡ Ok b → f b l.third l.kind ≡ Ok c → in_turn f r l ≡ Ok c
+in_turn_Ok f r a b c l p q s =
     ap (λ x. result_and_then x (λ a. result_and_then (f a l.second l.kind) (λ b. f b l.third l.kind))) p ∙ ap (λ x. result_and_then x (λ b. f b l.third l.kind)) q ∙ s
 
 regrouped : (before g n a b c : List ℕ) → ((((before ++ g) ++ n) ++ a) ++ b) ++ c ≡ before ++ ((((g ++ n) ++ a) ++ b) ++ c)
@@ -143,19 +97,19 @@ told_all told heard h0 h1 h2 h3 g n a b c e0 e1 e2 e3 e4 =
     let f2 = e3 ∙ ap (option_map (λ names. names ++ b)) f1 ∙ told_on told ((g ++ n) ++ a) b in
     e4 ∙ ap (option_map (λ names. names ++ c)) f2 ∙ told_on told (((g ++ n) ++ a) ++ b) c
 
--- at a node that passes its tests, with the links that the walker took
-abbrev At : Heap → Way → List ℕ → ℕ → ℕ → ListKind → Links → Type 0
-At heap way r n d k links = whole_walk heap way r (Some n) d k ≡ result_and_then (three (inner heap way d) (r ++ n ∷ []) links) (λ c. whole_walk heap way c links.next d k)
+-- at a node that passes its tests, with the onward that the walker took
+abbrev At : Heap → Way → List ℕ → ℕ → ℕ → ListKind → Onward → Type 0
+At heap way r n d k onward = whole_walk heap way r (Some n) d k ≡ result_and_then (in_turn (inner heap way d) (r ++ n ∷ []) onward.lists) (λ c. whole_walk heap way c onward.next d k)
 
-at_node : (heap : Heap) (way : Way) (r : List ℕ) (n d : ℕ) (k : ListKind) (node : Node) (links : Links) → node_reached heap way r n d k ≡ Ok node → links ≡ links_of way node.fields → At heap way r n d k links
-at_node heap way r n d k node links e is = subst (At heap way r n d k) (sym is) (whole_at heap way r n d k node e)
+at_node : (heap : Heap) (way : Way) (r : List ℕ) (n d : ℕ) (k : ListKind) (node : Node) (onward : Onward) → node_reached heap way r n d k ≡ Ok node → onward ≡ onward_of way node.fields → At heap way r n d k onward
+at_node heap way r n d k node onward e is = subst (At heap way r n d k) (sym is) (whole_at heap way r n d k node e)
 
 -- on by a node and its three lists
-pub gets_on : (heap : Heap) (way : Way) (d : ℕ) (k : ListKind) (head : Option ℕ) (v w v0 v1 v2 v3 : Names) (told heard h0 h1 h2 h3 : Option (List ℕ)) (n : ℕ) (links : Links)
-    → Gets heap way d k head v told (Some n) w heard → Comes heap way n d k w heard v0 h0 links
-    → Ends heap way links.first (d + 1) links.kind v0 h0 v1 h1 → Ends heap way links.second (d + 1) links.kind v1 h1 v2 h2 → Ends heap way links.third (d + 1) links.kind v2 h2 v3 h3
-    → Gets heap way d k head v told links.next v3 h3
-gets_on heap way d k head v w v0 v1 v2 v3 told heard h0 h1 h2 h3 n links gets comes e1 e2 e3 before marks =
+pub gets_on : (heap : Heap) (way : Way) (d : ℕ) (k : ListKind) (head : Option ℕ) (v w v0 v1 v2 v3 : Names) (told heard h0 h1 h2 h3 : Option (List ℕ)) (n : ℕ) (onward : Onward)
+    → Gets heap way d k head v told (Some n) w heard → Comes heap way n d k w heard v0 h0 onward
+    → Ends heap way onward.lists.first (d + 1) onward.lists.kind v0 h0 v1 h1 → Ends heap way onward.lists.second (d + 1) onward.lists.kind v1 h1 v2 h2 → Ends heap way onward.lists.third (d + 1) onward.lists.kind v2 h2 v3 h3
+    → Gets heap way d k head v told onward.next v3 h3
+gets_on heap way d k head v w v0 v1 v2 v3 told heard h0 h1 h2 h3 n onward gets comes e1 e2 e3 before marks =
     let g = gets before marks in
     let c = comes (before ++ g.0) g.2 in
     let r0 : List ℕ = (before ++ g.0) ++ n ∷ [] in
@@ -164,10 +118,10 @@ gets_on heap way d k head v w v0 v1 v2 v3 told heard h0 h1 h2 h3 n links gets co
     let z = e3 ((r0 ++ a.0) ++ b.0) b.2 in
     let r3 : List ℕ = ((r0 ++ a.0) ++ b.0) ++ z.0 in
     let more : List ℕ = (((g.0 ++ n ∷ []) ++ a.0) ++ b.0) ++ z.0 in
-    let lists = three_Ok (inner heap way d) r0 (r0 ++ a.0) ((r0 ++ a.0) ++ b.0) r3 links a.1 b.1 z.1 in
+    let lists = in_turn_Ok (inner heap way d) r0 (r0 ++ a.0) ((r0 ++ a.0) ++ b.0) r3 onward.lists a.1 b.1 z.1 in
     let same : r3 ≡ before ++ more = regrouped before g.0 (n ∷ []) a.0 b.0 z.0 in (
       more,
-      g.1 ∙ at_node heap way (before ++ g.0) n d k c.0 links c.1 c.2 ∙ ap (λ x. result_and_then x (λ r. whole_walk heap way r links.next d k)) lists ∙ ap (λ r. whole_walk heap way r links.next d k) same,
+      g.1 ∙ at_node heap way (before ++ g.0) n d k c.0 onward c.1 c.2 ∙ ap (λ x. result_and_then x (λ r. whole_walk heap way r onward.next d k)) lists ∙ ap (λ r. whole_walk heap way r onward.next d k) same,
       subst (Marks v3) same z.2,
       told_all told heard h0 h1 h2 h3 g.0 (n ∷ []) a.0 b.0 z.0 g.3 c.4 a.3 b.3 z.3,
     )
@@ -178,40 +132,40 @@ pub stops_at : (heap : Heap) (way : Way) (d : ℕ) (k : ListKind) (head : Option
 stops_at heap way d k head v w told heard n why gets refuses before marks =
     let g = gets before marks in g.1 ∙ whole_refused heap way (before ++ g.0) n d k why (refuses (before ++ g.0) g.2)
 
-pub stops_first : (heap : Heap) (way : Way) (d : ℕ) (k : ListKind) (head : Option ℕ) (v w v0 : Names) (told heard h0 : Option (List ℕ)) (n : ℕ) (links : Links) (why : Trouble)
-    → Gets heap way d k head v told (Some n) w heard → Comes heap way n d k w heard v0 h0 links → Stops heap way links.first (d + 1) links.kind v0 why → Stops heap way head d k v why
-stops_first heap way d k head v w v0 told heard h0 n links why gets comes s before marks =
+pub stops_first : (heap : Heap) (way : Way) (d : ℕ) (k : ListKind) (head : Option ℕ) (v w v0 : Names) (told heard h0 : Option (List ℕ)) (n : ℕ) (onward : Onward) (why : Trouble)
+    → Gets heap way d k head v told (Some n) w heard → Comes heap way n d k w heard v0 h0 onward → Stops heap way onward.lists.first (d + 1) onward.lists.kind v0 why → Stops heap way head d k v why
+stops_first heap way d k head v w v0 told heard h0 n onward why gets comes s before marks =
     let g = gets before marks in
     let c = comes (before ++ g.0) g.2 in
     let r0 : List ℕ = (before ++ g.0) ++ n ∷ [] in
-    g.1 ∙ at_node heap way (before ++ g.0) n d k c.0 links c.1 c.2
-    ∙ ap (λ x. result_and_then (result_and_then x (λ a. result_and_then (inner heap way d a links.second links.kind) (λ b. inner heap way d b links.third links.kind))) (λ r. whole_walk heap way r links.next d k)) (s r0 c.3)
+    g.1 ∙ at_node heap way (before ++ g.0) n d k c.0 onward c.1 c.2
+    ∙ ap (λ x. result_and_then (result_and_then x (λ a. result_and_then (inner heap way d a onward.lists.second onward.lists.kind) (λ b. inner heap way d b onward.lists.third onward.lists.kind))) (λ r. whole_walk heap way r onward.next d k)) (s r0 c.3)
 
-pub stops_second : (heap : Heap) (way : Way) (d : ℕ) (k : ListKind) (head : Option ℕ) (v w v0 v1 : Names) (told heard h0 h1 : Option (List ℕ)) (n : ℕ) (links : Links) (why : Trouble)
-    → Gets heap way d k head v told (Some n) w heard → Comes heap way n d k w heard v0 h0 links → Ends heap way links.first (d + 1) links.kind v0 h0 v1 h1
-    → Stops heap way links.second (d + 1) links.kind v1 why → Stops heap way head d k v why
-stops_second heap way d k head v w v0 v1 told heard h0 h1 n links why gets comes e1 s before marks =
+pub stops_second : (heap : Heap) (way : Way) (d : ℕ) (k : ListKind) (head : Option ℕ) (v w v0 v1 : Names) (told heard h0 h1 : Option (List ℕ)) (n : ℕ) (onward : Onward) (why : Trouble)
+    → Gets heap way d k head v told (Some n) w heard → Comes heap way n d k w heard v0 h0 onward → Ends heap way onward.lists.first (d + 1) onward.lists.kind v0 h0 v1 h1
+    → Stops heap way onward.lists.second (d + 1) onward.lists.kind v1 why → Stops heap way head d k v why
+stops_second heap way d k head v w v0 v1 told heard h0 h1 n onward why gets comes e1 s before marks =
     let g = gets before marks in
     let c = comes (before ++ g.0) g.2 in
     let r0 : List ℕ = (before ++ g.0) ++ n ∷ [] in
     let a = e1 r0 c.3 in
-    g.1 ∙ at_node heap way (before ++ g.0) n d k c.0 links c.1 c.2
-    ∙ ap (λ x. result_and_then (result_and_then x (λ a. result_and_then (inner heap way d a links.second links.kind) (λ b. inner heap way d b links.third links.kind))) (λ r. whole_walk heap way r links.next d k)) a.1
-    ∙ ap (λ x. result_and_then (result_and_then x (λ b. inner heap way d b links.third links.kind)) (λ r. whole_walk heap way r links.next d k)) (s (r0 ++ a.0) a.2)
+    g.1 ∙ at_node heap way (before ++ g.0) n d k c.0 onward c.1 c.2
+    ∙ ap (λ x. result_and_then (result_and_then x (λ a. result_and_then (inner heap way d a onward.lists.second onward.lists.kind) (λ b. inner heap way d b onward.lists.third onward.lists.kind))) (λ r. whole_walk heap way r onward.next d k)) a.1
+    ∙ ap (λ x. result_and_then (result_and_then x (λ b. inner heap way d b onward.lists.third onward.lists.kind)) (λ r. whole_walk heap way r onward.next d k)) (s (r0 ++ a.0) a.2)
 
-pub stops_third : (heap : Heap) (way : Way) (d : ℕ) (k : ListKind) (head : Option ℕ) (v w v0 v1 v2 : Names) (told heard h0 h1 h2 : Option (List ℕ)) (n : ℕ) (links : Links) (why : Trouble)
-    → Gets heap way d k head v told (Some n) w heard → Comes heap way n d k w heard v0 h0 links → Ends heap way links.first (d + 1) links.kind v0 h0 v1 h1 → Ends heap way links.second (d + 1) links.kind v1 h1 v2 h2
-    → Stops heap way links.third (d + 1) links.kind v2 why → Stops heap way head d k v why
-stops_third heap way d k head v w v0 v1 v2 told heard h0 h1 h2 n links why gets comes e1 e2 s before marks =
+pub stops_third : (heap : Heap) (way : Way) (d : ℕ) (k : ListKind) (head : Option ℕ) (v w v0 v1 v2 : Names) (told heard h0 h1 h2 : Option (List ℕ)) (n : ℕ) (onward : Onward) (why : Trouble)
+    → Gets heap way d k head v told (Some n) w heard → Comes heap way n d k w heard v0 h0 onward → Ends heap way onward.lists.first (d + 1) onward.lists.kind v0 h0 v1 h1 → Ends heap way onward.lists.second (d + 1) onward.lists.kind v1 h1 v2 h2
+    → Stops heap way onward.lists.third (d + 1) onward.lists.kind v2 why → Stops heap way head d k v why
+stops_third heap way d k head v w v0 v1 v2 told heard h0 h1 h2 n onward why gets comes e1 e2 s before marks =
     let g = gets before marks in
     let c = comes (before ++ g.0) g.2 in
     let r0 : List ℕ = (before ++ g.0) ++ n ∷ [] in
     let a = e1 r0 c.3 in
     let b = e2 (r0 ++ a.0) a.2 in
-    g.1 ∙ at_node heap way (before ++ g.0) n d k c.0 links c.1 c.2
-    ∙ ap (λ x. result_and_then (result_and_then x (λ a. result_and_then (inner heap way d a links.second links.kind) (λ b. inner heap way d b links.third links.kind))) (λ r. whole_walk heap way r links.next d k)) a.1
-    ∙ ap (λ x. result_and_then (result_and_then x (λ b. inner heap way d b links.third links.kind)) (λ r. whole_walk heap way r links.next d k)) b.1
-    ∙ ap (λ x. result_and_then x (λ r. whole_walk heap way r links.next d k)) (s ((r0 ++ a.0) ++ b.0) b.2)
+    g.1 ∙ at_node heap way (before ++ g.0) n d k c.0 onward c.1 c.2
+    ∙ ap (λ x. result_and_then (result_and_then x (λ a. result_and_then (inner heap way d a onward.lists.second onward.lists.kind) (λ b. inner heap way d b onward.lists.third onward.lists.kind))) (λ r. whole_walk heap way r onward.next d k)) a.1
+    ∙ ap (λ x. result_and_then (result_and_then x (λ b. inner heap way d b onward.lists.third onward.lists.kind)) (λ r. whole_walk heap way r onward.next d k)) b.1
+    ∙ ap (λ x. result_and_then x (λ r. whole_walk heap way r onward.next d k)) (s ((r0 ++ a.0) ++ b.0) b.2)
 
 -- ---- the same with the heaps of the walker's calls, each of which is the walk's
 pub fails_at : (heap hr : Heap) (way : Way) (d : ℕ) (k : ListKind) (head at : Option ℕ) (v w v0 x : Names) (told heard h0 y : Option (List ℕ)) (n : ℕ) (why : Fail Trouble)
@@ -221,35 +175,53 @@ fails_at heap hr way d k head at v w v0 x told heard h0 y n (Is why) same gets i
     (subst (λ h. (before : List ℕ) → Marks w before → node_reached h way before n d k ≡ Err why) same refuses)
 fails_at heap hr way d k head at v w v0 x told heard h0 y n NoMemory same gets is refuses = tt
 
-pub fails_first : (heap hr h1 : Heap) (way : Way) (d : ℕ) (k : ListKind) (head at : Option ℕ) (v w v0 v1 x : Names) (told heard t0 t1 y : Option (List ℕ)) (n : ℕ) (links : Links) (why : Fail Trouble)
-    → hr ≡ heap → h1 ≡ heap → Gets heap way d k head v told at w heard → at ≡ Some n → Comes hr way n d k w heard v0 t0 links
-    → Walks h1 way links.first (d + 1) links.kind v0 t0 v1 t1 (Err why) → Walks heap way head d k v told x y (Err why)
-fails_first heap hr h1 way d k head at v w v0 v1 x told heard t0 t1 y n links (Is why) same same1 gets is comes s =
-    stops_first heap way d k head v w v0 told heard t0 n links why (subst (λ a. Gets heap way d k head v told a w heard) is gets) (subst (λ h. Comes h way n d k w heard v0 t0 links) same comes)
-    (subst (λ h. Stops h way links.first (d + 1) links.kind v0 why) same1 s)
-fails_first heap hr h1 way d k head at v w v0 v1 x told heard t0 t1 y n links NoMemory same same1 gets is comes s = tt
+pub fails_first : (heap hr h1 : Heap) (way : Way) (d : ℕ) (k : ListKind) (head at : Option ℕ) (v w v0 v1 x : Names) (told heard t0 t1 y : Option (List ℕ)) (n : ℕ) (onward : Onward) (why : Fail Trouble)
+    → hr ≡ heap → h1 ≡ heap → Gets heap way d k head v told at w heard → at ≡ Some n → Comes hr way n d k w heard v0 t0 onward
+    → Walks h1 way onward.lists.first (d + 1) onward.lists.kind v0 t0 v1 t1 (Err why) → Walks heap way head d k v told x y (Err why)
+fails_first heap hr h1 way d k head at v w v0 v1 x told heard t0 t1 y n onward (Is why) same same1 gets is comes s =
+    stops_first heap way d k head v w v0 told heard t0 n onward why (subst (λ a. Gets heap way d k head v told a w heard) is gets) (subst (λ h. Comes h way n d k w heard v0 t0 onward) same comes)
+    (subst (λ h. Stops h way onward.lists.first (d + 1) onward.lists.kind v0 why) same1 s)
+fails_first heap hr h1 way d k head at v w v0 v1 x told heard t0 t1 y n onward NoMemory same same1 gets is comes s = tt
 
-pub fails_second : (heap hr h1 h2 : Heap) (way : Way) (d : ℕ) (k : ListKind) (head at : Option ℕ) (v w v0 v1 v2 x : Names) (told heard t0 t1 t2 y : Option (List ℕ)) (n : ℕ) (links : Links) (why : Fail Trouble)
-    → hr ≡ heap → h1 ≡ heap → h2 ≡ heap → Gets heap way d k head v told at w heard → at ≡ Some n → Comes hr way n d k w heard v0 t0 links → Ends h1 way links.first (d + 1) links.kind v0 t0 v1 t1
-    → Walks h2 way links.second (d + 1) links.kind v1 t1 v2 t2 (Err why) → Walks heap way head d k v told x y (Err why)
-fails_second heap hr h1 h2 way d k head at v w v0 v1 v2 x told heard t0 t1 t2 y n links (Is why) same same1 same2 gets is comes e1 s =
-    stops_second heap way d k head v w v0 v1 told heard t0 t1 n links why (subst (λ a. Gets heap way d k head v told a w heard) is gets) (subst (λ h. Comes h way n d k w heard v0 t0 links) same comes)
-    (subst (λ h. Ends h way links.first (d + 1) links.kind v0 t0 v1 t1) same1 e1) (subst (λ h. Stops h way links.second (d + 1) links.kind v1 why) same2 s)
-fails_second heap hr h1 h2 way d k head at v w v0 v1 v2 x told heard t0 t1 t2 y n links NoMemory same same1 same2 gets is comes e1 s = tt
+pub fails_second : (heap hr h1 h2 : Heap) (way : Way) (d : ℕ) (k : ListKind) (head at : Option ℕ) (v w v0 v1 v2 x : Names) (told heard t0 t1 t2 y : Option (List ℕ)) (n : ℕ) (onward : Onward) (why : Fail Trouble)
+    → hr ≡ heap → h1 ≡ heap → h2 ≡ heap → Gets heap way d k head v told at w heard → at ≡ Some n → Comes hr way n d k w heard v0 t0 onward → Ends h1 way onward.lists.first (d + 1) onward.lists.kind v0 t0 v1 t1
+    → Walks h2 way onward.lists.second (d + 1) onward.lists.kind v1 t1 v2 t2 (Err why) → Walks heap way head d k v told x y (Err why)
+fails_second heap hr h1 h2 way d k head at v w v0 v1 v2 x told heard t0 t1 t2 y n onward (Is why) same same1 same2 gets is comes e1 s =
+    stops_second heap way d k head v w v0 v1 told heard t0 t1 n onward why (subst (λ a. Gets heap way d k head v told a w heard) is gets) (subst (λ h. Comes h way n d k w heard v0 t0 onward) same comes)
+    (subst (λ h. Ends h way onward.lists.first (d + 1) onward.lists.kind v0 t0 v1 t1) same1 e1) (subst (λ h. Stops h way onward.lists.second (d + 1) onward.lists.kind v1 why) same2 s)
+fails_second heap hr h1 h2 way d k head at v w v0 v1 v2 x told heard t0 t1 t2 y n onward NoMemory same same1 same2 gets is comes e1 s = tt
 
-pub fails_third : (heap hr h1 h2 h3 : Heap) (way : Way) (d : ℕ) (k : ListKind) (head at : Option ℕ) (v w v0 v1 v2 v3 x : Names) (told heard t0 t1 t2 t3 y : Option (List ℕ)) (n : ℕ) (links : Links) (why : Fail Trouble)
-    → hr ≡ heap → h1 ≡ heap → h2 ≡ heap → h3 ≡ heap → Gets heap way d k head v told at w heard → at ≡ Some n → Comes hr way n d k w heard v0 t0 links → Ends h1 way links.first (d + 1) links.kind v0 t0 v1 t1
-    → Ends h2 way links.second (d + 1) links.kind v1 t1 v2 t2 → Walks h3 way links.third (d + 1) links.kind v2 t2 v3 t3 (Err why) → Walks heap way head d k v told x y (Err why)
-fails_third heap hr h1 h2 h3 way d k head at v w v0 v1 v2 v3 x told heard t0 t1 t2 t3 y n links (Is why) same same1 same2 same3 gets is comes e1 e2 s =
-    stops_third heap way d k head v w v0 v1 v2 told heard t0 t1 t2 n links why (subst (λ a. Gets heap way d k head v told a w heard) is gets) (subst (λ h. Comes h way n d k w heard v0 t0 links) same comes)
-    (subst (λ h. Ends h way links.first (d + 1) links.kind v0 t0 v1 t1) same1 e1) (subst (λ h. Ends h way links.second (d + 1) links.kind v1 t1 v2 t2) same2 e2)
-    (subst (λ h. Stops h way links.third (d + 1) links.kind v2 why) same3 s)
-fails_third heap hr h1 h2 h3 way d k head at v w v0 v1 v2 v3 x told heard t0 t1 t2 t3 y n links NoMemory same same1 same2 same3 gets is comes e1 e2 s = tt
+pub fails_third : (heap hr h1 h2 h3 : Heap) (way : Way) (d : ℕ) (k : ListKind) (head at : Option ℕ) (v w v0 v1 v2 v3 x : Names) (told heard t0 t1 t2 t3 y : Option (List ℕ)) (n : ℕ) (onward : Onward) (why : Fail Trouble)
+    → hr ≡ heap → h1 ≡ heap → h2 ≡ heap → h3 ≡ heap → Gets heap way d k head v told at w heard → at ≡ Some n → Comes hr way n d k w heard v0 t0 onward → Ends h1 way onward.lists.first (d + 1) onward.lists.kind v0 t0 v1 t1
+    → Ends h2 way onward.lists.second (d + 1) onward.lists.kind v1 t1 v2 t2 → Walks h3 way onward.lists.third (d + 1) onward.lists.kind v2 t2 v3 t3 (Err why) → Walks heap way head d k v told x y (Err why)
+fails_third heap hr h1 h2 h3 way d k head at v w v0 v1 v2 v3 x told heard t0 t1 t2 t3 y n onward (Is why) same same1 same2 same3 gets is comes e1 e2 s =
+    stops_third heap way d k head v w v0 v1 v2 told heard t0 t1 t2 n onward why (subst (λ a. Gets heap way d k head v told a w heard) is gets) (subst (λ h. Comes h way n d k w heard v0 t0 onward) same comes)
+    (subst (λ h. Ends h way onward.lists.first (d + 1) onward.lists.kind v0 t0 v1 t1) same1 e1) (subst (λ h. Ends h way onward.lists.second (d + 1) onward.lists.kind v1 t1 v2 t2) same2 e2)
+    (subst (λ h. Stops h way onward.lists.third (d + 1) onward.lists.kind v2 why) same3 s)
+fails_third heap hr h1 h2 h3 way d k head at v w v0 v1 v2 v3 x told heard t0 t1 t2 t3 y n onward NoMemory same same1 same2 same3 gets is comes e1 e2 s = tt
 
-pub goes_on : (heap hr h1 h2 h3 : Heap) (way : Way) (d : ℕ) (k : ListKind) (head at : Option ℕ) (v w v0 v1 v2 v3 : Names) (told heard t0 t1 t2 t3 : Option (List ℕ)) (n : ℕ) (links : Links)
-    → hr ≡ heap → h1 ≡ heap → h2 ≡ heap → h3 ≡ heap → Gets heap way d k head v told at w heard → at ≡ Some n → Comes hr way n d k w heard v0 t0 links → Ends h1 way links.first (d + 1) links.kind v0 t0 v1 t1
-    → Ends h2 way links.second (d + 1) links.kind v1 t1 v2 t2 → Ends h3 way links.third (d + 1) links.kind v2 t2 v3 t3 → Gets heap way d k head v told links.next v3 t3
-goes_on heap hr h1 h2 h3 way d k head at v w v0 v1 v2 v3 told heard t0 t1 t2 t3 n links same same1 same2 same3 gets is comes e1 e2 e3 =
-    gets_on heap way d k head v w v0 v1 v2 v3 told heard t0 t1 t2 t3 n links (subst (λ a. Gets heap way d k head v told a w heard) is gets) (subst (λ h. Comes h way n d k w heard v0 t0 links) same comes)
-    (subst (λ h. Ends h way links.first (d + 1) links.kind v0 t0 v1 t1) same1 e1) (subst (λ h. Ends h way links.second (d + 1) links.kind v1 t1 v2 t2) same2 e2)
-    (subst (λ h. Ends h way links.third (d + 1) links.kind v2 t2 v3 t3) same3 e3)
+pub goes_on : (heap hr h1 h2 h3 : Heap) (way : Way) (d : ℕ) (k : ListKind) (head at : Option ℕ) (v w v0 v1 v2 v3 : Names) (told heard t0 t1 t2 t3 : Option (List ℕ)) (n : ℕ) (onward : Onward)
+    → hr ≡ heap → h1 ≡ heap → h2 ≡ heap → h3 ≡ heap → Gets heap way d k head v told at w heard → at ≡ Some n → Comes hr way n d k w heard v0 t0 onward → Ends h1 way onward.lists.first (d + 1) onward.lists.kind v0 t0 v1 t1
+    → Ends h2 way onward.lists.second (d + 1) onward.lists.kind v1 t1 v2 t2 → Ends h3 way onward.lists.third (d + 1) onward.lists.kind v2 t2 v3 t3 → Gets heap way d k head v told onward.next v3 t3
+goes_on heap hr h1 h2 h3 way d k head at v w v0 v1 v2 v3 told heard t0 t1 t2 t3 n onward same same1 same2 same3 gets is comes e1 e2 e3 =
+    gets_on heap way d k head v w v0 v1 v2 v3 told heard t0 t1 t2 t3 n onward (subst (λ a. Gets heap way d k head v told a w heard) is gets) (subst (λ h. Comes h way n d k w heard v0 t0 onward) same comes)
+    (subst (λ h. Ends h way onward.lists.first (d + 1) onward.lists.kind v0 t0 v1 t1) same1 e1) (subst (λ h. Ends h way onward.lists.second (d + 1) onward.lists.kind v1 t1 v2 t2) same2 e2)
+    (subst (λ h. Ends h way onward.lists.third (d + 1) onward.lists.kind v2 t2 v3 t3) same3 e3)
+
+-- along a list alone, where no list is entered
+nothing_walked : (heap : Heap) (way : Way) (d : ℕ) (k : ListKind) (v : Names) (told : Option (List ℕ)) → Ends heap way None d k v told v told
+nothing_walked heap way d k v told before marks = ([], whole_None heap way before d k ∙ ap Ok (sym (append-nil before)), subst (Marks v) (sym (append-nil before)) marks, told_none told)
+
+along_on : (heap : Heap) (d : ℕ) (k : ListKind) (head : Option ℕ) (v w v0 : Names) (told heard t0 : Option (List ℕ)) (n : ℕ) (onward : Onward)
+    → Gets heap Flat d k head v told (Some n) w heard → Comes heap Flat n d k w heard v0 t0 onward → Gets heap Flat d k head v told onward.next v0 t0
+along_on heap d k head v w v0 told heard t0 n onward gets comes before marks =
+    let g = gets before marks in
+    let none = (comes (before ++ g.0) g.2).2 in
+    let ends : (to : Option ℕ) (j : ListKind) → to ≡ None → Ends heap Flat to (d + 1) j v0 t0 v0 t0 = λ to j e. subst (λ x. Ends heap Flat x (d + 1) j v0 t0 v0 t0) (sym e) (nothing_walked heap Flat (d + 1) j v0 t0) in
+    gets_on heap Flat d k head v w v0 v0 v0 v0 told heard t0 t0 t0 t0 n onward gets comes
+    (ends onward.lists.first onward.lists.kind (ap (λ o. o.lists.first) none)) (ends onward.lists.second onward.lists.kind (ap (λ o. o.lists.second) none)) (ends onward.lists.third onward.lists.kind (ap (λ o. o.lists.third) none)) before marks
+
+pub goes_along : (heap hr : Heap) (d : ℕ) (k : ListKind) (head at : Option ℕ) (v w v0 : Names) (told heard t0 : Option (List ℕ)) (n : ℕ) (onward : Onward)
+    → hr ≡ heap → Gets heap Flat d k head v told at w heard → at ≡ Some n → Comes hr Flat n d k w heard v0 t0 onward → Gets heap Flat d k head v told onward.next v0 t0
+goes_along heap hr d k head at v w v0 told heard t0 n onward same gets is comes =
+    along_on heap d k head v w v0 told heard t0 n onward (subst (λ a. Gets heap Flat d k head v told a w heard) is gets) (subst (λ h. Comes h Flat n d k w heard v0 t0 onward) same comes)

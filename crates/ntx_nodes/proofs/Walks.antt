@@ -1,6 +1,6 @@
 -- Laws of walks.
 use Rattle.std.proofs.Common.{◌≡◌, ℕ, suc, ◌+◌, ◌≤◌, ◌<◌, List, [], ◌∷◌, ◌++◌, Bool, true, false, cond, length, Some, Ok, refl, sym, ◌∙◌, ap, subst, arith}
-use Rattle.std.specs.Prelude.{Option, Result, not, ◌||◌, nat_eq, nat_lt}
+use Rattle.std.specs.Prelude.{Option, Result, not, ◌||◌, nat_eq}
 use Rattle.std.specs.Option.{option_map}
 use Rattle.std.specs.Ordering.{nat_cmp, eq_by_cmp}
 use Rattle.std.specs.Cmp.{nat_cmp_total, unsigned_tied, Equal-is}
@@ -8,17 +8,17 @@ use Rattle.std.specs.FinMap as map
 use Rattle.std.specs.FinSet as set
 use Rattle.ntx_nodes.specs.Fields.{kind_of}
 use Rattle.ntx_nodes.specs.Heap.{Heap, Names}
-use Rattle.ntx_nodes.specs.Steps.{at, visit_step}
-use Rattle.ntx_nodes.specs.Walk.{is_reached, admits, node_reached, max_depth}
-use Rattle.ntx_nodes.specs.Walker.{links_of, Marks, Comes, failing, unvisited, Keeps}
-use Rattle.ntx_nodes.specs.declared.kind.Kind.{Kind}
+use Rattle.ntx_nodes.specs.Steps.{fields_answer, visit_step}
+use Rattle.ntx_nodes.specs.Walk.{is_reached, is_too_deep, admits, node_reached}
+use Rattle.ntx_nodes.specs.Walker.{onward_of, Marks, Comes, failing, unvisited, Keeps}
 use Rattle.ntx_nodes.specs.declared.kind.ListKind.{ListKind}
 use Rattle.ntx_nodes.specs.declared.kind.Way.{Way}
-use Rattle.ntx_nodes.specs.declared.links.Links.{Links}
+use Rattle.ntx_nodes.specs.declared.fields.Fields.{Fields}
+use Rattle.ntx_nodes.specs.declared.walk.Onward.{Onward}
 use Rattle.ntx_nodes.specs.declared.node.Node.{Node}
 use Rattle.std.proofs.lemmas.List.Folds.{list_any-append}
-use Rattle.std.proofs.lemmas.Bool.{lt-leb}
 use Rattle.std.proofs.lemmas.Bool.Decides.{nat_tests}
+use Rattle.ntx_num.proofs.Answers.{same_Ok}
 use Rattle.ntx_nodes.proofs.Oks.{at_Ok}
 
 pub nat_eq_same : (n : ℕ) → nat_eq n n ≡ true
@@ -93,32 +93,25 @@ not_true : (b : Bool) → not b ≡ true → b ≡ false
 not_true true e = cc
 not_true false e = refl
 
-same_Ok : {A E : Type 0} (a b : A) → ◌≡◌ {A = Result A E} (Ok a) (Ok b) → a ≡ b
-same_Ok a b e = cc
-
 -- the tests at a node that passes them
-pub node_reached_Ok : (heap : Heap) (way : Way) (before : List ℕ) (n depth : ℕ) (k : ListKind) (node : Node) → map.get heap.nodes n ≡ Some node → is_reached before n ≡ false → depth ≤ max_depth → admits way k (kind_of node.fields.contents) ≡ true
+pub node_reached_Ok : (heap : Heap) (way : Way) (before : List ℕ) (n depth : ℕ) (k : ListKind) (node : Node) → map.get heap.nodes n ≡ Some node → is_reached before n ≡ false → is_too_deep way depth ≡ false → admits way k (kind_of node.fields.contents) ≡ true
     → node_reached heap way before n depth k ≡ Ok node
-node_reached_Ok heap way before n depth k node live new shallow kinds =
-    let deep : nat_lt max_depth depth ≡ false = lt-leb (suc max_depth) depth (omega arith) in
-    rw (live, new, deep, kinds) refl
+node_reached_Ok heap way before n depth k node live new shallow kinds = rw (live, new, shallow, kinds) refl
 
 -- ---- a walker comes to a node
-pub comes : (heap : Heap) (way : Way) (n depth : ℕ) (k : ListKind) (v w : Names) (told heard : Option (List ℕ)) (kind : Kind) (links : Links) (first : Bool)
-    → at {A = Kind × Links} heap n (λ node. Ok (kind_of node.fields.contents, links_of way node.fields)) ≡ Ok (kind, links)
-    → visit_step n heap v ≡ Ok (first, w) → first ≡ true → depth ≤ max_depth → admits way k kind ≡ true → heard ≡ option_map (λ names. names ++ n ∷ []) told
-    → Comes heap way n depth k v told w heard links × (unvisited heap w < unvisited heap v) × Keeps v w
-comes heap way n depth k v w told heard kind links first looks visits is_first shallow kinds hears =
-    let found = at_Ok {A = Kind × Links} heap n (λ node. Ok (kind_of node.fields.contents, links_of way node.fields)) (kind, links) looks in
+pub comes : (heap : Heap) (way : Way) (n depth : ℕ) (k : ListKind) (v w : Names) (told heard : Option (List ℕ)) (fields : Fields) (onward : Onward) (first : Bool)
+    → fields_answer n heap ≡ Ok fields → visit_step n heap v ≡ Ok (first, w) → first ≡ true → is_too_deep way depth ≡ false → admits way k (kind_of fields.contents) ≡ true → heard ≡ option_map (λ names. names ++ n ∷ []) told
+    → onward ≡ onward_of way fields → Comes heap way n depth k v told w heard onward × (unvisited heap w < unvisited heap v) × Keeps v w
+comes heap way n depth k v w told heard fields onward first finds visits is_first shallow kinds hears goes =
+    let found = at_Ok {A = Fields} heap n (λ node. Ok node.fields) fields finds in
     let seen = at_Ok {A = Bool × Names} heap n (λ _. Ok (not (set.contains v n), set.insert v n)) (first, w) visits in
     let new : set.contains v n ≡ false = not_true (set.contains v n) (ap (λ p. p.0) (same_Ok _ _ seen.gives) ∙ is_first) in
     let marked : set.insert v n ≡ w = ap (λ p. p.1) (same_Ok _ _ seen.gives) in
-    let its_kind : kind_of found.node.fields.contents ≡ kind = ap (λ p. p.0) (same_Ok _ _ found.gives) in
-    let its_links : links_of way found.node.fields ≡ links = ap (λ p. p.1) (same_Ok _ _ found.gives) in (
+    let its_fields : found.node.fields ≡ fields = same_Ok _ _ found.gives in (
       λ before marks. (
         found.node,
-        node_reached_Ok heap way before n depth k found.node found.is (sym (marks n) ∙ new) shallow (ap (admits way k) its_kind ∙ kinds),
-        sym its_links,
+        node_reached_Ok heap way before n depth k found.node found.is (sym (marks n) ∙ new) shallow (ap (λ (x : Fields). admits way k (kind_of x.contents)) its_fields ∙ kinds),
+        goes ∙ ap (onward_of way) (sym its_fields),
         subst (λ (s : Names). Marks s (before ++ n ∷ [])) marked (marks_more v before n marks),
         hears,
       ),

@@ -1,6 +1,6 @@
 -- Walks through the lists of a heap (LuaTeX Reference Manual, chapter "Nodes"; "TeX: The Program", sections 199 to 206).
 --     allows k kind            whether a list may hold nodes of this kind
---     inner_lists contents     the lists of a node, each with its kind, in the order in which a walk enters them
+--     inner_lists contents     the lists of a node, all of one kind, in the order in which a walk enters them
 --     checked_walk, plain_walk, flat_walk, tree_walk      the names that a walk reaches, in its order, or the first trouble
 use Rattle.std.specs.Prelude.{ℕ, zero, suc, ◌+◌, List, [], ◌∷◌, ◌++◌, Bool, true, false, not, if◌then◌else◌, nat_eq, nat_lt, Option, None, Some, Result, Ok, Err}
 use Rattle.std.specs.List.{list_any}
@@ -16,6 +16,7 @@ use Rattle.ntx_nodes.specs.declared.kind.ListKind.{ListKind}
 use Rattle.ntx_nodes.specs.declared.kind.ListKind.TheVariants.{H, V, Part}
 use Rattle.ntx_nodes.specs.declared.kind.Way.{Way}
 use Rattle.ntx_nodes.specs.declared.kind.Way.TheVariants.{Checked, Plain, Flat}
+use Rattle.ntx_nodes.specs.declared.inner.InnerLists.{InnerLists}
 use Rattle.ntx_nodes.specs.declared.fields.Contents.{Contents}
 use Rattle.ntx_nodes.specs.declared.fields.Contents.TheVariants as contents
 use Rattle.ntx_nodes.specs.declared.trouble.Trouble.{Trouble}
@@ -31,23 +32,31 @@ allows Part kind.Glue = false
 allows Part kind.Penalty = false
 allows Part _ = true
 
-abbrev pub inner_lists : Contents → List (Option ℕ × ListKind)
-inner_lists (contents.Hlist b) = (b.list, H) ∷ []
-inner_lists (contents.Vlist b) = (b.list, V) ∷ []
-inner_lists (contents.Disc d) = (d.pre, Part) ∷ (d.post, Part) ∷ (d.replace, Part) ∷ []
-inner_lists _ = []
+abbrev pub no_lists : InnerLists
+no_lists = record { first = None; second = None; third = None; kind = H }
+
+abbrev pub inner_lists : Contents → InnerLists
+inner_lists (contents.Hlist b) = record { first = b.list; second = None; third = None; kind = H }
+inner_lists (contents.Vlist b) = record { first = b.list; second = None; third = None; kind = V }
+inner_lists (contents.Disc d) = record { first = d.pre; second = d.post; third = d.replace; kind = Part }
+inner_lists _ = no_lists
 
 -- lists lie no deeper inside one another
 abbrev pub max_depth : ℕ
 max_depth = 100
+
+-- whether a list lies too deep for a walk: one along a list alone enters none, and does not look at the depth
+abbrev pub is_too_deep : Way → ℕ → Bool
+is_too_deep Flat depth = false
+is_too_deep _ depth = nat_lt max_depth depth
 
 -- whether a name is among those reached
 abbrev pub is_reached : List ℕ → ℕ → Bool
 is_reached reached n = list_any (nat_eq n) reached
 
 -- the lists that a walk enters at a node
-abbrev pub entered : Way → Contents → List (Option ℕ × ListKind)
-entered Flat c = []
+abbrev pub entered : Way → Contents → InnerLists
+entered Flat c = no_lists
 entered _ c = inner_lists c
 
 -- whether a walk lets a list hold nodes of this kind
@@ -60,14 +69,15 @@ abbrev pub node_reached : Heap → Way → List ℕ → ℕ → ℕ → ListKind
 node_reached heap way reached n depth k =
     at heap n (λ node.
     if is_reached reached n then Err (Loop n)
-    else if nat_lt max_depth depth then Err Nest
+    else if is_too_deep way depth then Err Nest
     else if not (admits way k (kind_of node.fields.contents)) then Err (WrongKind n)
     else Ok node)
 
--- one list after another, from the names reached before
-abbrev pub in_turn : (List ℕ → Option ℕ → ListKind → Result (List ℕ) Trouble) → List ℕ → List (Option ℕ × ListKind) → Result (List ℕ) Trouble
-in_turn walk reached [] = Ok reached
-in_turn walk reached (l ∷ ls) = result_and_then (walk reached l.0 l.1) (λ before. in_turn walk before ls)
+-- one inner list after another, from the names reached before
+abbrev pub in_turn : (List ℕ → Option ℕ → ListKind → Result (List ℕ) Trouble) → List ℕ → InnerLists → Result (List ℕ) Trouble
+in_turn walk reached lists =
+    result_and_then (walk reached lists.first lists.kind) (λ one.
+    result_and_then (walk one lists.second lists.kind) (λ two. walk two lists.third lists.kind))
 
 -- The tests at a node, and then its lists, one deeper: the node, and the names reached.
 abbrev pub enter : Heap → Way → (List ℕ → Option ℕ → ℕ → ListKind → Result (List ℕ) Trouble) → List ℕ → ℕ → ℕ → ListKind → Result (Node × List ℕ) Trouble

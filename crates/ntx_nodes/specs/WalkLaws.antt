@@ -6,8 +6,7 @@
 use Rattle.std.specs.Prelude.{◌≡◌, ℕ, List, [], ◌∷◌, ◌++◌, true, false, Option, Some}
 use Rattle.std.specs.FinMap as map
 use Rattle.ntx_nodes.specs.Heap.{Heap, is_live}
-use Rattle.ntx_nodes.specs.Walk.{is_reached}
-use Rattle.ntx_nodes.specs.Walker.{links_of}
+use Rattle.ntx_nodes.specs.Walk.{is_reached, entered}
 use Rattle.ntx_nodes.specs.declared.kind.Way.{Way}
 use Rattle.ntx_nodes.specs.declared.node.Node.{Node}
 
@@ -20,9 +19,9 @@ LeadsTo names to = (m : ℕ) → to ≡ Some m → is_reached names m ≡ true
 
 -- a node's inner lists, as far as this walk enters them, and what follows it
 pub record LeadsOn (way : Way) (names : List ℕ) (node : Node) : Type 0 where
-  pub first : LeadsTo names (links_of way node.fields).first
-  pub second : LeadsTo names (links_of way node.fields).second
-  pub third : LeadsTo names (links_of way node.fields).third
+  pub first : LeadsTo names (entered way node.fields.contents).first
+  pub second : LeadsTo names (entered way node.fields.contents).second
+  pub third : LeadsTo names (entered way node.fields.contents).third
   pub next : LeadsTo names node.fields.next
 
 abbrev pub IsClosed : Heap → Way → List ℕ → List ℕ → Type 0

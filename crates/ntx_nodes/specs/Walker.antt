@@ -6,7 +6,7 @@ use Rattle.std.specs.FinSet as set
 use Rattle.ntx_num.specs.declared.answer.Fail.{Fail}
 use Rattle.ntx_num.specs.declared.answer.Fail.TheVariants.{NoMemory, Is}
 use Rattle.ntx_nodes.specs.Heap.{Heap, Names}
-use Rattle.ntx_nodes.specs.Walk.{is_reached, node_reached, walk, turns_of}
+use Rattle.ntx_nodes.specs.Walk.{is_reached, entered, node_reached, walk, turns_of}
 use Rattle.ntx_nodes.specs.declared.kind.ListKind.{ListKind}
 use Rattle.ntx_nodes.specs.declared.kind.ListKind.TheVariants.{H, V, Part}
 use Rattle.ntx_nodes.specs.declared.kind.Way.{Way}
@@ -17,24 +17,12 @@ use Rattle.ntx_nodes.specs.declared.fields.Fields.{Fields}
 use Rattle.ntx_nodes.specs.declared.fields.Contents.{Contents}
 use Rattle.ntx_nodes.specs.declared.fields.Contents.TheVariants as contents
 use Rattle.ntx_nodes.specs.declared.node.Node.{Node}
-use Rattle.ntx_nodes.specs.declared.links.Links.{Links}
+use Rattle.ntx_nodes.specs.declared.walk.Onward.{Onward}
 use Rattle.ntx_nodes.specs.declared.trouble.Trouble.{Trouble}
 
--- the link that an answer gives
-abbrev pub link_in : Result FieldValue Trouble → Option ℕ
-link_in (Ok (Link to)) = to
-link_in _ = None
-
--- where a walk goes on at a node: its inner lists with their kind, and what follows
-abbrev pub inner_links : Contents → Option ℕ → Links
-inner_links (contents.Hlist b) next = record { first = b.list; second = None; third = None; kind = H; next = next }
-inner_links (contents.Vlist b) next = record { first = b.list; second = None; third = None; kind = V; next = next }
-inner_links (contents.Disc d) next = record { first = d.pre; second = d.post; third = d.replace; kind = Part; next = next }
-inner_links _ next = record { first = None; second = None; third = None; kind = H; next = next }
-
-abbrev pub links_of : Way → Fields → Links
-links_of Flat fields = record { first = None; second = None; third = None; kind = H; next = fields.next }
-links_of _ fields = inner_links fields.contents fields.next
+-- where a walk goes on at a node: the lists that it enters, and what follows
+abbrev pub onward_of : Way → Fields → Onward
+onward_of way fields = record { lists = entered way fields.contents; next = fields.next }
 
 -- the names visited are those reached
 abbrev pub Marks : Names → List ℕ → Type 0
@@ -60,13 +48,13 @@ Walks heap way n depth k visited told marked heard (Err (Is why)) = Stops heap w
 Walks heap way n depth k visited told marked heard (Err NoMemory) = Unit {0}
 
 -- The walk comes to a node, which passes its tests.
-abbrev pub Comes : Heap → Way → ℕ → ℕ → ListKind → Names → Option (List ℕ) → Names → Option (List ℕ) → Links → Type 0
-Comes heap way n depth k visited told marked heard links =
+abbrev pub Comes : Heap → Way → ℕ → ℕ → ListKind → Names → Option (List ℕ) → Names → Option (List ℕ) → Onward → Type 0
+Comes heap way n depth k visited told marked heard onward =
     (before : List ℕ) → Marks visited before
-    → (node : Node) × (node_reached heap way before n depth k ≡ Ok node) × (links ≡ links_of way node.fields) × Marks marked (before ++ n ∷ []) × (heard ≡ option_map (λ names. names ++ n ∷ []) told)
+    → (node : Node) × (node_reached heap way before n depth k ≡ Ok node) × (onward ≡ onward_of way node.fields) × Marks marked (before ++ n ∷ []) × (heard ≡ option_map (λ names. names ++ n ∷ []) told)
 
-abbrev pub Reaches : Heap → Way → ℕ → ℕ → ListKind → Names → Option (List ℕ) → Names → Option (List ℕ) → Result Links (Fail Trouble) → Type 0
-Reaches heap way n depth k visited told marked heard (Ok links) = Comes heap way n depth k visited told marked heard links
+abbrev pub Reaches : Heap → Way → ℕ → ℕ → ListKind → Names → Option (List ℕ) → Names → Option (List ℕ) → Result Onward (Fail Trouble) → Type 0
+Reaches heap way n depth k visited told marked heard (Ok onward) = Comes heap way n depth k visited told marked heard onward
 Reaches heap way n depth k visited told marked heard (Err (Is why)) = (before : List ℕ) → Marks visited before → node_reached heap way before n depth k ≡ Err why
 Reaches heap way n depth k visited told marked heard (Err NoMemory) = Unit {0}
 

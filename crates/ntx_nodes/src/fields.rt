@@ -3,11 +3,12 @@
 ghost use Rattle.std.specs.Prelude.{◌≡◌, ◌^◌};
 ghost use Rattle.ntx_nodes.specs.Fields.{contents_field, contents_with, kind_of, fresh, unlinked, last_subtype, field_of, with_field};
 ghost use Rattle.ntx_nodes.specs.Steps.{with_ratio};
+ghost use Rattle.ntx_nodes.specs.Walk.{inner_lists};
 
 use crate::value::{dimension, link, number_to, number_within};
 use crate::{
-    BoxFields, DiscFields, Field, FieldValue, GlueFields, GlyphFields, Kind, Ratio, RuleFields,
-    Trouble,
+    BoxFields, DiscFields, Field, FieldValue, GlueFields, GlyphFields, InnerLists, Kind, ListKind,
+    Ratio, RuleFields, Trouble,
 };
 
 /// The largest cost that a penalty may have ("TeX: The Program", section 445).
@@ -105,6 +106,30 @@ impl Contents {
                 replace: None,
             }),
             other => other,
+        }
+    }
+
+    /// The inner lists of the node.
+    pub fn inner_lists(&self) -> InnerLists
+        ensures { result ≡ inner_lists self.now }
+    {
+        match self {
+            Contents::Hlist(b) => InnerLists {
+                first: b.list,
+                ..InnerLists::none()
+            },
+            Contents::Vlist(b) => InnerLists {
+                first: b.list,
+                kind: ListKind::V,
+                ..InnerLists::none()
+            },
+            Contents::Disc(d) => InnerLists {
+                first: d.pre,
+                second: d.post,
+                third: d.replace,
+                kind: ListKind::Part,
+            },
+            _ => InnerLists::none(),
         }
     }
 

@@ -3,7 +3,9 @@
 ghost use Rattle.std.specs.Prelude.{◌≡◌, ◌≢◌, pos, IfSome, IfNone};
 ghost use Rattle.ntx_nodes.specs.declared.kind.Kind.{Kind};
 ghost use Rattle.ntx_nodes.specs.Fields.{number_of, last_subtype};
-ghost use Rattle.ntx_nodes.specs.Walk.{allows, admits};
+ghost use Rattle.ntx_nodes.specs.Walk.{allows, admits, is_too_deep, entered};
+
+use crate::{Contents, InnerLists};
 
 /// The kind of a node (LuaTeX Reference Manual, chapter "Nodes"), with a number that is this engine's own.
 #[derive(Clone, Copy, Debug, PartialEq, Eq)]
@@ -98,7 +100,30 @@ pub enum Way {
     Flat,
 }
 
+/// Lists lie no deeper inside one another.
+pub const MAX_DEPTH: u64 = 100;
+
 impl Way {
+    /// The inner lists that such a walk enters at a node with these contents.
+    pub fn entered(self, contents: &Contents) -> InnerLists
+        ensures { result ≡ entered self contents.now }
+    {
+        match self {
+            Way::Flat => InnerLists::none(),
+            _ => contents.inner_lists(),
+        }
+    }
+
+    /// Whether a list at a depth lies too deep for such a walk.
+    pub fn is_too_deep(self, depth: u64) -> bool
+        ensures { result ≡ is_too_deep self depth }
+    {
+        match self {
+            Way::Flat => false,
+            _ => depth > MAX_DEPTH,
+        }
+    }
+
     /// Whether such a walk lets a list of a kind hold nodes of a kind.
     pub fn admits(self, k: ListKind, kind: Kind) -> bool
         ensures { result ≡ admits self k kind }

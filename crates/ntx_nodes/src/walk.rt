@@ -1,24 +1,28 @@
 //! Walks through the lists of a heap.
 
-ghost use Rattle.std.specs.Prelude.{◌≡◌, ◌≢◌, ◌+◌, ◌≤◌, ◌<◌, ℕ, List, Option, None, OnOk, IfOk, Ok, Err, IsOk};
+ghost use Rattle.std.specs.Prelude.{◌≡◌, ◌≢◌, ◌+◌, ◌≤◌, ◌<◌, ℕ, List, Option, None, OnOk, IfOk, Ok, Err, false};
 ghost use Rattle.ntx_num.specs.Answer.{result_map, Answers};
-ghost use Rattle.ntx_nodes.specs.Walk.{max_depth, walk, turns_of, walk_from, checked_walk};
+ghost use Rattle.ntx_nodes.specs.Walk.{max_depth, is_too_deep, walk, turns_of, walk_from, checked_walk};
 ghost use Rattle.ntx_nodes.specs.WalkLaws.{Sound};
 ghost use Rattle.ntx_nodes.specs.Heap.{Heap};
 ghost use Rattle.ntx_nodes.specs.declared.kind.Way.{Way};
+ghost use Rattle.ntx_nodes.specs.declared.kind.Way.TheVariants.{Flat};
 ghost use Rattle.ntx_nodes.specs.declared.kind.ListKind.{ListKind};
 ghost use Rattle.ntx_nodes.specs.Walker.{Reaches, Walks, unvisited, Keeps, WalksOn, NamesOn, Marks};
 
-use crate::links::{Links, look};
 use crate::reached::Reached;
-use crate::{ListKind, Nodes, Trouble, Way};
+use crate::{InnerLists, ListKind, Nodes, Trouble, Way};
 use ntx_num::Fail;
 use std::alloc::Global;
 
-/// Lists lie no deeper inside one another.
-const MAX_DEPTH: u64 = 100;
+/// Where a walk goes on at a node: the lists that it enters, and what follows the node in its own list.
+#[derive(Clone, Copy, Debug, PartialEq, Eq)]
+struct Onward {
+    lists: InnerLists,
+    next: Option<u64>,
+}
 
-/// Comes to a node in a list of a kind at a depth: tests it, marks it as visited and tells its name to who asks.
+/// Comes to a node in a list of a kind at a depth: tests it, marks it as visited and adds its name to those reached.
 fn reach<N: Nodes>(
     nodes: &mut N,
     way: Way,
@@ -26,17 +30,17 @@ fn reach<N: Nodes>(
     depth: u64,
     k: ListKind,
     names: &mut Reached,
-) -> Result<Links, Fail<Trouble>>
+) -> Result<Onward, Fail<Trouble>>
     ensures same { N.heap nodes.new ≡ N.heap nodes.old }
     ensures reaches { Reaches (N.heap nodes.old) way n depth k (N.visited nodes.old) names.old (N.visited nodes.new) names.new result }
-    ensures shallow { IsOk result → depth ≤ max_depth }
+    ensures shallow { OnOk result (is_too_deep way depth ≡ false) }
     ensures fewer { OnOk result (unvisited (N.heap nodes.old) (N.visited nodes.new) < unvisited (N.heap nodes.old) (N.visited nodes.old)) }
     ensures keeps { OnOk result (Keeps (N.visited nodes.old) (N.visited nodes.new)) }
     ensures unasked { names.old ≡ None → names.new ≡ None }
     ensures memory { names.old ≡ None → result ≢ Err Fail.NoMemory }
 {
-    let (kind, links) = match look(nodes, way, n) {
-        Ok(found) => found,
+    let fields = match nodes.fields(n) {
+        Ok(fields) => fields,
         Err(why) => return Err(Fail::Is(why)),
     };
     match nodes.visit(n) {
@@ -44,14 +48,66 @@ fn reach<N: Nodes>(
         Ok(false) => return Err(Fail::Is(Trouble::Loop(n))),
         Err(why) => return Err(Fail::Is(why)),
     }
-    if depth > MAX_DEPTH {
+    if way.is_too_deep(depth) {
         return Err(Fail::Is(Trouble::Nest));
     }
-    if !way.admits(k, kind) {
+    if !way.admits(k, fields.contents.kind()) {
         return Err(Fail::Is(Trouble::WrongKind(n)));
     }
     names.take(n)?;
-    Ok(links)
+    Ok(Onward {
+        lists: way.entered(&fields.contents),
+        next: fields.next,
+    })
+}
+
+/// Walks along a list of a kind at a depth, which it does not look at, from the nodes that are visited already.
+fn walk_along<N: Nodes>(
+    nodes: &mut N,
+    head: Option<u64>,
+    depth: u64,
+    k: ListKind,
+    names: &mut Reached,
+) -> Result<(), Fail<Trouble>>
+    ensures same { N.heap nodes.new ≡ N.heap nodes.old }
+    ensures walks { Walks (N.heap nodes.old) Flat head depth k (N.visited nodes.old) names.old (N.visited nodes.new) names.new result }
+    ensures unasked { names.old ≡ None → names.new ≡ None }
+    ensures memory { names.old ≡ None → result ≢ Err Fail.NoMemory }
+{
+    let mut at = head;
+    while let Some(n) = at {
+        at = reach(nodes, Way::Flat, n, depth, k, names)?.next;
+    }
+    Ok(())
+}
+
+/// Walks a list of a kind at a depth with the lists inside it, from the nodes that are visited already.
+fn walk_inside<N: Nodes>(
+    nodes: &mut N,
+    way: Way,
+    head: Option<u64>,
+    depth: u64,
+    k: ListKind,
+    names: &mut Reached,
+) -> Result<(), Fail<Trouble>>
+    requires depth { depth ≤ max_depth + 1 }
+    requires way { way ≢ Flat }
+    ensures same { N.heap nodes.new ≡ N.heap nodes.old }
+    ensures walks { Walks (N.heap nodes.old) way head depth k (N.visited nodes.old) names.old (N.visited nodes.new) names.new result }
+    ensures keeps { OnOk result (Keeps (N.visited nodes.old) (N.visited nodes.new)) }
+    ensures unasked { names.old ≡ None → names.new ≡ None }
+    ensures memory { names.old ≡ None → result ≢ Err Fail.NoMemory }
+{
+    let mut at = head;
+    while let Some(n) = at {
+        let onward = reach(nodes, way, n, depth, k, names)?;
+        let lists = onward.lists;
+        walk_inside(nodes, way, lists.first, depth + 1, lists.kind, names)?;
+        walk_inside(nodes, way, lists.second, depth + 1, lists.kind, names)?;
+        walk_inside(nodes, way, lists.third, depth + 1, lists.kind, names)?;
+        at = onward.next;
+    }
+    Ok(())
 }
 
 /// Walks a list of a kind at a depth, from the nodes that are visited already.
@@ -66,19 +122,13 @@ fn walk_list<N: Nodes>(
     requires { depth ≤ max_depth + 1 }
     ensures same { N.heap nodes.new ≡ N.heap nodes.old }
     ensures walks { Walks (N.heap nodes.old) way head depth k (N.visited nodes.old) names.old (N.visited nodes.new) names.new result }
-    ensures keeps { OnOk result (Keeps (N.visited nodes.old) (N.visited nodes.new)) }
     ensures unasked { names.old ≡ None → names.new ≡ None }
     ensures memory { names.old ≡ None → result ≢ Err Fail.NoMemory }
 {
-    let mut at = head;
-    while let Some(n) = at {
-        let links = reach(nodes, way, n, depth, k, names)?;
-        walk_list(nodes, way, links.first, depth + 1, links.kind, names)?;
-        walk_list(nodes, way, links.second, depth + 1, links.kind, names)?;
-        walk_list(nodes, way, links.third, depth + 1, links.kind, names)?;
-        at = links.next;
+    match way {
+        Way::Flat => walk_along(nodes, head, depth, k, names),
+        _ => walk_inside(nodes, way, head, depth, k, names),
     }
-    Ok(())
 }
 
 /// Walks a list at a depth of at most 101 from the nodes that are visited already, which count as reached. Takes no memory.

@@ -2,10 +2,10 @@ use Rattle.std.proofs.Common.{◌≡◌, None, ◌+◌, ◌-◌}
 use Rattle.ntx_nodes.specs.Walk.{max_depth}
 use Rattle.ntx_nodes.specs.Walker.{unvisited, Keeps}
 use Rattle.ntx_nodes.proofs.WalkSteps.{Gets}
-use Rattle.ntx_nodes.proofs.walk.+walk_list.Given as goal
+use Rattle.ntx_nodes.proofs.walk.+walk_inside.Given as goal
 
-abbrev pub decreases-walk_list : goal.decreases-walk_list
-decreases-walk_list g l = (max_depth + 2) - l.depth
+abbrev pub decreases-walk_inside : goal.decreases-walk_inside
+decreases-walk_inside g l = (max_depth + 2) - l.depth
 
 abbrev pub invariant-loop-at : goal.invariant-loop-at
 invariant-loop-at g l =
