@@ -7,7 +7,8 @@ use Rattle.std.specs.Ordering.{nat_cmp, int_cmp, eq_by_cmp}
 use Rattle.std.specs.Cmp.{IsTotalOrder, Equal-is, nat_cmp_total, int_cmp_total}
 use Rattle.std.specs.FinMap as map
 use Rattle.ntx_nodes.specs.Fields.{dimension, order, number_to, link, box_with, rule_with, disc_with, glue_with, kern_with, penalty_with, glyph_with, contents_with, with_field, kind_of, last_subtype}
-use Rattle.ntx_nodes.specs.Heap.{Attributes, Heap, IsWithin, IsDimension, IsLawfulNode, IsLawful, AreLawful, is_attribute, max_nodes, max_attributes}
+use Rattle.ntx_num.specs.Dimension.{IsWithin, IsDimension, max_nodes}
+use Rattle.ntx_nodes.specs.Heap.{Attributes, Heap, IsLawfulNode, IsLawful, AreLawful, is_attribute, max_attributes}
 use Rattle.ntx_nodes.proofs.Ranges.{IsGiven, IsLawfulBox, IsLawfulContents, IsLawfulFields, fields_numbers, fields_links, lawful_fields}
 use Rattle.ntx_nodes.specs.Heap.{name_limit}
 use Rattle.ntx_nodes.specs.Steps.{put, next_name, making, with_attribute, empty_heap}

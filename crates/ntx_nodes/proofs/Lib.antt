@@ -2,9 +2,13 @@ pub mod Maps
 pub mod AttributeSteps
 pub mod Oks
 pub mod Ranges
+pub mod TableLaws
 pub mod Lawful
 pub mod Tables
 pub mod StepLaws
+pub mod Writes
+pub mod Fills
+pub mod Passes
 pub mod Walks
 pub mod Turns
 pub mod WalkSteps

@@ -3,7 +3,8 @@ use Rattle.std.proofs.Common.{◌≡◌, ℕ, ℤ, pos, negsuc, ◌≤◌, Bool,
 use Rattle.std.specs.Prelude.{Option, Result, neg_ℤ, ◌≤ℤ◌, int_le, nat_le}
 use Rattle.std.specs.FinMap as map
 use Rattle.ntx_num.proofs.Answers.{taken}
-use Rattle.ntx_nodes.specs.Heap.{Heap, IsWithin}
+use Rattle.ntx_num.specs.Dimension.{IsWithin, is_within}
+use Rattle.ntx_nodes.specs.Heap.{Heap}
 use Rattle.ntx_nodes.specs.Fields.{number_within, number_to, link}
 use Rattle.ntx_nodes.specs.Steps.{of_found, at}
 use Rattle.ntx_nodes.specs.declared.node.Node.{Node}
@@ -35,7 +36,7 @@ in_bounds low high x a b = (grind (arith, ints), grind (arith, ints))
 
 pub number_within_Ok : (most : ℕ) (v : FieldValue) (x : ℤ) → number_within most v ≡ Ok x → IsWithin most x
 number_within_Ok most (Number y) x e =
-    let t = taken (int_le (neg_ℤ (pos most)) y && int_le y (pos most)) _ _ x e in
+    let t = taken (is_within most y) _ _ x e in
     let b = both_true (int_le (neg_ℤ (pos most)) y) (int_le y (pos most)) t.0 in
     let same : y ≡ x = cc in
     subst (λ z. IsWithin most z) same (in_bounds _ _ y b.0 b.1)

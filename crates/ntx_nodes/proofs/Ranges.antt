@@ -3,7 +3,9 @@ use Rattle.std.proofs.Common.{◌≡◌, ℕ, ℤ, pos, ◌-◌, ◌^◌, ◌≤
 use Rattle.std.specs.Prelude.{Option, Result, ◌≤ℤ◌}
 use Rattle.std.proofs.lemmas.Int.{ints}
 use Rattle.ntx_nodes.specs.Fields.{box_field, contents_field, field_of, kind_of, last_subtype}
-use Rattle.ntx_nodes.specs.Heap.{IsWithin, IsDimension, IsInRange}
+use Rattle.ntx_num.specs.Dimension.{IsWithin, IsDimension}
+use Rattle.ntx_nodes.specs.FieldTable.{held_in_box, IsHeld}
+use Rattle.ntx_nodes.specs.Heap.{IsInRange}
 use Rattle.ntx_nodes.specs.declared.kind.Kind.{Kind}
 use Rattle.ntx_nodes.specs.declared.kind.Kind.TheVariants as kind
 use Rattle.ntx_nodes.specs.declared.field.Field.{Field}
@@ -52,55 +54,55 @@ same_link x y e = cc
 up_to : (n last : ℕ) → n ≤ last → (pos 0 ≤ℤ pos n) × (pos n ≤ℤ pos last)
 up_to n last h = (omega (arith, ints), omega (arith, ints))
 
-down_to : (n last : ℕ) → (pos 0 ≤ℤ pos n) × (pos n ≤ℤ pos last) → n ≤ last
+pub down_to : (n last : ℕ) → (pos 0 ≤ℤ pos n) × (pos n ≤ℤ pos last) → n ≤ last
 down_to n last h = omega (arith, ints)
 
 held_up_to : (n last : ℕ) (x : ℤ) → n ≤ last → ◌≡◌ {A = Result FieldValue Trouble} (Ok (Number (pos n))) (Ok (Number x)) → (pos 0 ≤ℤ x) × (x ≤ℤ pos last)
 held_up_to n last x h e = subst (λ y. (pos 0 ≤ℤ y) × (y ≤ℤ pos last)) (same_number (pos n) x e) (up_to n last h)
 
-held : (P : ℤ → Type 0) (y x : ℤ) → P y → ◌≡◌ {A = Result FieldValue Trouble} (Ok (Number y)) (Ok (Number x)) → P x
-held P y x p e = subst P (same_number y x e) p
+holds : (P : ℤ → Type 0) (y x : ℤ) → P y → ◌≡◌ {A = Result FieldValue Trouble} (Ok (Number y)) (Ok (Number x)) → P x
+holds P y x p e = subst P (same_number y x e) p
 
 held_link : (next : ℕ) (to : Option ℕ) (n : ℕ) → IsGiven next to → ◌≡◌ {A = Result FieldValue Trouble} (Ok (Link to)) (Ok (Link (Some n))) → n < next
 held_link next to n given e = given n (same_link to (Some n) e)
 
 -- ---- from the laws of the kinds to those of the fields
-box_numbers : (next : ℕ) (k : Kind) (b : BoxFields) → IsLawfulBox next b → (f : Field) (x : ℤ) → box_field b f ≡ Ok (Number x) → IsInRange k f x
-box_numbers next k b l field.Width x e = held IsDimension b.width x l.width e
-box_numbers next k b l field.Height x e = held IsDimension b.height x l.height e
-box_numbers next k b l field.Depth x e = held IsDimension b.depth x l.depth e
-box_numbers next k b l field.Shift x e = held IsDimension b.shift x l.shift e
-box_numbers next k b l field.List x e = cc
-box_numbers next k b l field.GlueSign x e = held_up_to b.glue_sign 2 x l.glue_sign e
-box_numbers next k b l field.GlueOrder x e = held_up_to b.glue_order 3 x l.glue_order e
-box_numbers next k b l field.GlueNum x e = held (IsWithin (2 ^ 32)) b.glue_num x l.glue_num e
-box_numbers next k b l field.GlueDen x e = held (λ y. pos 1 ≤ℤ y) b.glue_den x l.glue_den e
-box_numbers next k b l _ x e = cc
+box_numbers : (next : ℕ) (b : BoxFields) → IsLawfulBox next b → (f : Field) (x : ℤ) → box_field b f ≡ Ok (Number x) → IsHeld (held_in_box f) x
+box_numbers next b l field.Width x e = holds IsDimension b.width x l.width e
+box_numbers next b l field.Height x e = holds IsDimension b.height x l.height e
+box_numbers next b l field.Depth x e = holds IsDimension b.depth x l.depth e
+box_numbers next b l field.Shift x e = holds IsDimension b.shift x l.shift e
+box_numbers next b l field.List x e = cc
+box_numbers next b l field.GlueSign x e = held_up_to b.glue_sign 2 x l.glue_sign e
+box_numbers next b l field.GlueOrder x e = held_up_to b.glue_order 3 x l.glue_order e
+box_numbers next b l field.GlueNum x e = holds (IsWithin (2 ^ 32)) b.glue_num x l.glue_num e
+box_numbers next b l field.GlueDen x e = (holds (λ y. pos 1 ≤ℤ y) b.glue_den x l.glue_den e, tt)
+box_numbers next b l _ x e = cc
 
 box_links : (next : ℕ) (b : BoxFields) → IsLawfulBox next b → (f : Field) (n : ℕ) → box_field b f ≡ Ok (Link (Some n)) → n < next
 box_links next b l field.List n e = held_link next b.list n l.list e
 box_links next b l _ n e = cc
 
 pub contents_numbers : (next : ℕ) (c : Contents) → IsLawfulContents next c → (f : Field) (x : ℤ) → contents_field c f ≡ Ok (Number x) → IsInRange (kind_of c) f x
-contents_numbers next (contents.Hlist b) l f x e = box_numbers next kind.Hlist b l f x e
-contents_numbers next (contents.Vlist b) l f x e = box_numbers next kind.Vlist b l f x e
-contents_numbers next (contents.Rule r) l field.Width x e = held IsDimension r.width x l.0 e
-contents_numbers next (contents.Rule r) l field.Height x e = held IsDimension r.height x l.1 e
-contents_numbers next (contents.Rule r) l field.Depth x e = held IsDimension r.depth x l.2 e
+contents_numbers next (contents.Hlist b) l f x e = box_numbers next b l f x e
+contents_numbers next (contents.Vlist b) l f x e = box_numbers next b l f x e
+contents_numbers next (contents.Rule r) l field.Width x e = holds IsDimension r.width x l.0 e
+contents_numbers next (contents.Rule r) l field.Height x e = holds IsDimension r.height x l.1 e
+contents_numbers next (contents.Rule r) l field.Depth x e = holds IsDimension r.depth x l.2 e
 contents_numbers next (contents.Rule r) l _ x e = cc
 contents_numbers next (contents.Disc d) l field.Pre x e = cc
 contents_numbers next (contents.Disc d) l field.Post x e = cc
 contents_numbers next (contents.Disc d) l field.Replace x e = cc
 contents_numbers next (contents.Disc d) l _ x e = cc
-contents_numbers next (contents.Glue g) l field.Width x e = held IsDimension g.width x l.0 e
-contents_numbers next (contents.Glue g) l field.Stretch x e = held IsDimension g.stretch x l.1 e
+contents_numbers next (contents.Glue g) l field.Width x e = holds IsDimension g.width x l.0 e
+contents_numbers next (contents.Glue g) l field.Stretch x e = holds IsDimension g.stretch x l.1 e
 contents_numbers next (contents.Glue g) l field.StretchOrder x e = held_up_to g.stretch_order 3 x l.2 e
-contents_numbers next (contents.Glue g) l field.Shrink x e = held IsDimension g.shrink x l.3 e
+contents_numbers next (contents.Glue g) l field.Shrink x e = holds IsDimension g.shrink x l.3 e
 contents_numbers next (contents.Glue g) l field.ShrinkOrder x e = held_up_to g.shrink_order 3 x l.4 e
 contents_numbers next (contents.Glue g) l _ x e = cc
-contents_numbers next (contents.Kern size) l field.Kern x e = held IsDimension size x l e
+contents_numbers next (contents.Kern size) l field.Kern x e = holds IsDimension size x l e
 contents_numbers next (contents.Kern size) l _ x e = cc
-contents_numbers next (contents.Penalty cost) l field.Penalty x e = held (IsWithin (2 ^ 31 - 1)) cost x l e
+contents_numbers next (contents.Penalty cost) l field.Penalty x e = holds (IsWithin (2 ^ 31 - 1)) cost x l e
 contents_numbers next (contents.Penalty cost) l _ x e = cc
 contents_numbers next (contents.Glyph g) l field.Char x e = held_up_to g.char 255 x l.0 e
 contents_numbers next (contents.Glyph g) l field.Font x e = held_up_to g.font 63 x l.1 e
@@ -151,7 +153,7 @@ lawful_contents next (contents.Hlist b) numbers links = record {
   glue_sign = down_to b.glue_sign 2 (numbers field.GlueSign (pos b.glue_sign) refl);
   glue_order = down_to b.glue_order 3 (numbers field.GlueOrder (pos b.glue_order) refl);
   glue_num = numbers field.GlueNum b.glue_num refl;
-  glue_den = numbers field.GlueDen b.glue_den refl;
+  glue_den = (numbers field.GlueDen b.glue_den refl).0;
 }
 lawful_contents next (contents.Vlist b) numbers links = record {
   width = numbers field.Width b.width refl;
@@ -162,7 +164,7 @@ lawful_contents next (contents.Vlist b) numbers links = record {
   glue_sign = down_to b.glue_sign 2 (numbers field.GlueSign (pos b.glue_sign) refl);
   glue_order = down_to b.glue_order 3 (numbers field.GlueOrder (pos b.glue_order) refl);
   glue_num = numbers field.GlueNum b.glue_num refl;
-  glue_den = numbers field.GlueDen b.glue_den refl;
+  glue_den = (numbers field.GlueDen b.glue_den refl).0;
 }
 lawful_contents next (contents.Rule r) numbers links = (numbers field.Width r.width refl, numbers field.Height r.height refl, numbers field.Depth r.depth refl)
 lawful_contents next (contents.Disc d) numbers links =
@@ -204,8 +206,32 @@ contents_have_no_next (contents.Kern size) v e = cc
 contents_have_no_next (contents.Penalty cost) v e = cc
 contents_have_no_next (contents.Glyph g) v e = cc
 
+subtype_held : (c : Contents) (x : ℤ) → (pos 0 ≤ℤ x) × (x ≤ℤ pos (last_subtype (kind_of c))) → IsInRange (kind_of c) field.Subtype x
+subtype_held (contents.Hlist b) x h = h
+subtype_held (contents.Vlist b) x h = h
+subtype_held (contents.Rule r) x h = h
+subtype_held (contents.Disc d) x h = h
+subtype_held (contents.Glue g) x h = h
+subtype_held (contents.Kern size) x h = h
+subtype_held (contents.Penalty cost) x h = h
+subtype_held (contents.Glyph g) x h = h
+
+held_subtype : (c : Contents) (x : ℤ) → IsInRange (kind_of c) field.Subtype x → (pos 0 ≤ℤ x) × (x ≤ℤ pos (last_subtype (kind_of c)))
+held_subtype (contents.Hlist b) x h = h
+held_subtype (contents.Vlist b) x h = h
+held_subtype (contents.Rule r) x h = h
+held_subtype (contents.Disc d) x h = h
+held_subtype (contents.Glue g) x h = h
+held_subtype (contents.Kern size) x h = h
+held_subtype (contents.Penalty cost) x h = h
+held_subtype (contents.Glyph g) x h = h
+
+-- a subtype in the range of its kind
+pub subtype_fits : (c : Contents) (n : ℕ) → IsInRange (kind_of c) field.Subtype (pos n) → n ≤ last_subtype (kind_of c)
+subtype_fits c n h = down_to n (last_subtype (kind_of c)) (held_subtype c (pos n) h)
+
 pub fields_numbers : (next : ℕ) (fields : Fields) → IsLawfulFields next fields → (f : Field) (x : ℤ) → field_of fields f ≡ Ok (Number x) → IsInRange (kind_of fields.contents) f x
-fields_numbers next fields l field.Subtype x e = held_up_to fields.subtype _ x l.subtype e
+fields_numbers next fields l field.Subtype x e = subtype_held fields.contents x (held_up_to fields.subtype (last_subtype (kind_of fields.contents)) x l.subtype e)
 fields_numbers next fields l field.Next x e = cc
 fields_numbers next fields l f x e = contents_numbers next fields.contents l.contents f x e
 
@@ -227,7 +253,7 @@ inner_links next fields links f n e = links f n e
 pub lawful_fields : (next : ℕ) (fields : Fields) → ((f : Field) (x : ℤ) → field_of fields f ≡ Ok (Number x) → IsInRange (kind_of fields.contents) f x)
     → ((f : Field) (n : ℕ) → field_of fields f ≡ Ok (Link (Some n)) → n < next) → IsLawfulFields next fields
 lawful_fields next fields numbers links = record {
-  subtype = down_to fields.subtype _ (numbers field.Subtype (pos fields.subtype) refl);
+  subtype = subtype_fits fields.contents fields.subtype (numbers field.Subtype (pos fields.subtype) refl);
   link = λ n e. links field.Next n (ap (λ o. Ok (Link o)) e);
   contents = lawful_contents next fields.contents (inner_numbers fields numbers) (inner_links next fields links);
 }

@@ -8,7 +8,8 @@ use Rattle.ntx_num.specs.Answer.{result_map, Steps}
 use Rattle.ntx_num.specs.declared.answer.Fail.{Fail}
 use Rattle.ntx_num.specs.declared.answer.Fail.TheVariants.{NoMemory, Is}
 use Rattle.ntx_nodes.specs.Fields.{kind_of, last_subtype, fresh, unlinked, with_field}
-use Rattle.ntx_nodes.specs.Heap.{Attributes, Heap, IsDimension, IsLawfulNode, IsLawful, AreLawful}
+use Rattle.ntx_num.specs.Dimension.{IsDimension}
+use Rattle.ntx_nodes.specs.Heap.{Attributes, Heap, IsLawfulNode, IsLawful, AreLawful}
 use Rattle.ntx_nodes.specs.Steps.{of_found, at, new_node, copy_of, making, make_step, copy_one_step, free_one_step, linkable, changed, put_fields, put_attributes, with_glue_set, contents_with_ratio, with_ratio, with_attribute}
 use Rattle.ntx_nodes.specs.Steps.{set_step, set_ratio_step, set_attr_step, unset_attr_step, same_attrs_step, set_current_step, unset_current_step, wear_current_step}
 use Rattle.ntx_nodes.specs.declared.kind.Kind.{Kind}

@@ -192,7 +192,7 @@ node_changed walk old new m v n g is marks live dead =
       )
     ] refl live dead
 
-insert_same : (m : map.FinMap nat_cmp Node) (n : ℕ) (node : Node) → map.get m n ≡ Some node → map.insert m n node ≡ m
+pub insert_same : (m : map.FinMap nat_cmp Node) (n : ℕ) (node : Node) → map.get m n ≡ Some node → map.insert m n node ≡ m
 insert_same m n node at = map.same_map nat_cmp_total map.nat_cmp-IsAntisymmetric (map.insert m n node) m (λ q.
     map.get-insert nat_cmp_total m n node q
     ∙ elim (eq_by_cmp nat_cmp q n) as (λ b. eq_by_cmp nat_cmp q n ≡ b → cond b (Some node) (map.get m q) ≡ map.get m q) [

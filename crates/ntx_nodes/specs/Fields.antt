@@ -5,9 +5,10 @@
 --     kind_of contents         the kind of node with these fields
 --     fresh kind               the fields of a new node: zeros and nothings, and a box's ratio 0 over 1
 --     unlinked contents        the same numbers, and no links
-use Rattle.std.specs.Prelude.{ℕ, ◌-◌, ◌^◌, ℤ, pos, negsuc, neg_ℤ, int_le, nat_le, ◌&&◌, if◌then◌else◌, Option, None, Result, Ok, Err}
+use Rattle.std.specs.Prelude as prelude
+use Rattle.std.specs.Prelude.{ℕ, [], ◌∷◌, ℤ, pos, negsuc, nat_le, if◌then◌else◌, Option, None, Result, Ok, Err}
 use Rattle.ntx_num.specs.Answer.{result_map}
-use Rattle.ntx_num.specs.Dimension.{max_dimension}
+use Rattle.ntx_num.specs.Dimension.{is_within, max_dimension, max_penalty, max_order}
 use Rattle.ntx_nodes.specs.declared.kind.Kind.{Kind}
 use Rattle.ntx_nodes.specs.declared.kind.Kind.TheVariants as kind
 use Rattle.ntx_nodes.specs.declared.field.Field.{Field}
@@ -27,7 +28,7 @@ use Rattle.ntx_nodes.specs.declared.trouble.Trouble.TheVariants.{NoField, BadVal
 
 -- a number from -most to most
 abbrev pub number_within : ℕ → FieldValue → Result ℤ Trouble
-number_within most (Number x) = if int_le (neg_ℤ (pos most)) x && int_le x (pos most) then Ok x else Err BadValue
+number_within most (Number x) = if is_within most x then Ok x else Err BadValue
 number_within most (Link to) = Err BadValue
 
 -- a number from 0 to last
@@ -45,7 +46,7 @@ abbrev pub dimension : FieldValue → Result ℤ Trouble
 dimension v = number_within max_dimension v
 
 abbrev pub order : FieldValue → Result ℕ Trouble
-order v = number_to 3 v
+order v = number_to max_order v
 
 -- The fields of a box. Its glue is set by its packing alone.
 abbrev pub box_field : BoxFields → Field → Result FieldValue Trouble
@@ -125,7 +126,7 @@ penalty_field cost Penalty = Ok (Number cost)
 penalty_field cost _ = Err NoField
 
 abbrev pub penalty_with : Field → FieldValue → Result ℤ Trouble
-penalty_with Penalty v = number_within (2 ^ 31 - 1) v
+penalty_with Penalty v = number_within max_penalty v
 penalty_with _ v = Err NoField
 
 abbrev pub glyph_field : GlyphFields → Field → Result FieldValue Trouble
@@ -184,6 +185,17 @@ number_of kind.Glyph = 8
 abbrev pub last_subtype : Kind → ℕ
 last_subtype kind.Disc = 3
 last_subtype _ = 255
+
+-- the fields of a kind that can be set, beside the subtype
+abbrev pub settable_fields : Kind → prelude.List Field
+settable_fields kind.Hlist = Next ∷ Width ∷ Height ∷ Depth ∷ Shift ∷ List ∷ []
+settable_fields kind.Vlist = Next ∷ Width ∷ Height ∷ Depth ∷ Shift ∷ List ∷ []
+settable_fields kind.Rule = Next ∷ Width ∷ Height ∷ Depth ∷ []
+settable_fields kind.Disc = Next ∷ Pre ∷ Post ∷ Replace ∷ []
+settable_fields kind.Glue = Next ∷ Width ∷ Stretch ∷ StretchOrder ∷ Shrink ∷ ShrinkOrder ∷ []
+settable_fields kind.Kern = Next ∷ Kern ∷ []
+settable_fields kind.Penalty = Next ∷ Penalty ∷ []
+settable_fields kind.Glyph = Next ∷ Char ∷ Font ∷ []
 
 -- an empty box, with a ratio of 0
 abbrev pub fresh_box : BoxFields

@@ -1,15 +1,15 @@
 -- A heap of nodes as a value (LuaTeX Reference Manual, chapter "Nodes").
 --     Heap                 the next name, the live nodes by name, and the attributes that made nodes wear
 --     IsLawful heap        what is true of every heap
-use Rattle.std.specs.Prelude.{◌≡◌, ℕ, ◌-◌, ◌<◌, ◌≤◌, ◌^◌, ℤ, pos, neg_ℤ, ◌≤ℤ◌, int_le, Some, Ok, Bool, true, ◌&&◌, is_some}
+use Rattle.std.specs.Prelude.{◌≡◌, ℕ, ◌-◌, ◌<◌, ◌≤◌, ◌^◌, ℤ, pos, neg_ℤ, int_le, Option, Some, Ok, Bool, true, ◌&&◌, is_some}
 use Rattle.std.specs.Ordering.{nat_cmp, int_cmp}
 use Rattle.std.specs.FinMap as map
 use Rattle.std.specs.FinSet as set
-use Rattle.ntx_num.specs.Dimension.{max_dimension}
-use Rattle.ntx_nodes.specs.Fields.{kind_of, last_subtype, field_of}
+use Rattle.ntx_num.specs.Dimension.{max_nodes}
+use Rattle.ntx_nodes.specs.FieldTable.{held, IsHeld}
+use Rattle.ntx_nodes.specs.Fields.{kind_of, field_of}
 use Rattle.ntx_nodes.specs.declared.kind.Kind.{Kind}
 use Rattle.ntx_nodes.specs.declared.field.Field.{Field}
-use Rattle.ntx_nodes.specs.declared.field.Field.TheVariants.{Subtype, Width, Height, Depth, Shift, GlueSign, GlueOrder, GlueNum, GlueDen, Stretch, StretchOrder, Shrink, ShrinkOrder, Kern, Penalty, Char, Font}
 use Rattle.ntx_nodes.specs.declared.field.FieldValue.TheVariants.{Number, Link}
 use Rattle.ntx_nodes.specs.declared.node.Node.{Node}
 
@@ -30,41 +30,13 @@ Names = set.FinSet nat_cmp
 abbrev pub name_limit : ℕ
 name_limit = 2 ^ 48
 
--- as many nodes may be live
-abbrev pub max_nodes : ℕ
-max_nodes = 2 ^ 18
-
 -- as many attributes may a node have
 abbrev pub max_attributes : ℕ
 max_attributes = 64
 
-abbrev pub IsWithin : ℕ → ℤ → Type 0
-IsWithin most x = (neg_ℤ (pos most) ≤ℤ x) × (x ≤ℤ pos most)
-
-abbrev pub IsDimension : ℤ → Type 0
-IsDimension x = IsWithin max_dimension x
-
 -- the numbers that a field of a kind may hold
 abbrev pub IsInRange : Kind → Field → ℤ → Type 0
-IsInRange kind Subtype x = (pos 0 ≤ℤ x) × (x ≤ℤ pos (last_subtype kind))
-IsInRange kind Width x = IsDimension x
-IsInRange kind Height x = IsDimension x
-IsInRange kind Depth x = IsDimension x
-IsInRange kind Shift x = IsDimension x
-IsInRange kind GlueSign x = (pos 0 ≤ℤ x) × (x ≤ℤ pos 2)
-IsInRange kind GlueOrder x = (pos 0 ≤ℤ x) × (x ≤ℤ pos 3)
-IsInRange kind GlueNum x = IsWithin (2 ^ 32) x
-IsInRange kind GlueDen x = pos 1 ≤ℤ x
-IsInRange kind Stretch x = IsDimension x
-IsInRange kind StretchOrder x = (pos 0 ≤ℤ x) × (x ≤ℤ pos 3)
-IsInRange kind Shrink x = IsDimension x
-IsInRange kind ShrinkOrder x = (pos 0 ≤ℤ x) × (x ≤ℤ pos 3)
-IsInRange kind Kern x = IsDimension x
-IsInRange kind Penalty x = IsWithin (2 ^ 31 - 1) x
-IsInRange kind Char x = (pos 0 ≤ℤ x) × (x ≤ℤ pos 255)
-IsInRange kind Font x = (pos 0 ≤ℤ x) × (x ≤ℤ pos 63)
--- the other fields hold links
-IsInRange kind _ x = ⊥
+IsInRange kind f x = IsHeld (held kind f) x
 
 -- the ids and values that attributes take
 abbrev pub last_attribute_id : ℤ
@@ -100,6 +72,10 @@ pub record IsLawful (heap : Heap) : Type 0 where
 
 abbrev pub is_live : Heap → ℕ → Bool
 is_live heap n = is_some (map.get heap.nodes n)
+
+-- a link to a live node, or to nothing
+abbrev pub IsLiveLink : Heap → Option ℕ → Type 0
+IsLiveLink heap to = (n : ℕ) → to ≡ Some n → is_live heap n ≡ true
 
 -- each name of the set is live
 abbrev pub AreLive : Heap → Names → Type 0

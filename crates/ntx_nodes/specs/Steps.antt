@@ -5,7 +5,8 @@ use Rattle.std.specs.FinMap as map
 use Rattle.std.specs.FinSet as set
 use Rattle.ntx_num.specs.Answer.{result_map, result_and_then}
 use Rattle.ntx_nodes.specs.Fields.{field_of, with_field, kind_of, fresh, unlinked}
-use Rattle.ntx_nodes.specs.Heap.{Attributes, Heap, Names, name_limit, max_nodes, max_attributes, is_attribute}
+use Rattle.ntx_num.specs.Dimension.{max_nodes}
+use Rattle.ntx_nodes.specs.Heap.{Attributes, Heap, Names, name_limit, max_attributes, is_attribute}
 use Rattle.ntx_nodes.specs.declared.kind.Kind.{Kind}
 use Rattle.ntx_nodes.specs.declared.field.Field.{Field}
 use Rattle.ntx_nodes.specs.declared.field.FieldValue.{FieldValue}

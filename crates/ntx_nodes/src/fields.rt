@@ -10,9 +10,7 @@ use crate::{
     BoxFields, DiscFields, Field, FieldValue, GlueFields, GlyphFields, InnerLists, Kind, ListKind,
     Ratio, RuleFields, Trouble,
 };
-
-/// The largest cost that a penalty may have ("TeX: The Program", section 445).
-const MAX_PENALTY: i64 = (1 << 31) - 1;
+use ntx_num::MAX_PENALTY;
 
 /// The fields that a node has by its kind. In a heap each number is in the range that `Field` states.
 #[derive(Clone, Copy, Debug, PartialEq, Eq)]

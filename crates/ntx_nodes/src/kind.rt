@@ -2,10 +2,10 @@
 
 ghost use Rattle.std.specs.Prelude.{◌≡◌, ◌≢◌, pos, IfSome, IfNone};
 ghost use Rattle.ntx_nodes.specs.declared.kind.Kind.{Kind};
-ghost use Rattle.ntx_nodes.specs.Fields.{number_of, last_subtype};
+ghost use Rattle.ntx_nodes.specs.Fields.{number_of, last_subtype, settable_fields};
 ghost use Rattle.ntx_nodes.specs.Walk.{allows, admits, is_too_deep, entered};
 
-use crate::{Contents, InnerLists};
+use crate::{Contents, Field, InnerLists};
 
 /// The kind of a node (LuaTeX Reference Manual, chapter "Nodes"), with a number that is this engine's own.
 #[derive(Clone, Copy, Debug, PartialEq, Eq)]
@@ -63,7 +63,57 @@ impl Kind {
             _ => 255,
         }
     }
+
+    /// The fields of nodes of the kind that can be set, beside the subtype.
+    pub fn settable_fields(self) -> &'static [Field]
+        ensures { result.now ≡ settable_fields self }
+    {
+        match self {
+            Kind::Hlist | Kind::Vlist => &OF_BOX,
+            Kind::Rule => &OF_RULE,
+            Kind::Disc => &OF_DISC,
+            Kind::Glue => &OF_GLUE,
+            Kind::Kern => &OF_KERN,
+            Kind::Penalty => &OF_PENALTY,
+            Kind::Glyph => &OF_GLYPH,
+        }
+    }
 }
+
+/// The fields of a box that can be set.
+static OF_BOX: [Field; 6] = [
+    Field::Next,
+    Field::Width,
+    Field::Height,
+    Field::Depth,
+    Field::Shift,
+    Field::List,
+];
+
+/// The fields of a rule that can be set.
+static OF_RULE: [Field; 4] = [Field::Next, Field::Width, Field::Height, Field::Depth];
+
+/// The fields of a discretionary that can be set.
+static OF_DISC: [Field; 4] = [Field::Next, Field::Pre, Field::Post, Field::Replace];
+
+/// The fields of a glue that can be set.
+static OF_GLUE: [Field; 6] = [
+    Field::Next,
+    Field::Width,
+    Field::Stretch,
+    Field::StretchOrder,
+    Field::Shrink,
+    Field::ShrinkOrder,
+];
+
+/// The fields of a kern that can be set.
+static OF_KERN: [Field; 2] = [Field::Next, Field::Kern];
+
+/// The fields of a penalty that can be set.
+static OF_PENALTY: [Field; 2] = [Field::Next, Field::Penalty];
+
+/// The fields of a glyph that can be set.
+static OF_GLYPH: [Field; 3] = [Field::Next, Field::Char, Field::Font];
 
 /// What a list may hold.
 #[derive(Clone, Copy, Debug, PartialEq, Eq)]

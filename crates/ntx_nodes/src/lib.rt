@@ -13,6 +13,7 @@ mod field;
 mod fields;
 mod inner;
 mod kind;
+mod laws;
 mod node;
 mod nodes;
 mod plain;
@@ -24,6 +25,7 @@ mod tests;
 mod trouble;
 mod value;
 mod walk;
+mod writing;
 
 pub use attributes::{Attributes, is_attribute};
 pub use contents::{BoxFields, DiscFields, GlueFields, GlyphFields, RuleFields};
@@ -31,11 +33,13 @@ pub use field::{Field, FieldValue};
 pub use fields::{Contents, Fields};
 pub use inner::InnerLists;
 pub use kind::{Kind, ListKind, MAX_DEPTH, Way};
+pub use laws::{
+    fields_follow_the_table, steps_keep_heaps_lawful, turns_are_enough, walks_are_sound,
+};
 pub use node::Node;
 pub use nodes::Nodes;
 pub use plain::PlainHeap;
 pub use ratio::Ratio;
 pub use trouble::{Phase, Trouble};
-pub use walk::{
-    check, names_on, names_reached, turns_are_enough, visit_list, visit_on, walks_are_sound,
-};
+pub use walk::{check, names_on, names_reached, visit_list, visit_on};
+pub use writing::{make_current, make_filled, make_like, write, write_all};

@@ -7,7 +7,8 @@ ghost use Rattle.ntx_num.specs.Answer.{Steps, StepsAtOnce};
 ghost use Rattle.ntx_nodes.specs.declared.kind.Kind.{Kind};
 ghost use Rattle.ntx_nodes.specs.declared.node.Node.{Node};
 ghost use Rattle.ntx_nodes.specs.Fields.{kind_of, last_subtype};
-ghost use Rattle.ntx_nodes.specs.Heap.{Heap, Names, IsLawful, AreLive, max_nodes};
+ghost use Rattle.ntx_num.specs.Dimension.{max_nodes};
+ghost use Rattle.ntx_nodes.specs.Heap.{Heap, Names, IsLawful, AreLive};
 ghost use Rattle.ntx_nodes.specs.Steps.{make_step, copy_one_step, free_one_step, kind_answer, fields_answer, get_answer, set_step, set_ratio_step, attr_answer, set_attr_step, unset_attr_step, same_attrs_step, set_current_step, unset_current_step, wear_current_step, visit_step};
 
 use crate::{Field, FieldValue, Fields, Kind, Ratio, Trouble};

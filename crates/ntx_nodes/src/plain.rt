@@ -6,12 +6,9 @@ ghost use Rattle.ntx_nodes.specs.Steps.{empty_heap, next_name, linkable, changed
 
 use crate::table::Table;
 use crate::{Attributes, Field, FieldValue, Fields, Kind, Node, Nodes, Ratio, Trouble};
-use ntx_num::{Fail, NoMemory};
+use ntx_num::{Fail, MAX_NODES, NoMemory};
 use std::alloc::Global;
 use std::marker::Model;
-
-/// The most nodes that may be live.
-const MAX_NODES: u64 = 1 << 18;
 
 /// Names are below it.
 const NAME_LIMIT: u64 = 1 << 48;

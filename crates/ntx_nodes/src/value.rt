@@ -4,7 +4,7 @@ ghost use Rattle.std.specs.Prelude.{◌≡◌, ◌≤ℤ◌, pos, nat_abs};
 ghost use Rattle.ntx_nodes.specs.Fields.{number_within, number_to, link, dimension, order};
 
 use crate::{FieldValue, Trouble};
-use ntx_num::{MAX_DIMENSION, in_range};
+use ntx_num::{MAX_DIMENSION, MAX_ORDER, in_range};
 
 /// The number in a value, if it is within `most` in absolute value.
 pub(crate) fn number_within(most: i64, v: FieldValue) -> Result<i64, Trouble>
@@ -48,5 +48,5 @@ pub(crate) fn dimension(v: FieldValue) -> Result<i64, Trouble>
 pub(crate) fn order(v: FieldValue) -> Result<u8, Trouble>
     ensures { result ≡ order v }
 {
-    number_to(3, v)
+    number_to(MAX_ORDER, v)
 }

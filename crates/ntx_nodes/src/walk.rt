@@ -1,13 +1,9 @@
 //! Walks through the lists of a heap.
 
-ghost use Rattle.std.specs.Prelude.{◌≡◌, ◌≢◌, ◌+◌, ◌≤◌, ◌<◌, ℕ, List, Option, None, OnOk, IfOk, Ok, Err, false};
+ghost use Rattle.std.specs.Prelude.{◌≡◌, ◌≢◌, ◌+◌, ◌≤◌, ◌<◌, None, OnOk, IfOk, Ok, Err, false};
 ghost use Rattle.ntx_num.specs.Answer.{result_map, Answers};
-ghost use Rattle.ntx_nodes.specs.Walk.{max_depth, is_too_deep, walk, turns_of, walk_from, checked_walk};
-ghost use Rattle.ntx_nodes.specs.WalkLaws.{Sound};
-ghost use Rattle.ntx_nodes.specs.Heap.{Heap};
-ghost use Rattle.ntx_nodes.specs.declared.kind.Way.{Way};
+ghost use Rattle.ntx_nodes.specs.Walk.{max_depth, is_too_deep, walk_from, checked_walk};
 ghost use Rattle.ntx_nodes.specs.declared.kind.Way.TheVariants.{Flat};
-ghost use Rattle.ntx_nodes.specs.declared.kind.ListKind.{ListKind};
 ghost use Rattle.ntx_nodes.specs.Walker.{Reaches, Walks, unvisited, Keeps, WalksOn, NamesOn, Marks};
 
 use crate::reached::Reached;
@@ -221,14 +217,3 @@ pub fn check<N: Nodes>(
 {
     names_reached(alloc, nodes, Way::Checked, head, k)
 }
-
-/// Does nothing. Its contract tells what each walk that ends well has reached: live names, none twice and none of those
-/// before it, the head among them, and with each the nodes to which the walk goes on from it.
-pub fn walks_are_sound()
-    ensures { (heap : Heap) (way : Way) (before : List ℕ) (head : Option ℕ) (depth : ℕ) (k : ListKind) (names : List ℕ) → walk heap way (turns_of heap) before head depth k ≡ Ok names → Sound heap way before head names }
-{}
-
-/// Does nothing. Its contract tells that more turns than there are live nodes change nothing.
-pub fn turns_are_enough()
-    ensures { (heap : Heap) (way : Way) (more : ℕ) (before : List ℕ) (head : Option ℕ) (depth : ℕ) (k : ListKind) → walk heap way (turns_of heap + more) before head depth k ≡ walk heap way (turns_of heap) before head depth k }
-{}

@@ -1,5 +1,5 @@
 use Rattle.ntx_nodes.proofs.Turns.{turns_enough}
-use Rattle.ntx_nodes.proofs.walk.turns_are_enough.Goals as goal
+use Rattle.ntx_nodes.proofs.laws.turns_are_enough.Goals as goal
 
 pub returns : goal.returns
 returns c = turns_enough
