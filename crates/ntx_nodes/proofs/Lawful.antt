@@ -2,14 +2,14 @@
 use Rattle.std.proofs.Common.{◌≡◌, ℕ, ℤ, ◌+◌, ◌-◌, ◌^◌, ◌≤◌, ◌<◌, Bool, true, false, cond, not, ◌&&◌, Some, None, Ok, refl, sym, ◌∙◌, ap, subst, inl, inr, arith}
 use Rattle.std.specs.Prelude.{Option, nat_le, ◌⊎◌}
 use Rattle.std.specs.declared.cmp.Ordering.{Ordering}
-use Rattle.std.proofs.lemmas.Bool.{leb-false}
+use Rattle.std.proofs.lemmas.Bool.{leb-false, not-false}
 use Rattle.std.specs.Ordering.{nat_cmp, int_cmp, eq_by_cmp}
 use Rattle.std.specs.Cmp.{IsTotalOrder, Equal-is, nat_cmp_total, int_cmp_total}
 use Rattle.std.specs.FinMap as map
 use Rattle.ntx_nodes.specs.Fields.{dimension, order, number_to, link, box_with, rule_with, disc_with, glue_with, kern_with, penalty_with, glyph_with, contents_with, with_field, kind_of, last_subtype}
 use Rattle.ntx_num.specs.Dimension.{IsWithin, IsDimension, max_nodes}
 use Rattle.ntx_nodes.specs.Heap.{Attributes, Heap, IsLawfulNode, IsLawful, AreLawful, is_attribute, max_attributes}
-use Rattle.ntx_nodes.proofs.Ranges.{IsGiven, IsLawfulBox, IsLawfulContents, IsLawfulFields, fields_numbers, fields_links, lawful_fields}
+use Rattle.ntx_nodes.proofs.Ranges.{Below, IsGiven, IsLawfulBox, IsLawfulContents, IsLawfulFields, fields_numbers, fields_links, fit_fields}
 use Rattle.ntx_nodes.specs.Heap.{name_limit}
 use Rattle.ntx_nodes.specs.Steps.{put, next_name, making, with_attribute, empty_heap}
 use Rattle.ntx_nodes.specs.declared.field.Field.{Field}
@@ -177,10 +177,10 @@ with_field-lawful next fields changed f v l given e =
 
 -- ---- a node
 pub fields_of_lawful : (next : ℕ) (node : Node) → IsLawfulNode next node → IsLawfulFields next node.fields
-fields_of_lawful next node l = lawful_fields next node.fields l.numbers l.links
+fields_of_lawful next node l = fit_fields (Below next) node.fields l.numbers l.links
 
 pub lawful_node : (next : ℕ) (fields : Fields) (attributes : Attributes) → IsLawfulFields next fields → AreLawful attributes → IsLawfulNode next (record { fields = fields; attributes = attributes })
-lawful_node next fields attributes l a = record { numbers = fields_numbers next fields l; links = fields_links next fields l; attributes = a }
+lawful_node next fields attributes l a = record { numbers = fields_numbers (Below next) fields l; links = fields_links (Below next) fields l; attributes = a }
 
 pub later_node : (next later : ℕ) (node : Node) → next ≤ later → IsLawfulNode next node → IsLawfulNode later node
 later_node next later node h l = record { numbers = l.numbers; links = λ f n e. let below : n < next = l.links f n e in omega arith; attributes = l.attributes }
@@ -189,9 +189,6 @@ later_node next later node h l = record { numbers = l.numbers; links = λ f n e.
 pub no_attributes : AreLawful map.empty
 no_attributes = record { few = rw (map.len-empty int_cmp ℤ) (omega arith); entries = λ id v e. let none = map.get-empty {X = ℤ} int_cmp id in cc }
 
-not_false : (b : Bool) → not b ≡ false → b ≡ true
-not_false true e = refl
-not_false false e = cc
 
 few_after : (b : Bool) (n : ℕ) → n ≤ max_attributes → (not b && nat_le max_attributes n) ≡ false → cond b n (n + 1) ≤ max_attributes
 few_after true n h e = h
@@ -224,7 +221,7 @@ with_attribute-lawful a b id v l e =
     subst AreLawful is (record {
       few = rw (map.len-insert int_cmp_total a id v) (few_after (map.contains_key a id) (map.len a) l.few room.0);
       entries = λ q x at. elim (inserted_Some int_cmp_total map.int_cmp-IsAntisymmetric a id v q x at) [
-        | inl here ↦ subst (λ i. is_attribute i x ≡ true) (sym here.0) (subst (λ y. is_attribute id y ≡ true) here.1 (not_false (is_attribute id v) ranged.0))
+        | inl here ↦ subst (λ i. is_attribute i x ≡ true) (sym here.0) (subst (λ y. is_attribute id y ≡ true) here.1 (not-false (is_attribute id v) ranged.0))
         | inr there ↦ l.entries q x there
       ];
     })

@@ -39,7 +39,7 @@ closed_append : (heap : Heap) (way : Way) (names a b : List ℕ) → IsClosed he
 closed_append heap way names a b p q n node i e =
     elim (or_cases (is_reached a n) (is_reached b n) (sym (is_reached-append a b n) ∙ i)) [ inl x ↦ p n node x e | inr x ↦ q n node x e ]
 
-leads_none : (names : List ℕ) → LeadsTo names None
+pub leads_none : (names : List ℕ) → LeadsTo names None
 leads_none names m e = cc
 
 begun : (names : List ℕ) (n : ℕ) → is_reached names n ≡ true → LeadsTo names (Some n)
