@@ -5,7 +5,9 @@ use Rattle.std.specs.Option.{option_and_then}
 use Rattle.std.specs.FinMap as map
 use Rattle.std.specs.FinSet as set
 use Rattle.ntx_num.specs.Answer.{result_and_then}
-use Rattle.ntx_nodes.specs.Heap.{Heap, Names, IsLawful, max_nodes}
+use Rattle.ntx_num.specs.Dimension.{max_nodes}
+use Rattle.ntx_num.proofs.Answers.{same_Ok}
+use Rattle.ntx_nodes.specs.Heap.{Heap, Names, IsLawful}
 use Rattle.ntx_nodes.specs.Steps.{of_found, at, visit_step}
 use Rattle.ntx_nodes.specs.Walk.{is_reached, node_reached}
 use Rattle.ntx_nodes.specs.Walker.{Marks, whole_walk, unvisited}
@@ -76,9 +78,6 @@ Goes heap head cur v n w seen =
 pub goes_begun : (heap : Heap) (head cur : ℕ) (v : Names) → Goes heap head cur v (Some head) v (record { length = 0; last = None; before = None; found = false })
 goes_begun heap head cur v before marks = ([], ap (λ r. whole_walk heap Flat r (Some head) 0 H) (sym (append-nil before)), subst (Marks v) (sym (append-nil before)) marks, refl)
 
-same_Ok : {A E : Type 0} (a b : A) → ◌≡◌ {A = Result A E} (Ok a) (Ok b) → a ≡ b
-same_Ok a b e = cc
-
 not_true : (b : Bool) → not b ≡ true → b ≡ false
 not_true true e = cc
 not_true false e = refl
@@ -98,7 +97,7 @@ goes_on heap head cur n v w x seen first goes visits is_first =
           let g = goes before marks in
           let r : List ℕ = before ++ g.0 in
           let fresh : is_reached r n ≡ false = sym (g.2 n) ∙ new in
-          let on = flat_on heap r n at.node (node_reached_Ok heap Flat r n 0 H at.node at.is fresh (omega arith) refl) in
+          let on = flat_on heap r n at.node (node_reached_Ok heap Flat r n 0 H at.node at.is fresh refl refl) in
           let grouped : r ++ n ∷ [] ≡ before ++ (g.0 ++ n ∷ []) = append_assoc before g.0 (n ∷ []) in (
             g.0 ++ n ∷ [],
             g.1 ∙ on ∙ (λ i. whole_walk heap Flat (grouped i) (next i) 0 H),

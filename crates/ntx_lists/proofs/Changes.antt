@@ -12,7 +12,8 @@ use Rattle.ntx_nodes.specs.declared.node.Node.{Node}
 use Rattle.ntx_nodes.specs.declared.trouble.Trouble.{Trouble}
 use Rattle.std.proofs.lemmas.Bool.{eqb-true}
 use Rattle.ntx_nodes.proofs.Walks.{nat_eq_same}
-use Rattle.ntx_nodes.proofs.Oks.{at_Ok, mapped_Ok}
+use Rattle.ntx_num.proofs.Answers.{mapped_Ok}
+use Rattle.ntx_nodes.proofs.Oks.{at_Ok}
 use Rattle.ntx_lists.specs.Lists.{name_before, next_of, follow_by, with_next, with_next_at, list_with, head_with, room_for, place_in, inserted_before, insert_before_step, inserted_after, insert_after_step, removed, left_by, remove_step}
 use Rattle.ntx_lists.specs.Survey.{IsLiveLink, FindsIn, FindsRoom, Follows, FollowsAt}
 

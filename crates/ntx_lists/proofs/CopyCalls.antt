@@ -7,7 +7,7 @@ use Rattle.ntx_num.specs.Answer.{result_map}
 use Rattle.ntx_num.specs.declared.answer.Fail.{Fail}
 use Rattle.ntx_num.specs.declared.answer.Fail.TheVariants.{NoMemory, Is}
 use Rattle.ntx_nodes.specs.Heap.{Heap}
-use Rattle.ntx_nodes.specs.Walk.{plain_walk, tree_walk}
+use Rattle.ntx_nodes.specs.Walk.{plain_walk, tree_walk, inner_lists}
 use Rattle.ntx_nodes.specs.Walker.{whole_walk}
 use Rattle.ntx_nodes.specs.declared.kind.ListKind.TheVariants.{H}
 use Rattle.ntx_nodes.specs.declared.kind.Way.TheVariants.{Plain}
@@ -17,7 +17,6 @@ use Rattle.ntx_nodes.proofs.Walks.{nat_eq_same}
 use Rattle.ntx_nodes.proofs.Turns.{passes}
 use Rattle.ntx_nodes.proofs.WalkSteps.{whole_None}
 use Rattle.ntx_lists.specs.Lists.{next_of}
-use Rattle.ntx_lists.specs.Trees.{inner_of}
 use Rattle.ntx_lists.specs.Copies.{copy_before, list_copy, tree_copy, with_copies, moved_on, room, why_no_more, Left, copies_left, copy_list_step, copy_tree_step, Unfinished, Copies}
 use Rattle.ntx_lists.specs.Copying.{LeavesCopies, CopiesNode}
 use Rattle.ntx_lists.proofs.Trees.{split, walked, three_ended, tree_is, tree_live}
@@ -105,7 +104,7 @@ tree_leaves : (heap h1 new : Heap) (n : ℕ) (u : Unit {0}) (r : Result ℕ (Fai
 tree_leaves heap h1 new n u r e same copies =
     let w = walked (tree_walk heap n) u e in
     let l = tree_live heap n w.0 w.1 in
-    let ts = three_ended heap 0 (inner_of l.0.fields.contents) (n ∷ []) w.0 (sym (tree_is heap n l.0 l.1) ∙ w.1) in
+    let ts = three_ended heap 0 (inner_lists l.0.fields.contents) (n ∷ []) w.0 (sym (tree_is heap n l.0 l.1) ∙ w.1) in
     let c = subst (λ h. CopiesNode h new n None r) same copies in
     record {
       names = w.0;

@@ -8,9 +8,10 @@ use Rattle.std.proofs.lemmas.Bool.Decides.{nat_tests}
 use Rattle.ntx_num.specs.Answer.{Steps}
 use Rattle.ntx_num.specs.declared.answer.Fail.{Fail}
 use Rattle.ntx_num.specs.declared.answer.Fail.TheVariants.{NoMemory, Is}
-use Rattle.ntx_nodes.specs.Heap.{Heap, IsLawful, is_live, name_limit, max_nodes}
+use Rattle.ntx_num.specs.Dimension.{max_nodes}
+use Rattle.ntx_nodes.specs.Heap.{Heap, IsLawful, is_live, name_limit}
 use Rattle.ntx_nodes.specs.Steps.{copy_of, next_name, copy_one_step}
-use Rattle.ntx_nodes.specs.Walk.{is_reached}
+use Rattle.ntx_nodes.specs.Walk.{is_reached, inner_lists}
 use Rattle.ntx_nodes.specs.Walker.{whole_walk}
 use Rattle.ntx_nodes.specs.declared.kind.ListKind.TheVariants.{H}
 use Rattle.ntx_nodes.specs.declared.kind.Way.TheVariants.{Plain}
@@ -19,10 +20,10 @@ use Rattle.ntx_nodes.specs.declared.trouble.Trouble.{Trouble}
 use Rattle.ntx_nodes.specs.declared.trouble.Trouble.TheVariants.{NodesFull, NamesOut}
 use Rattle.ntx_nodes.proofs.Walks.{is_reached-append}
 use Rattle.ntx_nodes.proofs.Turns.{Extends, extends_on}
-use Rattle.ntx_lists.specs.Trees.{inner_of, inner_of_found, inner_at}
+use Rattle.ntx_lists.specs.Trees.{inner_of_found, inner_at}
 use Rattle.ntx_lists.specs.Copies.{moved_on, room, why_no_more}
 use Rattle.ntx_lists.specs.Copying.{bare, AllLive, Made, MakesRest, FreesRun, LinksRest, LeavesCopies, CopiesNode}
-use Rattle.ntx_lists.specs.declared.links.Inner.{Inner}
+use Rattle.ntx_nodes.specs.declared.inner.InnerLists.{InnerLists}
 use Rattle.ntx_lists.proofs.CopyMaps.{Copier, copies_len, no_copies}
 use Rattle.ntx_lists.proofs.CopyNames.{live_on}
 use Rattle.ntx_lists.proofs.Making.{extends_whole, copied_is, one_made, copy_refused}
@@ -129,7 +130,7 @@ unfinished whole h new copy names NoMemory lawful live left back s =
     (length s.made, length_part s.made s.n s.rest names s.is, fits whole s.made lawful part (subst IsLawful s.left left), back s.made part s.left)
 
 -- the nodes that the whole walk reaches are live
-all_live : (heap : Heap) (n : ℕ) (node : Node) (one two three names : List ℕ) (lists : Inner) (next : Option ℕ) → map.get heap.nodes n ≡ Some node
+all_live : (heap : Heap) (n : ℕ) (node : Node) (one two three names : List ℕ) (lists : InnerLists) (next : Option ℕ) → map.get heap.nodes n ≡ Some node
     → whole_walk heap Plain (n ∷ []) lists.first 1 H ≡ Ok one → whole_walk heap Plain one lists.second 1 H ≡ Ok two → whole_walk heap Plain two lists.third 1 H ≡ Ok three → whole_walk heap Plain three next 0 H ≡ Ok names → AllLive heap names
 all_live heap n node one two three names lists next live w1 w2 w3 w4 =
     live_on heap three next 0 names (live_on heap two lists.third 1 three (live_on heap one lists.second 1 two (live_on heap (n ∷ []) lists.first 1 one (alone heap n node live) w1) w2) w3) w4
@@ -137,13 +138,13 @@ all_live heap n node one two three names lists next live w1 w2 w3 w4 =
 first_made : (old h1 : Heap) (n first : ℕ) (node : Node) → map.get old.nodes n ≡ Some node → copy_one_step n old ≡ Ok (first, h1) → h1 ≡ bare old (n ∷ [])
 first_made old h1 n first node live e = one_made old old h1 [] n first node (sym (no_copies old (λ _ node. copy_of node))) live live e
 
-module _ (old h1 h2 new : Heap) (n first : ℕ) (next : Option ℕ) (lists : Inner) (lawful : IsLawful old) (step : copy_one_step n old ≡ Ok (first, h1)) (lists_are : lists ≡ inner_at old n) where
+module _ (old h1 h2 new : Heap) (n first : ℕ) (next : Option ℕ) (lists : InnerLists) (lawful : IsLawful old) (step : copy_one_step n old ≡ Ok (first, h1)) (lists_are : lists ≡ inner_at old n) where
   pub node_done : (u : Unit {0}) → MakesRest h1 h2 lists next (Ok u) → IsLawful h2 → LinksRest h2 new lists next first → CopiesNode old new n next (Ok first)
   node_done u makes left links copy node one two three names live is_copy copies_as w1 w2 w3 w4 =
-      let l : inner_of node.fields.contents ≡ lists = sym (lists_are ∙ ap inner_of_found live) in
-      let v1 = subst (λ (i : Inner). whole_walk old Plain (n ∷ []) i.first 1 H ≡ Ok one) l w1 in
-      let v2 = subst (λ (i : Inner). whole_walk old Plain one i.second 1 H ≡ Ok two) l w2 in
-      let v3 = subst (λ (i : Inner). whole_walk old Plain two i.third 1 H ≡ Ok three) l w3 in
+      let l : inner_lists node.fields.contents ≡ lists = sym (lists_are ∙ ap inner_of_found live) in
+      let v1 = subst (λ (i : InnerLists). whole_walk old Plain (n ∷ []) i.first 1 H ≡ Ok one) l w1 in
+      let v2 = subst (λ (i : InnerLists). whole_walk old Plain one i.second 1 H ≡ Ok two) l w2 in
+      let v3 = subst (λ (i : InnerLists). whole_walk old Plain two i.third 1 H ≡ Ok three) l w3 in
       let all : AllLive old names = all_live old n node one two three names lists next live v1 v2 v3 w4 in
       let at : first ≡ old.next = (copied_is old h1 n first node live step).0 in
       let made : h2 ≡ bare old names = makes old n one two three names lawful (first_made old h1 n first node live step) v1 v2 v3 w4 in
@@ -151,10 +152,10 @@ module _ (old h1 h2 new : Heap) (n first : ℕ) (next : Option ℕ) (lists : Inn
 
   pub node_stopped : (e : Fail Trouble) → MakesRest h1 h2 lists next (Err e) → IsLawful h2 → FreesRun h2 new first → CopiesNode old new n next (Err e)
   node_stopped e makes left frees copy node one two three names live is_copy copies_as w1 w2 w3 w4 =
-      let l : inner_of node.fields.contents ≡ lists = sym (lists_are ∙ ap inner_of_found live) in
-      let v1 = subst (λ (i : Inner). whole_walk old Plain (n ∷ []) i.first 1 H ≡ Ok one) l w1 in
-      let v2 = subst (λ (i : Inner). whole_walk old Plain one i.second 1 H ≡ Ok two) l w2 in
-      let v3 = subst (λ (i : Inner). whole_walk old Plain two i.third 1 H ≡ Ok three) l w3 in
+      let l : inner_lists node.fields.contents ≡ lists = sym (lists_are ∙ ap inner_of_found live) in
+      let v1 = subst (λ (i : InnerLists). whole_walk old Plain (n ∷ []) i.first 1 H ≡ Ok one) l w1 in
+      let v2 = subst (λ (i : InnerLists). whole_walk old Plain one i.second 1 H ≡ Ok two) l w2 in
+      let v3 = subst (λ (i : InnerLists). whole_walk old Plain two i.third 1 H ≡ Ok three) l w3 in
       let all : AllLive old names = all_live old n node one two three names lists next live v1 v2 v3 w4 in
       let at : first ≡ old.next = (copied_is old h1 n first node live step).0 in
       unfinished old h2 new copy names e lawful all left (λ made part is. freed_back old h2 new made first lawful part is at frees)
@@ -166,7 +167,7 @@ none_made old new made same is =
     let next : old.next ≡ old.next + length made = ap (λ (h : Heap). h.next) (sym same ∙ is) in
     same ∙ (λ i. record old { next = next i })
 
-begins : (heap : Heap) (n : ℕ) (one two three names : List ℕ) (lists : Inner) (next : Option ℕ) → whole_walk heap Plain (n ∷ []) lists.first 1 H ≡ Ok one → whole_walk heap Plain one lists.second 1 H ≡ Ok two → whole_walk heap Plain two lists.third 1 H ≡ Ok three
+begins : (heap : Heap) (n : ℕ) (one two three names : List ℕ) (lists : InnerLists) (next : Option ℕ) → whole_walk heap Plain (n ∷ []) lists.first 1 H ≡ Ok one → whole_walk heap Plain one lists.second 1 H ≡ Ok two → whole_walk heap Plain two lists.third 1 H ≡ Ok three
     → whole_walk heap Plain three next 0 H ≡ Ok names → Extends (n ∷ []) names
 begins heap n one two three names lists next w1 w2 w3 w4 =
     extends_on (n ∷ []) one names (extends_whole heap (n ∷ []) lists.first 1 one w1)
@@ -176,9 +177,9 @@ kept : (old h1 : Heap) (n : ℕ) (e : Fail Trouble) → Steps {A = ℕ} (Err e) 
 kept old h1 n (Is why) s = s.1
 kept old h1 n NoMemory s = s
 
-pub node_refused : (old h1 : Heap) (n : ℕ) (next : Option ℕ) (lists : Inner) (e : Fail Trouble) → IsLawful old → lists ≡ inner_at old n → Steps {A = ℕ} (Err e) old h1 (copy_one_step n old) → CopiesNode old h1 n next (Err e)
+pub node_refused : (old h1 : Heap) (n : ℕ) (next : Option ℕ) (lists : InnerLists) (e : Fail Trouble) → IsLawful old → lists ≡ inner_at old n → Steps {A = ℕ} (Err e) old h1 (copy_one_step n old) → CopiesNode old h1 n next (Err e)
 node_refused old h1 n next lists e lawful lists_are step copy node one two three names live is_copy copies_as w1 w2 w3 w4 =
     let same = kept old h1 n e step in
-    let all : AllLive old names = all_live old n node one two three names (inner_of node.fields.contents) next live w1 w2 w3 w4 in
+    let all : AllLive old names = all_live old n node one two three names (inner_lists node.fields.contents) next live w1 w2 w3 w4 in
     unfinished old h1 h1 copy names e lawful all (subst IsLawful (sym same) lawful) (λ made part is. none_made old h1 made same is)
-    (copy_refused old old h1 [] n names node e (sym (no_copies old (λ _ node. copy_of node))) (begins old n one two three names (inner_of node.fields.contents) next w1 w2 w3 w4) live step)
+    (copy_refused old old h1 [] n names node e (sym (no_copies old (λ _ node. copy_of node))) (begins old n one two three names (inner_lists node.fields.contents) next w1 w2 w3 w4) live step)

@@ -7,9 +7,10 @@ use Rattle.std.proofs.Math.Nat.{min-le_left, min-le_right, min-eq_left, min-eq_r
 use Rattle.std.proofs.lemmas.Bool.{cases_lt, eqb-true}
 use Rattle.std.proofs.lemmas.Bool.Decides.{nat_tests}
 use Rattle.ntx_num.specs.Answer.{result_and_then}
-use Rattle.ntx_nodes.specs.Heap.{Heap, IsLawful, is_live, name_limit, max_nodes}
+use Rattle.ntx_num.specs.Dimension.{max_nodes}
+use Rattle.ntx_nodes.specs.Heap.{Heap, IsLawful, is_live, name_limit}
 use Rattle.ntx_nodes.specs.Steps.{next_name}
-use Rattle.ntx_nodes.specs.Walk.{is_reached, walk, turns_of, walk_from, plain_walk, tree_walk}
+use Rattle.ntx_nodes.specs.Walk.{is_reached, walk, turns_of, walk_from, plain_walk, tree_walk, inner_lists}
 use Rattle.ntx_nodes.specs.Walker.{whole_walk}
 use Rattle.ntx_nodes.specs.WalkLaws.{AreFresh, LeadsTo, LeadsOn}
 use Rattle.ntx_nodes.specs.declared.fields.Contents.{Contents}
@@ -24,16 +25,15 @@ use Rattle.ntx_nodes.specs.declared.trouble.Trouble.TheVariants.{NodesFull, Name
 use Rattle.ntx_nodes.proofs.Walks.{nat_eq_same, is_reached-append}
 use Rattle.ntx_nodes.proofs.Turns.{Extends, extends_on, turns_enough}
 use Rattle.ntx_nodes.proofs.SoundWalks.{sound_walk}
-use Rattle.ntx_lists.specs.Trees.{inner_of}
 use Rattle.ntx_lists.specs.Copies.{copy_name, copied_link, copied_lists, with_lists, list_copy, tree_copy, copy_before, with_copies, moved_on, room, why_no_more, Left, copies_left, copy_list_step, copy_tree_step}
 use Rattle.ntx_lists.specs.Copying.{AllLive}
 use Rattle.ntx_lists.specs.CopyLaws.{names_from, with_name, copies_of, AreCopied, IsListCopy, IsTreeCopy, StopsRightly}
-use Rattle.ntx_lists.specs.declared.links.Inner.{Inner}
+use Rattle.ntx_nodes.specs.declared.inner.InnerLists.{InnerLists}
 use Rattle.ntx_lists.proofs.Trees.{three_of, deeper, three_ended, tree_is, tree_live}
 use Rattle.ntx_lists.proofs.CopyMaps.{Copier, not_given, copies_below, copy_at, copies_len}
 use Rattle.ntx_lists.proofs.CopyNames.{link_at, live_on}
 use Rattle.ntx_lists.proofs.Making.{extends_whole}
-use Rattle.ntx_lists.proofs.CopyWalks.{Alike, Within, Sim, walk_alike, name_there, copies_length, copies_all}
+use Rattle.ntx_lists.proofs.CopyWalks.{lists_alike, Alike, Within, Sim, walk_alike, name_there, copies_length, copies_all}
 
 -- ---- what a call that was done left
 pub record Done {A : Type 0} (heap new : Heap) (copy : List ℕ → Copier) (answer a : A) (walk : Result (List ℕ) Trouble) : Type 0 where
@@ -136,16 +136,6 @@ or_false : (a b : Bool) → (a || b) ≡ false → a ≡ false
 or_false true b e = cc
 or_false false b e = refl
 
-lists_alike : (first : ℕ) (names : List ℕ) (c : Contents) → inner_of (with_lists c (copied_lists first names (inner_of c))) ≡ copied_lists first names (inner_of c)
-lists_alike first names (contents.Hlist b) = refl
-lists_alike first names (contents.Vlist b) = refl
-lists_alike first names (contents.Disc d) = refl
-lists_alike first names (contents.Rule x) = refl
-lists_alike first names (contents.Glue x) = refl
-lists_alike first names (contents.Kern x) = refl
-lists_alike first names (contents.Penalty x) = refl
-lists_alike first names (contents.Glyph x) = refl
-
 tree_alike : (heap : Heap) (n : ℕ) (names : List ℕ) → AreClosed heap n names → Alike heap (with_copies heap (tree_copy n heap.next names) names) heap.next names (n ∷ [])
 unfolding AreClosed
 tree_alike heap n names closed = record {
@@ -184,9 +174,9 @@ record Rooted (heap : Heap) (n : ℕ) (names : List ℕ) : Type 0 where
   live : map.get heap.nodes n ≡ Some node
   one : List ℕ
   two : List ℕ
-  first : whole_walk heap Plain (n ∷ []) (inner_of node.fields.contents).first 1 H ≡ Ok one
-  second : whole_walk heap Plain one (inner_of node.fields.contents).second 1 H ≡ Ok two
-  third : whole_walk heap Plain two (inner_of node.fields.contents).third 1 H ≡ Ok names
+  first : whole_walk heap Plain (n ∷ []) (inner_lists node.fields.contents).first 1 H ≡ Ok one
+  second : whole_walk heap Plain one (inner_lists node.fields.contents).second 1 H ≡ Ok two
+  third : whole_walk heap Plain two (inner_lists node.fields.contents).third 1 H ≡ Ok names
   begun : Extends (n ∷ []) one
   on : Extends one two
   off : Extends two names
@@ -194,7 +184,7 @@ record Rooted (heap : Heap) (n : ℕ) (names : List ℕ) : Type 0 where
 rooted : (heap : Heap) (n : ℕ) (names : List ℕ) → tree_walk heap n ≡ Ok names → Rooted heap n names
 rooted heap n names e =
     let l = tree_live heap n names e in
-    let ts = three_ended heap 0 (inner_of l.0.fields.contents) (n ∷ []) names (sym (tree_is heap n l.0 l.1) ∙ e) in
+    let ts = three_ended heap 0 (inner_lists l.0.fields.contents) (n ∷ []) names (sym (tree_is heap n l.0 l.1) ∙ e) in
     record {
       node = l.0;
       live = l.1;
@@ -203,9 +193,9 @@ rooted heap n names e =
       first = ts.first;
       second = ts.second;
       third = ts.third;
-      begun = extends_whole heap (n ∷ []) (inner_of l.0.fields.contents).first 1 ts.one ts.first;
-      on = extends_whole heap ts.one (inner_of l.0.fields.contents).second 1 ts.two ts.second;
-      off = extends_whole heap ts.two (inner_of l.0.fields.contents).third 1 names ts.third;
+      begun = extends_whole heap (n ∷ []) (inner_lists l.0.fields.contents).first 1 ts.one ts.first;
+      on = extends_whole heap ts.one (inner_lists l.0.fields.contents).second 1 ts.two ts.second;
+      off = extends_whole heap ts.two (inner_lists l.0.fields.contents).third 1 names ts.third;
     }
 
 first_live : (heap : Heap) (n : ℕ) (node : Node) → map.get heap.nodes n ≡ Some node → AllLive heap (n ∷ [])
@@ -218,7 +208,7 @@ first_live heap n node live m e =
 pub tree_names_live : (heap : Heap) (n : ℕ) (names : List ℕ) → tree_walk heap n ≡ Ok names → AllLive heap names
 tree_names_live heap n names e =
     let r = rooted heap n names e in
-    live_on heap r.two (inner_of r.node.fields.contents).third 1 names (live_on heap r.one (inner_of r.node.fields.contents).second 1 r.two (live_on heap (n ∷ []) (inner_of r.node.fields.contents).first 1 r.one (first_live heap n r.node r.live) r.first) r.second) r.third
+    live_on heap r.two (inner_lists r.node.fields.contents).third 1 names (live_on heap r.one (inner_lists r.node.fields.contents).second 1 r.two (live_on heap (n ∷ []) (inner_lists r.node.fields.contents).first 1 r.one (first_live heap n r.node r.live) r.first) r.second) r.third
 
 fresh_append : (heap : Heap) (r a b : List ℕ) → AreFresh heap r a → AreFresh heap (r ++ a) b → AreFresh heap r (a ++ b)
 fresh_append heap r [] b p q = subst (λ x. AreFresh heap x b) (append-nil r) q
@@ -232,7 +222,7 @@ fresh_on heap r names to fresh e =
 tree_fresh : (heap : Heap) (n : ℕ) (names : List ℕ) → Rooted heap n names → AreFresh heap [] names
 tree_fresh heap n names r =
     let begun : AreFresh heap [] (n ∷ []) = (ap is_some r.live, refl, tt) in
-    fresh_on heap r.two names (inner_of r.node.fields.contents).third (fresh_on heap r.one r.two (inner_of r.node.fields.contents).second (fresh_on heap (n ∷ []) r.one (inner_of r.node.fields.contents).first begun r.first) r.second) r.third
+    fresh_on heap r.two names (inner_lists r.node.fields.contents).third (fresh_on heap r.one r.two (inner_lists r.node.fields.contents).second (fresh_on heap (n ∷ []) r.one (inner_lists r.node.fields.contents).first begun r.first) r.second) r.third
 
 extends_self : (a : List ℕ) → Extends a a
 extends_self a = record { more = []; is = sym (append-nil a) }
@@ -242,7 +232,7 @@ tree_copied heap n names lawful e =
     let copy : Copier = tree_copy n heap.next names in
     let new : Heap = with_copies heap copy names in
     let r = rooted heap n names e in
-    let lists : Inner = inner_of r.node.fields.contents in
+    let lists : InnerLists = inner_lists r.node.fields.contents in
     let live : AllLive heap names = tree_names_live heap n names e in
     let closed = closed_on heap n r.two names lists.third 1 (closed_on heap n r.one r.two lists.second 1 (closed_on heap n (n ∷ []) r.one lists.first 1 (closed_first heap n) r.first) r.second) r.third in
     let like = tree_alike heap n names closed in
@@ -256,7 +246,7 @@ tree_copied heap n names lawful e =
     let first : copies_of heap.next names (n ∷ []) ≡ heap.next ∷ [] = ap (λ o. with_name o []) name in
     let there : map.get new.nodes heap.next ≡ Some (copy n r.node) = ap (λ y. map.get (with_copies heap copy y).nodes heap.next) x.is ∙ copy_at heap copy [] n x.more r.node heap.next at r.live in
     let f = deeper new 0 in
-    let copied : Inner = copied_lists heap.next names lists in
+    let copied : InnerLists = copied_lists heap.next names lists in
     tree_is new heap.next (copy n r.node) there
     ∙ ap (three_of f (heap.next ∷ [])) (lists_alike heap.next names r.node.fields.contents)
     ∙ ap (λ y. three_of f y copied) (sym first)

@@ -7,7 +7,6 @@ use Rattle.ntx_num.specs.Answer.{result_map, result_and_then}
 use Rattle.ntx_nodes.specs.Fields.{kind_of}
 use Rattle.ntx_nodes.specs.Heap.{Heap}
 use Rattle.ntx_nodes.specs.Walk.{is_reached, admits, inner_lists, entered, node_reached, in_turn, enter, walk}
-use Rattle.ntx_nodes.specs.Walker.{inner_links}
 use Rattle.ntx_nodes.specs.WalkLaws.{AreFresh, LeadsTo, LeadsOn}
 use Rattle.ntx_nodes.specs.declared.fields.Contents.{Contents}
 use Rattle.ntx_nodes.specs.declared.fields.Contents.TheVariants as contents
@@ -16,17 +15,14 @@ use Rattle.ntx_nodes.specs.declared.kind.Way.{Way}
 use Rattle.ntx_nodes.specs.declared.kind.Way.TheVariants.{Checked, Plain, Flat}
 use Rattle.ntx_nodes.specs.declared.node.Node.{Node}
 use Rattle.ntx_nodes.specs.declared.trouble.Trouble.{Trouble}
-use Rattle.ntx_nodes.proofs.Oks.{mapped_Ok, went_Ok}
+use Rattle.ntx_num.proofs.Answers.{same_Ok, mapped_Ok, went_Ok}
 use Rattle.ntx_nodes.proofs.Walks.{nat_eq_same, is_reached-append, node_reached_Ok}
 use Rattle.ntx_nodes.proofs.Turns.{Walker, passes}
-use Rattle.ntx_lists.specs.Trees.{inner_of}
+use Rattle.ntx_nodes.proofs.SoundWalks.{leads_none}
 use Rattle.ntx_lists.specs.Copies.{copy_name, copied_link, copied_lists, with_lists, list_copy}
 use Rattle.ntx_lists.specs.CopyLaws.{names_from, with_name, copies_of}
-use Rattle.ntx_lists.specs.declared.links.Inner.{Inner}
+use Rattle.ntx_nodes.specs.declared.inner.InnerLists.{InnerLists}
 use Rattle.ntx_lists.proofs.CopyNames.{name_at}
-
-same_Ok : {A E : Type 0} (a b : A) → ◌≡◌ {A = Result A E} (Ok a) (Ok b) → a ≡ b
-same_Ok a b e = cc
 
 same_Some : (a b : ℕ) → Some a ≡ Some b → a ≡ b
 same_Some a b e = cc
@@ -153,45 +149,30 @@ pub record Within (names start r : List ℕ) : Type 0 where
   pub inside : (q : ℕ) → is_reached r q ≡ true → is_reached names q ≡ true
   pub begun : (q : ℕ) → is_reached start q ≡ true → is_reached r q ≡ true
 
-abbrev pub copied_entries : ℕ → List ℕ → List (Option ℕ × ListKind) → List (Option ℕ × ListKind)
-copied_entries first names [] = []
-copied_entries first names (l ∷ ls) = (copied_link first names l.0, l.1) ∷ copied_entries first names ls
+pub lists_alike : (first : ℕ) (names : List ℕ) (c : Contents) → inner_lists (with_lists c (copied_lists first names (inner_lists c))) ≡ copied_lists first names (inner_lists c)
+lists_alike first names (contents.Hlist b) = refl
+lists_alike first names (contents.Vlist b) = refl
+lists_alike first names (contents.Disc d) = refl
+lists_alike first names (contents.Rule x) = refl
+lists_alike first names (contents.Glue x) = refl
+lists_alike first names (contents.Kern x) = refl
+lists_alike first names (contents.Penalty x) = refl
+lists_alike first names (contents.Glyph x) = refl
 
-inner_alike : (first : ℕ) (names : List ℕ) (c : Contents) → inner_lists (with_lists c (copied_lists first names (inner_of c))) ≡ copied_entries first names (inner_lists c)
-inner_alike first names (contents.Hlist b) = refl
-inner_alike first names (contents.Vlist b) = refl
-inner_alike first names (contents.Disc d) = refl
-inner_alike first names (contents.Rule x) = refl
-inner_alike first names (contents.Glue x) = refl
-inner_alike first names (contents.Kern x) = refl
-inner_alike first names (contents.Penalty x) = refl
-inner_alike first names (contents.Glyph x) = refl
-
-entered_alike : (way : Way) (first : ℕ) (names : List ℕ) (c : Contents) → entered way (with_lists c (copied_lists first names (inner_of c))) ≡ copied_entries first names (entered way c)
+entered_alike : (way : Way) (first : ℕ) (names : List ℕ) (c : Contents) → entered way (with_lists c (copied_lists first names (inner_lists c))) ≡ copied_lists first names (entered way c)
 entered_alike Flat first names c = refl
-entered_alike Plain first names c = inner_alike first names c
-entered_alike Checked first names c = inner_alike first names c
+entered_alike Plain first names c = lists_alike first names c
+entered_alike Checked first names c = lists_alike first names c
 
-abbrev pub AllLead : List ℕ → List (Option ℕ × ListKind) → Type 0
-AllLead names [] = Unit {0}
-AllLead names (l ∷ ls) = LeadsTo names l.0 × AllLead names ls
-
-lists_lead : (names : List ℕ) (c : Contents) (next : Option ℕ) → LeadsTo names (inner_links c next).first → LeadsTo names (inner_links c next).second → LeadsTo names (inner_links c next).third → AllLead names (inner_lists c)
-lists_lead names (contents.Hlist b) next p q r = (p, tt)
-lists_lead names (contents.Vlist b) next p q r = (p, tt)
-lists_lead names (contents.Disc d) next p q r = (p, (q, (r, tt)))
-lists_lead names (contents.Rule x) next p q r = tt
-lists_lead names (contents.Glue x) next p q r = tt
-lists_lead names (contents.Kern x) next p q r = tt
-lists_lead names (contents.Penalty x) next p q r = tt
-lists_lead names (contents.Glyph x) next p q r = tt
+abbrev pub AllLead : List ℕ → InnerLists → Type 0
+AllLead names l = LeadsTo names l.first × LeadsTo names l.second × LeadsTo names l.third
 
 entered_lead : (way : Way) (names : List ℕ) (node : Node) → LeadsOn Plain names node → AllLead names (entered way node.fields.contents)
-entered_lead Flat names node l = tt
-entered_lead Plain names node l = lists_lead names node.fields.contents node.fields.next l.first l.second l.third
-entered_lead Checked names node l = lists_lead names node.fields.contents node.fields.next l.first l.second l.third
+entered_lead Flat names node l = (leads_none names, leads_none names, leads_none names)
+entered_lead Plain names node l = (l.first, l.second, l.third)
+entered_lead Checked names node l = (l.first, l.second, l.third)
 
-kind_alike : (c : Contents) (lists : Inner) → kind_of (with_lists c lists) ≡ kind_of c
+kind_alike : (c : Contents) (lists : InnerLists) → kind_of (with_lists c lists) ≡ kind_of c
 kind_alike (contents.Hlist b) lists = refl
 kind_alike (contents.Vlist b) lists = refl
 kind_alike (contents.Disc d) lists = refl
@@ -214,14 +195,17 @@ sim_same first names start r reached within e =
     let same : r ≡ reached = same_Ok r reached e in
     record { is = ap (λ x. Ok (copies_of first names x)) same; within = subst (Within names start) same within }
 
-turn_alike : (first : ℕ) (names start : List ℕ) (w v : Walker) → Sims first names start w v → (d : ℕ) (ls : List (Option ℕ × ListKind)) (r reached : List ℕ) → Within names start r → AllLead names ls → in_turn (λ b to i. w b to d i) r ls ≡ Ok reached
-    → Sim first names start reached (in_turn (λ b to i. v b to d i) (copies_of first names r) (copied_entries first names ls))
-turn_alike first names start w v sims d [] r reached within leads e = sim_same first names start r reached within e
-turn_alike first names start w v sims d (l ∷ ls) r reached within leads e =
-    let went = went_Ok (λ b. in_turn (λ b to i. w b to d i) b ls) (w r l.0 d l.1) reached e in
-    let s = sims r l.0 d l.1 went.value within leads.0 went.is in
-    let rest = turn_alike first names start w v sims d ls went.value reached s.within leads.1 went.gives in
-    record { is = ap (λ x. result_and_then x (λ b. in_turn (λ b to i. v b to d i) b (copied_entries first names ls))) s.is ∙ rest.is; within = rest.within }
+turn_alike : (first : ℕ) (names start : List ℕ) (w v : Walker) → Sims first names start w v → (d : ℕ) (l : InnerLists) (r reached : List ℕ) → Within names start r → AllLead names l → in_turn (λ b to i. w b to d i) r l ≡ Ok reached
+    → Sim first names start reached (in_turn (λ b to i. v b to d i) (copies_of first names r) (copied_lists first names l))
+turn_alike first names start w v sims d l r reached within leads e =
+    let second = copied_link first names l.second in
+    let third = copied_link first names l.third in
+    let one = went_Ok (λ a. result_and_then (w a l.second d l.kind) (λ b. w b l.third d l.kind)) (w r l.first d l.kind) reached e in
+    let two = went_Ok (λ b. w b l.third d l.kind) (w one.value l.second d l.kind) reached one.gives in
+    let s1 = sims r l.first d l.kind one.value within leads.0 one.is in
+    let s2 = sims one.value l.second d l.kind two.value s1.within leads.1 two.is in
+    let s3 = sims two.value l.third d l.kind reached s2.within leads.2 two.gives in
+    record { is = ap (λ x. result_and_then x (λ a. result_and_then (v a second d l.kind) (λ b. v b third d l.kind))) s1.is ∙ ap (λ x. result_and_then x (λ b. v b third d l.kind)) s2.is ∙ s3.is; within = s3.within }
 
 false_where : (b c : Bool) → (b ≡ true → c ≡ true) → c ≡ false → b ≡ false
 false_where true c h e = let f : c ≡ true = h refl in cc
@@ -260,7 +244,7 @@ enter_alike heap new first names start like way w v sims r n d k entry within he
     let p = passes heap way r n d k node went.is in
     let a = like.copies n node here (false_where (is_reached start n) (is_reached r n) (within.begun n) p.new) p.live in
     let copy : Node = list_copy first names n node in
-    let kind : kind_of copy.fields.contents ≡ kind_of node.fields.contents = kind_alike node.fields.contents (copied_lists first names (inner_of node.fields.contents)) in
+    let kind : kind_of copy.fields.contents ≡ kind_of node.fields.contents = kind_alike node.fields.contents (copied_lists first names (inner_lists node.fields.contents)) in
     let reached : node_reached new way (copies_of first names r) a.0 d k ≡ Ok copy = node_reached_Ok new way (copies_of first names r) a.0 d k copy a.2 (copy_new first names r n a.0 a.1 p.new) p.shallow (ap (admits way k) kind ∙ p.kind) in
     let t = turn_alike first names start w v sims (d + 1) (entered way node.fields.contents) (r ++ n ∷ []) m.value (within_more names start r n within here) (entered_lead way names node a.3) m.is in
     let lists : in_turn g (copies_of first names r ++ a.0 ∷ []) (entered way copy.fields.contents) ≡ Ok (copies_of first names m.value) =

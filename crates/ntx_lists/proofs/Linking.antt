@@ -6,10 +6,11 @@ use Rattle.std.specs.Result.{is_err}
 use Rattle.std.specs.Cmp.{nat_cmp_total}
 use Rattle.std.specs.FinMap as map
 use Rattle.std.proofs.lemmas.Bool.{cases_lt}
+use Rattle.ntx_num.proofs.Answers.{same_Ok}
 use Rattle.ntx_nodes.specs.Heap.{Heap, IsLawful, is_live}
 use Rattle.ntx_nodes.specs.Steps.{of_found, put, copy_of, kind_answer}
 use Rattle.ntx_nodes.specs.Fields.{kind_of, unlinked}
-use Rattle.ntx_nodes.specs.Walk.{is_reached, max_depth}
+use Rattle.ntx_nodes.specs.Walk.{is_reached, max_depth, inner_lists}
 use Rattle.ntx_nodes.specs.Walker.{whole_walk}
 use Rattle.ntx_nodes.specs.declared.fields.Contents.{Contents}
 use Rattle.ntx_nodes.specs.declared.fields.Contents.TheVariants as contents
@@ -22,17 +23,14 @@ use Rattle.ntx_nodes.proofs.Turns.{passes, Extends, extends_on}
 use Rattle.ntx_nodes.proofs.WalkSteps.{whole_None}
 use Rattle.ntx_lists.specs.Lists.{next_of}
 use Rattle.ntx_lists.specs.Survey.{IsLiveLink}
-use Rattle.ntx_lists.specs.Trees.{inner_of, inner_of_found, inner_at}
+use Rattle.ntx_lists.specs.Trees.{inner_of_found, inner_at}
 use Rattle.ntx_lists.specs.Copies.{with_lists, relinked, copied_lists, copied_link, copy_before, list_copy, with_copies}
 use Rattle.ntx_lists.specs.Copying.{bare, AllLive, SetsLinks, link_to, Linkable, Linked, Links, LinksRest}
-use Rattle.ntx_lists.specs.declared.links.Inner.{Inner}
-use Rattle.ntx_lists.proofs.Trees.{Three, Split, split}
+use Rattle.ntx_nodes.specs.declared.inner.InnerLists.{InnerLists}
+use Rattle.ntx_lists.proofs.Trees.{not_deep, Three, Split, split}
 use Rattle.ntx_lists.proofs.CopyMaps.{Copier, get_same, get_below, get_above, given, copies_below, copies_above, copy_at, copies_stand, length_more}
 use Rattle.ntx_lists.proofs.CopyNames.{link_at, place_of, longer, not_reached}
 use Rattle.ntx_lists.proofs.Making.{extends_whole, extends_three}
-
-same_Ok : {A E : Type 0} (a b : A) → ◌≡◌ {A = Result A E} (Ok a) (Ok b) → a ≡ b
-same_Ok a b e = cc
 
 -- ---- one linked after another
 pub linked_begun : (final heap : Heap) (first : ℕ) → Linked final heap heap first first
@@ -55,7 +53,7 @@ linked_on final a b c x y z l m =
     }
 
 -- ---- the copy of a node, linked
-linked_contents : (c : Contents) (lists : Inner) → with_lists (unlinked c) lists ≡ with_lists c lists
+linked_contents : (c : Contents) (lists : InnerLists) → with_lists (unlinked c) lists ≡ with_lists c lists
 linked_contents (contents.Hlist b) lists = refl
 linked_contents (contents.Vlist b) lists = refl
 linked_contents (contents.Disc d) lists = refl
@@ -65,19 +63,19 @@ linked_contents (contents.Kern x) lists = refl
 linked_contents (contents.Penalty x) lists = refl
 linked_contents (contents.Glyph x) lists = refl
 
-linked_node : (node : Node) (lists : Inner) (next : Option ℕ) → relinked (copy_of node) lists next ≡ relinked node lists next
+linked_node : (node : Node) (lists : InnerLists) (next : Option ℕ) → relinked (copy_of node) lists next ≡ relinked node lists next
 linked_node node lists next = λ i. record { fields = record { subtype = node.fields.subtype; next = next; contents = linked_contents node.fields.contents lists i }; attributes = node.attributes }
 
 -- the links of a copy, as the walk comes to them
-abbrev pub links_at : Inner → ℕ → ℕ → ℕ → Inner
-links_at lists a b c = record { first = link_to lists.first a; second = link_to lists.second b; third = link_to lists.third c }
+abbrev pub links_at : InnerLists → ℕ → ℕ → ℕ → InnerLists
+links_at lists a b c = record { first = link_to lists.first a; second = link_to lists.second b; third = link_to lists.third c; kind = lists.kind }
 
 -- ---- a node whose copy is to be linked
-pub record Copied (whole : Heap) (copy : Copier) (all mid : List ℕ) (n : ℕ) (node : Node) (lists : Inner) (next : Option ℕ) (h0 : Heap) (c : ℕ) : Type 0 where
+pub record Copied (whole : Heap) (copy : Copier) (all mid : List ℕ) (n : ℕ) (node : Node) (lists : InnerLists) (next : Option ℕ) (h0 : Heap) (c : ℕ) : Type 0 where
   pub lawful : IsLawful whole
   pub live : AllLive whole all
   pub node_live : map.get whole.nodes n ≡ Some node
-  pub lists_are : lists ≡ inner_of node.fields.contents
+  pub lists_are : lists ≡ inner_lists node.fields.contents
   pub is_copy : copy n node ≡ copy_before whole.next all next node
   pub copies : (m : ℕ) (other : Node) → is_reached (mid ++ n ∷ []) m ≡ false → copy m other ≡ list_copy whole.next all m other
   pub at : c ≡ whole.next + length mid
@@ -85,7 +83,7 @@ pub record Copied (whole : Heap) (copy : Copier) (all mid : List ℕ) (n : ℕ) 
   pub unlinked : (q : ℕ) → c ≤ q → map.get h0.nodes q ≡ map.get (bare whole all).nodes q
 
 -- the walk from it
-pub record Walked (whole : Heap) (all mid : List ℕ) (n d dn : ℕ) (lists : Inner) (next : Option ℕ) (inside names : List ℕ) : Type 0 where
+pub record Walked (whole : Heap) (all mid : List ℕ) (n d dn : ℕ) (lists : InnerLists) (next : Option ℕ) (inside names : List ℕ) : Type 0 where
   pub three : Three whole d lists (mid ++ n ∷ []) inside
   pub after : whole_walk whole Plain inside next dn H ≡ Ok names
   pub rest : List ℕ
@@ -95,7 +93,7 @@ regroup : (all a b rest : List ℕ) (x : Extends a b) → all ≡ b ++ rest → 
 regroup all a b rest x is = is ∙ ap (λ y. y ++ rest) x.is ∙ append_assoc a x.more rest
 
 -- what its lists want
-lists_linkable : (whole : Heap) (copy : Copier) (all mid : List ℕ) (n d dn c : ℕ) (node : Node) (lists : Inner) (next : Option ℕ) (inside names r to : List ℕ) (h0 h : Heap) (first : ℕ)
+lists_linkable : (whole : Heap) (copy : Copier) (all mid : List ℕ) (n d dn c : ℕ) (node : Node) (lists : InnerLists) (next : Option ℕ) (inside names r to : List ℕ) (h0 h : Heap) (first : ℕ)
     → Copied whole copy all mid n node lists next h0 c → Walked whole all mid n d dn lists next inside names → Extends (mid ++ n ∷ []) r → Extends to inside → first ≡ whole.next + length r
     → Linked (with_copies whole copy all) h0 h (c + 1) first → Linkable whole copy all r to h first
 lists_linkable whole copy all mid n d dn c node lists next inside names r to h0 h first k w begins goes at l =
@@ -123,7 +121,7 @@ pub record Inside (whole : Heap) (copy : Copier) (all mid : List ℕ) (n : ℕ) 
   pub after_at : after ≡ whole.next + length inside
   pub linked : Linked (with_copies whole copy all) h0 h3 (c + 1) after
 
-lists_linked : (whole : Heap) (copy : Copier) (all mid : List ℕ) (n d dn c second third after : ℕ) (node : Node) (lists : Inner) (next : Option ℕ) (inside names : List ℕ) (h0 h1 h2 h3 : Heap)
+lists_linked : (whole : Heap) (copy : Copier) (all mid : List ℕ) (n d dn c second third after : ℕ) (node : Node) (lists : InnerLists) (next : Option ℕ) (inside names : List ℕ) (h0 h1 h2 h3 : Heap)
     → Copied whole copy all mid n node lists next h0 c → (w : Walked whole all mid n d dn lists next inside names)
     → Links h0 h1 lists.first (d + 1) (c + 1) second → Links h1 h2 lists.second (d + 1) second third → Links h2 h3 lists.third (d + 1) third after
     → Inside whole copy all mid n inside w.three.one w.three.two h0 h3 c second third after
@@ -183,7 +181,7 @@ one_linked final h0 h3 h4 c after node l is here =
 here_in : (all mid : List ℕ) (n : ℕ) (names rest : List ℕ) → (x : Extends (mid ++ n ∷ []) names) → all ≡ names ++ rest → all ≡ mid ++ n ∷ (x.more ++ rest)
 here_in all mid n names rest x is = is ∙ ap (λ y. y ++ rest) (x.is ∙ append_assoc mid (n ∷ []) x.more) ∙ append_assoc mid (n ∷ x.more) rest
 
-pub link_turn : (whole : Heap) (copy : Copier) (all mid : List ℕ) (n d dn c second third after : ℕ) (node : Node) (lists copies : Inner) (next to : Option ℕ) (inside names : List ℕ) (h0 h1 h2 h3 h4 : Heap)
+pub link_turn : (whole : Heap) (copy : Copier) (all mid : List ℕ) (n d dn c second third after : ℕ) (node : Node) (lists copies : InnerLists) (next to : Option ℕ) (inside names : List ℕ) (h0 h1 h2 h3 h4 : Heap)
     → Copied whole copy all mid n node lists next h0 c → Walked whole all mid n d dn lists next inside names
     → Links h0 h1 lists.first (d + 1) (c + 1) second → Links h1 h2 lists.second (d + 1) second third → Links h2 h3 lists.third (d + 1) third after
     → copies ≡ links_at lists (c + 1) second third → to ≡ link_to next after → SetsLinks h3 h4 c copies to
@@ -226,6 +224,7 @@ link_turn whole copy all mid n d dn c second third after node lists copies next 
       first = sym (link_at whole whole.next (c + 1) r0 lists.first (d + 1) t.one (x234.more ++ w.rest) all t.first is1 at0) j;
       second = sym (link_at whole whole.next second t.one lists.second (d + 1) t.two (x34.more ++ w.rest) all t.second is2 second_at) j;
       third = sym (link_at whole whole.next third t.two lists.third (d + 1) inside (x4.more ++ w.rest) all t.third is3 third_at) j;
+      kind = lists.kind;
     } in
     let follows : link_to next after ≡ copied_link whole.next all next = sym (link_at whole whole.next after inside next dn names w.rest all w.after w.is after_at) in
     let made : relinked (copy_of node) (links_at lists (c + 1) second third) (link_to next after) ≡ copy n node =
@@ -266,7 +265,7 @@ pub found : (whole : Heap) (copy : Copier) (all before mid names : List ℕ) (ol
 found whole copy all before mid names old h first n depth c k e at x l =
     let s = split whole mid n depth names e in
     let p = passes whole Plain mid n depth H s.node s.here in
-    let x0 = extends_on (mid ++ n ∷ []) s.inside names (extends_three whole depth (inner_of s.node.fields.contents) (mid ++ n ∷ []) s.inside s.lists) (extends_whole whole s.inside s.node.fields.next depth names s.after) in
+    let x0 = extends_on (mid ++ n ∷ []) s.inside names (extends_three whole depth (inner_lists s.node.fields.contents) (mid ++ n ∷ []) s.inside s.lists) (extends_whole whole s.inside s.node.fields.next depth names s.after) in
     let stood : all ≡ mid ++ n ∷ (x0.more ++ k.rest) = here_in all mid n names k.rest x0 k.is in
     let low : n < whole.next = given whole n s.node k.lawful p.live in
     let first_at : first ≡ whole.next + length before = k.at in
@@ -275,19 +274,19 @@ found whole copy all before mid names old h first n depth c k e at x l =
       split = s;
       live = p.live;
       there = l.below n (omega arith) ∙ k.originals n low ∙ p.live;
-      shallow = p.shallow;
+      shallow = not_deep depth p.shallow;
       copied = l.above c (omega arith) ∙ k.unlinked c order ∙ ap (λ y. map.get (bare whole y).nodes c) stood ∙ copy_at whole (λ _ node. copy_of node) mid n (x0.more ++ k.rest) s.node c at p.live;
       new = p.new;
     }
 
-pub links_turn : (old h h1 h2 h3 h4 : Heap) (head at next to : Option ℕ) (n depth first c second third after : ℕ) (lists copies : Inner) → LinksOn old h head at depth first c → at ≡ Some n → lists ≡ inner_at h n → next ≡ next_of h n
+pub links_turn : (old h h1 h2 h3 h4 : Heap) (head at next to : Option ℕ) (n depth first c second third after : ℕ) (lists copies : InnerLists) → LinksOn old h head at depth first c → at ≡ Some n → lists ≡ inner_at h n → next ≡ next_of h n
     → Links h h1 lists.first (depth + 1) (c + 1) second → Links h1 h2 lists.second (depth + 1) second third → Links h2 h3 lists.third (depth + 1) third after
     → copies ≡ links_at lists (c + 1) second third → to ≡ link_to next after → SetsLinks h3 h4 c copies to → LinksOn old h4 head next depth first after
 links_turn old h h1 h2 h3 h4 head at next to n depth first c second third after lists copies links comes lists_is next_is l1 l2 l3 copies_are to_is sets whole copy all before names k e =
     let f = links whole copy all before names k e in
     let mid : List ℕ = f.0 in
     let x = found whole copy all before mid names old h first n depth c k (subst (λ o. whole_walk whole Plain mid o depth H ≡ Ok names) comes f.1) f.2 f.3 f.4 in
-    let l : inner_of x.split.node.fields.contents ≡ lists = sym (lists_is ∙ ap inner_of_found x.there) in
+    let l : inner_lists x.split.node.fields.contents ≡ lists = sym (lists_is ∙ ap inner_of_found x.there) in
     let follows : x.split.node.fields.next ≡ next = sym (next_is ∙ ap (option_and_then (λ (node : Node). node.fields.next)) x.there) in
     let order : first ≤ c = f.4.order in
     let first_at : first ≡ whole.next + length before = k.at in
@@ -309,7 +308,7 @@ links_turn old h h1 h2 h3 h4 head at next to n depth first c second third after 
       is = k.is;
     } in
     let t = link_turn whole copy all mid n depth depth c second third after x.split.node lists copies next to x.split.inside names h h1 h2 h3 h4 copied walked l1 l2 l3 copies_are to_is sets in
-    let further = extends_on (mid ++ n ∷ []) x.split.inside x.split.inside (extends_three whole depth (inner_of x.split.node.fields.contents) (mid ++ n ∷ []) x.split.inside x.split.lists) (extends_self x.split.inside) in (
+    let further = extends_on (mid ++ n ∷ []) x.split.inside x.split.inside (extends_three whole depth (inner_lists x.split.node.fields.contents) (mid ++ n ∷ []) x.split.inside x.split.lists) (extends_self x.split.inside) in (
       x.split.inside,
       walked.after,
       t.0,
@@ -357,7 +356,7 @@ all_linked whole old new copy all lawful is links =
     let nodes : new.nodes ≡ (with_copies whole copy all).nodes = map.same_map nat_cmp_total map.nat_cmp-IsAntisymmetric _ _ (λ q. same_at whole new copy all q lawful l) in
     λ i. record { next = l.next i; nodes = nodes i; current = l.current i }
 
-pub rest_linked : (old h1 h2 h3 h4 new : Heap) (lists copies : Inner) (next to : Option ℕ) (first second third after last : ℕ)
+pub rest_linked : (old h1 h2 h3 h4 new : Heap) (lists copies : InnerLists) (next to : Option ℕ) (first second third after last : ℕ)
     → Links old h1 lists.first 1 (first + 1) second → Links h1 h2 lists.second 1 second third → Links h2 h3 lists.third 1 third after
     → copies ≡ links_at lists (first + 1) second third → to ≡ link_to next after → SetsLinks h3 h4 first copies to → Links h4 new next 0 after last → LinksRest old new lists next first
 rest_linked old h1 h2 h3 h4 new lists copies next to first second third after last l1 l2 l3 copies_are to_is sets l4 whole copy n node one two three all lawful live at is node_live lists_are is_copy copies_as w1 w2 w3 w4 =

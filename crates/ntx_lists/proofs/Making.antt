@@ -8,31 +8,28 @@ use Rattle.ntx_num.specs.declared.answer.Fail.{Fail}
 use Rattle.ntx_num.specs.declared.answer.Fail.TheVariants.{NoMemory, Is}
 use Rattle.ntx_nodes.specs.Heap.{Heap, IsLawful}
 use Rattle.ntx_nodes.specs.Steps.{of_found, copy_of, next_name, making, copy_one_step}
-use Rattle.ntx_nodes.specs.Walk.{max_depth}
+use Rattle.ntx_nodes.specs.Walk.{max_depth, inner_lists}
 use Rattle.ntx_nodes.specs.Walker.{whole_walk}
 use Rattle.ntx_nodes.specs.declared.kind.ListKind.TheVariants.{H}
 use Rattle.ntx_nodes.specs.declared.kind.Way.TheVariants.{Plain}
 use Rattle.ntx_nodes.specs.declared.node.Node.{Node}
 use Rattle.ntx_nodes.specs.declared.trouble.Trouble.{Trouble}
-use Rattle.ntx_nodes.proofs.Oks.{mapped_Ok}
+use Rattle.ntx_num.proofs.Answers.{same_Ok, mapped_Ok}
 use Rattle.ntx_nodes.proofs.Turns.{passes, Extends, extends_on, walk_extends}
 use Rattle.ntx_nodes.proofs.WalkSteps.{whole_None}
 use Rattle.ntx_nodes.specs.Walk.{turns_of}
 use Rattle.ntx_lists.specs.Lists.{next_of}
-use Rattle.ntx_lists.specs.Trees.{inner_of, inner_of_found, inner_at}
+use Rattle.ntx_lists.specs.Trees.{inner_of_found, inner_at}
 use Rattle.ntx_lists.specs.Copying.{bare, Stops, Made, Makes, MakesRest}
-use Rattle.ntx_lists.specs.declared.links.Inner.{Inner}
-use Rattle.ntx_lists.proofs.Trees.{Three, Split, split}
+use Rattle.ntx_nodes.specs.declared.inner.InnerLists.{InnerLists}
+use Rattle.ntx_lists.proofs.Trees.{not_deep, Three, Split, split}
 use Rattle.ntx_lists.proofs.CopyMaps.{given, copies_below, one_copy_more}
-
-same_Ok : {A E : Type 0} (a b : A) → ◌≡◌ {A = Result A E} (Ok a) (Ok b) → a ≡ b
-same_Ok a b e = cc
 
 -- ---- where a name stands among those that a walk reaches
 pub extends_whole : (heap : Heap) (r : List ℕ) (to : Option ℕ) (d : ℕ) (names : List ℕ) → whole_walk heap Plain r to d H ≡ Ok names → Extends r names
 extends_whole heap r to d names e = walk_extends heap Plain (turns_of heap) r to d H names e
 
-pub extends_three : (heap : Heap) (d : ℕ) (i : Inner) (r names : List ℕ) → Three heap d i r names → Extends r names
+pub extends_three : (heap : Heap) (d : ℕ) (i : InnerLists) (r names : List ℕ) → Three heap d i r names → Extends r names
 extends_three heap d i r names t =
     extends_on r t.one names (extends_whole heap r i.first (d + 1) t.one t.first)
     (extends_on t.one t.two names (extends_whole heap t.one i.second (d + 1) t.two t.second) (extends_whole heap t.two i.third (d + 1) names t.third))
@@ -40,7 +37,7 @@ extends_three heap d i r names t =
 -- a node at which a walk is, and all that it reaches then
 pub after_node : (heap : Heap) (r : List ℕ) (n d : ℕ) (names : List ℕ) (s : Split heap r n d names) → Extends (r ++ n ∷ []) names
 after_node heap r n d names s =
-    extends_on (r ++ n ∷ []) s.inside names (extends_three heap d (inner_of s.node.fields.contents) (r ++ n ∷ []) s.inside s.lists) (extends_whole heap s.inside s.node.fields.next d names s.after)
+    extends_on (r ++ n ∷ []) s.inside names (extends_three heap d (inner_lists s.node.fields.contents) (r ++ n ∷ []) s.inside s.lists) (extends_whole heap s.inside s.node.fields.next d names s.after)
 
 -- ---- one copy
 next_is : (heap : Heap) (n : ℕ) → next_name heap ≡ Ok n → n ≡ heap.next
@@ -96,7 +93,7 @@ here whole h mid at n depth names lawful is comes e =
       split = s;
       live = p.live;
       there = ap (λ (x : Heap). map.get x.nodes n) is ∙ copies_below whole (λ _ node. copy_of node) mid n (given whole n s.node lawful p.live) ∙ p.live;
-      shallow = p.shallow;
+      shallow = not_deep depth p.shallow;
     }
 
 pub one_made : (whole h h1 : Heap) (mid : List ℕ) (n c : ℕ) (node : Node) → h ≡ bare whole mid → map.get whole.nodes n ≡ Some node → map.get h.nodes n ≡ Some node → copy_one_step n h ≡ Ok (c, h1) → h1 ≡ bare whole (mid ++ n ∷ [])
@@ -106,18 +103,18 @@ one_made whole h h1 mid n c node is live there e =
     ∙ one_copy_more whole (λ _ node. copy_of node) mid n node live
 
 -- what stands when a node has been copied
-pub record Turned (whole h1 : Heap) (mid : List ℕ) (n depth : ℕ) (names : List ℕ) (inner : Inner) (next : Option ℕ) : Type 0 where
+pub record Turned (whole h1 : Heap) (mid : List ℕ) (n depth : ℕ) (names : List ℕ) (inner : InnerLists) (next : Option ℕ) : Type 0 where
   pub inside : List ℕ
   pub made : h1 ≡ bare whole (mid ++ n ∷ [])
   pub lists : Three whole depth inner (mid ++ n ∷ []) inside
   pub after : whole_walk whole Plain inside next depth H ≡ Ok names
 
-pub turned : (old h h1 whole : Heap) (head at next : Option ℕ) (n c depth : ℕ) (lists : Inner) (before names : List ℕ) → MakesOn old h head at depth → at ≡ Some n → lists ≡ inner_at h n → next ≡ next_of h n → copy_one_step n h ≡ Ok (c, h1)
+pub turned : (old h h1 whole : Heap) (head at next : Option ℕ) (n c depth : ℕ) (lists : InnerLists) (before names : List ℕ) → MakesOn old h head at depth → at ≡ Some n → lists ≡ inner_at h n → next ≡ next_of h n → copy_one_step n h ≡ Ok (c, h1)
     → IsLawful whole → old ≡ bare whole before → whole_walk whole Plain before head depth H ≡ Ok names → (mid : List ℕ) × Turned whole h1 mid n depth names lists next
 turned old h h1 whole head at next n c depth lists before names makes comes lists_is next_is e lawful is walks =
     let f = makes whole before names lawful is walks in
     let x = here whole h f.0 at n depth names lawful f.1 comes f.2 in
-    let l : inner_of x.split.node.fields.contents ≡ lists = sym (lists_is ∙ ap inner_of_found x.there) in
+    let l : inner_lists x.split.node.fields.contents ≡ lists = sym (lists_is ∙ ap inner_of_found x.there) in
     let follows : x.split.node.fields.next ≡ next = sym (next_is ∙ ap (option_and_then (λ (node : Node). node.fields.next)) x.there) in (
       f.0,
       record {
@@ -128,7 +125,7 @@ turned old h h1 whole head at next n c depth lists before names makes comes list
       },
     )
 
-pub make_turn : (old h h1 h2 h3 h4 : Heap) (head at next : Option ℕ) (n c depth : ℕ) (lists : Inner) (u v w : Unit {0}) → MakesOn old h head at depth → at ≡ Some n → lists ≡ inner_at h n → next ≡ next_of h n → copy_one_step n h ≡ Ok (c, h1)
+pub make_turn : (old h h1 h2 h3 h4 : Heap) (head at next : Option ℕ) (n c depth : ℕ) (lists : InnerLists) (u v w : Unit {0}) → MakesOn old h head at depth → at ≡ Some n → lists ≡ inner_at h n → next ≡ next_of h n → copy_one_step n h ≡ Ok (c, h1)
     → Makes h1 h2 lists.first (depth + 1) (Ok u) → Makes h2 h3 lists.second (depth + 1) (Ok v) → Makes h3 h4 lists.third (depth + 1) (Ok w) → MakesOn old h4 head next depth
 make_turn old h h1 h2 h3 h4 head at next n c depth lists u v w makes comes lists_is next_is e f1 f2 f3 whole before names lawful is walks =
     let p = turned old h h1 whole head at next n c depth lists before names makes comes lists_is next_is e lawful is walks in
@@ -167,7 +164,7 @@ make_deep old h new head at n depth e makes comes deep whole before names lawful
     absurd (omega arith)
 
 -- what is reached after the inner lists begun
-pub make_first : (old h h1 h2 : Heap) (head at next : Option ℕ) (n c depth : ℕ) (lists : Inner) (e : Fail Trouble) → MakesOn old h head at depth → at ≡ Some n → lists ≡ inner_at h n → next ≡ next_of h n → copy_one_step n h ≡ Ok (c, h1)
+pub make_first : (old h h1 h2 : Heap) (head at next : Option ℕ) (n c depth : ℕ) (lists : InnerLists) (e : Fail Trouble) → MakesOn old h head at depth → at ≡ Some n → lists ≡ inner_at h n → next ≡ next_of h n → copy_one_step n h ≡ Ok (c, h1)
     → Makes h1 h2 lists.first (depth + 1) (Err e) → Makes old h2 head depth (Err e)
 make_first old h h1 h2 head at next n c depth lists e makes comes lists_is next_is step f1 whole before names lawful is walks =
     let p = turned old h h1 whole head at next n c depth lists before names makes comes lists_is next_is step lawful is walks in
@@ -177,7 +174,7 @@ make_first old h h1 h2 head at next n c depth lists e makes comes lists_is next_
     let x5 = extends_whole whole t.inside next depth names t.after in
     made_later whole h2 t.lists.one names e (extends_on t.lists.one t.lists.two names x3 (extends_on t.lists.two t.inside names x4 x5)) (f1 whole (p.0 ++ n ∷ []) t.lists.one lawful t.made t.lists.first)
 
-pub make_second : (old h h1 h2 h3 : Heap) (head at next : Option ℕ) (n c depth : ℕ) (lists : Inner) (u : Unit {0}) (e : Fail Trouble) → MakesOn old h head at depth → at ≡ Some n → lists ≡ inner_at h n → next ≡ next_of h n → copy_one_step n h ≡ Ok (c, h1)
+pub make_second : (old h h1 h2 h3 : Heap) (head at next : Option ℕ) (n c depth : ℕ) (lists : InnerLists) (u : Unit {0}) (e : Fail Trouble) → MakesOn old h head at depth → at ≡ Some n → lists ≡ inner_at h n → next ≡ next_of h n → copy_one_step n h ≡ Ok (c, h1)
     → Makes h1 h2 lists.first (depth + 1) (Ok u) → Makes h2 h3 lists.second (depth + 1) (Err e) → Makes old h3 head depth (Err e)
 make_second old h h1 h2 h3 head at next n c depth lists u e makes comes lists_is next_is step f1 f2 whole before names lawful is walks =
     let p = turned old h h1 whole head at next n c depth lists before names makes comes lists_is next_is step lawful is walks in
@@ -187,7 +184,7 @@ make_second old h h1 h2 h3 head at next n c depth lists u e makes comes lists_is
     let x5 = extends_whole whole t.inside next depth names t.after in
     made_later whole h3 t.lists.two names e (extends_on t.lists.two t.inside names x4 x5) (f2 whole t.lists.one t.lists.two lawful e1 t.lists.second)
 
-pub make_third : (old h h1 h2 h3 h4 : Heap) (head at next : Option ℕ) (n c depth : ℕ) (lists : Inner) (u v : Unit {0}) (e : Fail Trouble) → MakesOn old h head at depth → at ≡ Some n → lists ≡ inner_at h n → next ≡ next_of h n → copy_one_step n h ≡ Ok (c, h1)
+pub make_third : (old h h1 h2 h3 h4 : Heap) (head at next : Option ℕ) (n c depth : ℕ) (lists : InnerLists) (u v : Unit {0}) (e : Fail Trouble) → MakesOn old h head at depth → at ≡ Some n → lists ≡ inner_at h n → next ≡ next_of h n → copy_one_step n h ≡ Ok (c, h1)
     → Makes h1 h2 lists.first (depth + 1) (Ok u) → Makes h2 h3 lists.second (depth + 1) (Ok v) → Makes h3 h4 lists.third (depth + 1) (Err e) → Makes old h4 head depth (Err e)
 make_third old h h1 h2 h3 h4 head at next n c depth lists u v e makes comes lists_is next_is step f1 f2 f3 whole before names lawful is walks =
     let p = turned old h h1 whole head at next n c depth lists before names makes comes lists_is next_is step lawful is walks in
@@ -197,27 +194,27 @@ make_third old h h1 h2 h3 h4 head at next n c depth lists u v e makes comes list
     made_later whole h4 t.inside names e (extends_whole whole t.inside next depth names t.after) (f3 whole t.lists.two t.inside lawful e2 t.lists.third)
 
 -- ---- all after a first node
-pub rest_first : (h h1 : Heap) (lists : Inner) (next : Option ℕ) (e : Fail Trouble) → Makes h h1 lists.first 1 (Err e) → MakesRest h h1 lists next (Err e)
+pub rest_first : (h h1 : Heap) (lists : InnerLists) (next : Option ℕ) (e : Fail Trouble) → Makes h h1 lists.first 1 (Err e) → MakesRest h h1 lists next (Err e)
 rest_first h h1 lists next e f1 whole n one two three names lawful is w1 w2 w3 w4 =
     let x2 = extends_whole whole one lists.second 1 two w2 in
     let x3 = extends_whole whole two lists.third 1 three w3 in
     let x4 = extends_whole whole three next 0 names w4 in
     made_later whole h1 one names e (extends_on one two names x2 (extends_on two three names x3 x4)) (f1 whole (n ∷ []) one lawful is w1)
 
-pub rest_second : (h h1 h2 : Heap) (lists : Inner) (next : Option ℕ) (u : Unit {0}) (e : Fail Trouble) → Makes h h1 lists.first 1 (Ok u) → Makes h1 h2 lists.second 1 (Err e) → MakesRest h h2 lists next (Err e)
+pub rest_second : (h h1 h2 : Heap) (lists : InnerLists) (next : Option ℕ) (u : Unit {0}) (e : Fail Trouble) → Makes h h1 lists.first 1 (Ok u) → Makes h1 h2 lists.second 1 (Err e) → MakesRest h h2 lists next (Err e)
 rest_second h h1 h2 lists next u e f1 f2 whole n one two three names lawful is w1 w2 w3 w4 =
     let e1 = f1 whole (n ∷ []) one lawful is w1 in
     let x3 = extends_whole whole two lists.third 1 three w3 in
     let x4 = extends_whole whole three next 0 names w4 in
     made_later whole h2 two names e (extends_on two three names x3 x4) (f2 whole one two lawful e1 w2)
 
-pub rest_third : (h h1 h2 h3 : Heap) (lists : Inner) (next : Option ℕ) (u v : Unit {0}) (e : Fail Trouble) → Makes h h1 lists.first 1 (Ok u) → Makes h1 h2 lists.second 1 (Ok v) → Makes h2 h3 lists.third 1 (Err e) → MakesRest h h3 lists next (Err e)
+pub rest_third : (h h1 h2 h3 : Heap) (lists : InnerLists) (next : Option ℕ) (u v : Unit {0}) (e : Fail Trouble) → Makes h h1 lists.first 1 (Ok u) → Makes h1 h2 lists.second 1 (Ok v) → Makes h2 h3 lists.third 1 (Err e) → MakesRest h h3 lists next (Err e)
 rest_third h h1 h2 h3 lists next u v e f1 f2 f3 whole n one two three names lawful is w1 w2 w3 w4 =
     let e1 = f1 whole (n ∷ []) one lawful is w1 in
     let e2 = f2 whole one two lawful e1 w2 in
     made_later whole h3 three names e (extends_whole whole three next 0 names w4) (f3 whole two three lawful e2 w3)
 
-pub rest_last : (h h1 h2 h3 h4 : Heap) (lists : Inner) (next : Option ℕ) (u v w : Unit {0}) (r : Result (Unit {0}) (Fail Trouble)) → Makes h h1 lists.first 1 (Ok u) → Makes h1 h2 lists.second 1 (Ok v) → Makes h2 h3 lists.third 1 (Ok w)
+pub rest_last : (h h1 h2 h3 h4 : Heap) (lists : InnerLists) (next : Option ℕ) (u v w : Unit {0}) (r : Result (Unit {0}) (Fail Trouble)) → Makes h h1 lists.first 1 (Ok u) → Makes h1 h2 lists.second 1 (Ok v) → Makes h2 h3 lists.third 1 (Ok w)
     → Makes h3 h4 next 0 r → MakesRest h h4 lists next r
 rest_last h h1 h2 h3 h4 lists next u v w r f1 f2 f3 f4 whole n one two three names lawful is w1 w2 w3 w4 =
     f4 whole three names lawful (f3 whole two three lawful (f2 whole one two lawful (f1 whole (n ∷ []) one lawful is w1) w2) w3) w4

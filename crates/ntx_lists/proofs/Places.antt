@@ -7,6 +7,7 @@ use Rattle.std.specs.FinMap as map
 use Rattle.std.specs.FinSet as set
 use Rattle.std.proofs.Math.Seq.{drop-append_seam}
 use Rattle.ntx_num.specs.Answer.{result_map, result_and_then}
+use Rattle.ntx_num.proofs.Answers.{same_Ok}
 use Rattle.ntx_nodes.specs.Heap.{Heap, Names, is_live, AreLive}
 use Rattle.ntx_nodes.specs.Fields.{kind_of}
 use Rattle.ntx_nodes.specs.Steps.{of_found, at, kind_answer, visit_step}
@@ -128,9 +129,6 @@ stopped_at heap head cur v w why surveys others marks =
     (sym (ap (λ x. result_map (λ names. name_before None names cur) (result_and_then (result_map (drop (length others)) x) (λ (names : List ℕ). cond (is_reached names cur) (Ok names) (Err (NotInList cur))))) (surveys others marks)), tt)
 
 -- ---- room for another node
-same_Ok : {A E : Type 0} (a b : A) → ◌≡◌ {A = Result A E} (Ok a) (Ok b) → a ≡ b
-same_Ok a b e = cc
-
 pub live_of : (heap : Heap) (n : ℕ) (k : Kind × ℕ) → Ok k ≡ kind_answer n heap → (node : Node) × (map.get heap.nodes n ≡ Some node)
 live_of heap n k e = let a = at_Ok {A = Kind × ℕ} heap n (λ node. Ok (kind_of node.fields.contents, node.fields.subtype)) k (sym e) in (a.node, a.is)
 

@@ -19,15 +19,13 @@ use Rattle.ntx_nodes.specs.declared.fields.Fields.{Fields}
 use Rattle.ntx_nodes.specs.declared.kind.Kind.{Kind}
 use Rattle.ntx_nodes.specs.declared.node.Node.{Node}
 use Rattle.ntx_nodes.specs.declared.trouble.Trouble.{Trouble}
-use Rattle.ntx_nodes.proofs.Oks.{mapped_Ok, at_Ok}
+use Rattle.ntx_num.proofs.Answers.{same_Ok, mapped_Ok}
+use Rattle.ntx_nodes.proofs.Oks.{at_Ok}
 use Rattle.ntx_lists.specs.Survey.{IsLiveLink}
 use Rattle.ntx_lists.specs.Copies.{with_lists, relinked}
 use Rattle.ntx_lists.specs.Copying.{is_box, is_disc, SetsLink, SetsParts, SetsListsOf, SetsLists, SetsLinks, AreLiveLists}
-use Rattle.ntx_lists.specs.declared.links.Inner.{Inner}
+use Rattle.ntx_nodes.specs.declared.inner.InnerLists.{InnerLists}
 use Rattle.ntx_lists.proofs.CopyMaps.{Map, get_put, get_same}
-
-same_Ok : {A E : Type 0} (a b : A) → ◌≡◌ {A = Result A E} (Ok a) (Ok b) → a ≡ b
-same_Ok a b e = cc
 
 -- ---- one link
 linked_Ok : (heap : Heap) (to : Option ℕ) → IsLiveLink heap to → linkable heap (Link to) ≡ Ok tt
@@ -93,7 +91,7 @@ put_again heap h new n a b e f = f ∙ ap (λ (x : Heap). put x n b) e ∙ ap (�
 disc_node : Node → DiscFields → Node
 disc_node node d = record node { fields = record node.fields { contents = contents.Disc d } }
 
-pub parts_set : (h0 h1 h2 h3 : Heap) (n : ℕ) (lists : Inner) → SetsLink h0 h1 n field.Pre lists.first → SetsLink h1 h2 n field.Post lists.second → SetsLink h2 h3 n field.Replace lists.third → SetsParts h0 h3 n lists
+pub parts_set : (h0 h1 h2 h3 : Heap) (n : ℕ) (lists : InnerLists) → SetsLink h0 h1 n field.Pre lists.first → SetsLink h1 h2 n field.Post lists.second → SetsLink h2 h3 n field.Replace lists.third → SetsParts h0 h3 n lists
 unfolding disc_node
 parts_set h0 h1 h2 h3 n lists s1 s2 s3 node d live is links =
     let d1 : DiscFields = record d { pre = lists.first } in
@@ -110,7 +108,7 @@ parts_set h0 h1 h2 h3 n lists s1 s2 s3 node d live is links =
     put_again h0 h2 h3 n n2 n3 (put_again h0 h1 h2 n n1 n2 e1 e2) e3 ∙ ap (put h0 n) same
 
 -- ---- the lists of a node of any kind
-box_set : (h0 h1 : Heap) (n : ℕ) (lists : Inner) (node : Node) (c : Contents) → SetsLink h0 h1 n field.List lists.first → map.get h0.nodes n ≡ Some node → node.fields.contents ≡ c → is_box (kind_of c) ≡ true → AreLiveLists h0 lists
+box_set : (h0 h1 : Heap) (n : ℕ) (lists : InnerLists) (node : Node) (c : Contents) → SetsLink h0 h1 n field.List lists.first → map.get h0.nodes n ≡ Some node → node.fields.contents ≡ c → is_box (kind_of c) ≡ true → AreLiveLists h0 lists
     → h1 ≡ put h0 n (relinked node lists node.fields.next)
 box_set h0 h1 n lists node (contents.Hlist b) s live is e links =
     let fields : Fields = record node.fields { contents = contents.Hlist (record b { list = lists.first }) } in
@@ -128,7 +126,7 @@ disc_of : (c : Contents) → is_disc (kind_of c) ≡ true → (d : DiscFields) �
 disc_of (contents.Disc d) e = (d, refl)
 disc_of _ e = cc
 
-lists_stay : (c : Contents) (lists : Inner) → is_box (kind_of c) ≡ false → is_disc (kind_of c) ≡ false → with_lists c lists ≡ c
+lists_stay : (c : Contents) (lists : InnerLists) → is_box (kind_of c) ≡ false → is_disc (kind_of c) ≡ false → with_lists c lists ≡ c
 lists_stay (contents.Hlist b) lists h d = cc
 lists_stay (contents.Vlist b) lists h d = cc
 lists_stay (contents.Disc x) lists h d = cc
@@ -138,18 +136,18 @@ lists_stay (contents.Kern x) lists h d = refl
 lists_stay (contents.Penalty x) lists h d = refl
 lists_stay (contents.Glyph x) lists h d = refl
 
-pub lists_of_box : (h0 h1 : Heap) (n : ℕ) (lists : Inner) (k : Kind) → is_box k ≡ true → SetsLink h0 h1 n field.List lists.first → SetsListsOf h0 h1 n k lists
+pub lists_of_box : (h0 h1 : Heap) (n : ℕ) (lists : InnerLists) (k : Kind) → is_box k ≡ true → SetsLink h0 h1 n field.List lists.first → SetsListsOf h0 h1 n k lists
 lists_of_box h0 h1 n lists k is s node live e links = box_set h0 h1 n lists node node.fields.contents s live refl (ap is_box e ∙ is) links
 
-pub lists_of_disc : (h0 h1 : Heap) (n : ℕ) (lists : Inner) (k : Kind) → is_disc k ≡ true → SetsParts h0 h1 n lists → SetsListsOf h0 h1 n k lists
+pub lists_of_disc : (h0 h1 : Heap) (n : ℕ) (lists : InnerLists) (k : Kind) → is_disc k ≡ true → SetsParts h0 h1 n lists → SetsListsOf h0 h1 n k lists
 lists_of_disc h0 h1 n lists k is s node live e links = let d = disc_of node.fields.contents (ap is_disc e ∙ is) in s node d.0 live d.1 links
 
-no_lists_set : (h0 : Heap) (n : ℕ) (lists : Inner) (node : Node) → map.get h0.nodes n ≡ Some node → with_lists node.fields.contents lists ≡ node.fields.contents → h0 ≡ put h0 n (relinked node lists node.fields.next)
+no_lists_set : (h0 : Heap) (n : ℕ) (lists : InnerLists) (node : Node) → map.get h0.nodes n ≡ Some node → with_lists node.fields.contents lists ≡ node.fields.contents → h0 ≡ put h0 n (relinked node lists node.fields.next)
 no_lists_set h0 n lists node live e =
     let same : node ≡ relinked node lists node.fields.next = λ i. record { fields = record { subtype = node.fields.subtype; next = node.fields.next; contents = sym e i }; attributes = node.attributes } in
     (λ i. record h0 { nodes = sym (put_kept h0.nodes n node live) i }) ∙ ap (put h0 n) same
 
-pub lists_of_none : (h0 : Heap) (n : ℕ) (lists : Inner) (k : Kind) → is_box k ≡ false → is_disc k ≡ false → SetsListsOf h0 h0 n k lists
+pub lists_of_none : (h0 : Heap) (n : ℕ) (lists : InnerLists) (k : Kind) → is_box k ≡ false → is_disc k ≡ false → SetsListsOf h0 h0 n k lists
 lists_of_none h0 n lists k a b node live e links = no_lists_set h0 n lists node live (lists_stay node.fields.contents lists (ap is_box e ∙ a) (ap is_disc e ∙ b))
 
 kind_is : (heap : Heap) (n : ℕ) (node : Node) (k : Kind) (subtype : ℕ) → map.get heap.nodes n ≡ Some node → Ok (k, subtype) ≡ kind_answer n heap → kind_of node.fields.contents ≡ k
@@ -157,16 +155,16 @@ kind_is heap n node k subtype live e =
     let gives : Ok (kind_of node.fields.contents, node.fields.subtype) ≡ Ok (k, subtype) = sym (ap (of_found {A = Kind × ℕ} n (λ node. Ok (kind_of node.fields.contents, node.fields.subtype))) live) ∙ sym e in
     ap (λ p. p.0) (same_Ok {E = Trouble} (kind_of node.fields.contents, node.fields.subtype) (k, subtype) gives)
 
-pub lists_of_kind : (h0 h1 : Heap) (n : ℕ) (lists : Inner) (k : Kind) (subtype : ℕ) → Ok (k, subtype) ≡ kind_answer n h0 → SetsListsOf h0 h1 n k lists → SetsLists h0 h1 n lists
+pub lists_of_kind : (h0 h1 : Heap) (n : ℕ) (lists : InnerLists) (k : Kind) (subtype : ℕ) → Ok (k, subtype) ≡ kind_answer n h0 → SetsListsOf h0 h1 n k lists → SetsLists h0 h1 n lists
 lists_of_kind h0 h1 n lists k subtype answer s node live links = s node live (kind_is h0 n node k subtype live answer) links
 
-pub lists_of_dead : (h0 h1 : Heap) (n : ℕ) (lists : Inner) (why : Trouble) → Err why ≡ kind_answer n h0 → SetsLists h0 h1 n lists
+pub lists_of_dead : (h0 h1 : Heap) (n : ℕ) (lists : InnerLists) (why : Trouble) → Err why ≡ kind_answer n h0 → SetsLists h0 h1 n lists
 lists_of_dead h0 h1 n lists why answer node live links =
     let gives : kind_answer n h0 ≡ Ok (kind_of node.fields.contents, node.fields.subtype) = ap (of_found {A = Kind × ℕ} n (λ node. Ok (kind_of node.fields.contents, node.fields.subtype))) live in
     cc
 
 -- ---- all links of a node
-pub links_set : (h0 h1 h2 : Heap) (n : ℕ) (lists : Inner) (next : Option ℕ) → SetsLists h0 h1 n lists → SetsLink h1 h2 n field.Next next → SetsLinks h0 h2 n lists next
+pub links_set : (h0 h1 h2 : Heap) (n : ℕ) (lists : InnerLists) (next : Option ℕ) → SetsLists h0 h1 n lists → SetsLink h1 h2 n field.Next next → SetsLinks h0 h2 n lists next
 links_set h0 h1 h2 n lists next s1 s2 node live links link =
     let n1 : Node = relinked node lists node.fields.next in
     let e1 : h1 ≡ put h0 n n1 = s1 node live links in

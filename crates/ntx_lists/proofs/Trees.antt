@@ -9,23 +9,24 @@ use Rattle.std.specs.FinSet as set
 use Rattle.ntx_num.specs.Answer.{result_map, result_and_then, StepsAtOnce}
 use Rattle.ntx_nodes.specs.Heap.{Heap, Names}
 use Rattle.ntx_nodes.specs.Steps.{of_found, visit_step, free_one_step}
-use Rattle.ntx_nodes.specs.Walk.{is_reached, inner_lists, entered, node_reached, in_turn, enter, walk, turns_of, plain_walk, tree_walk}
+use Rattle.std.proofs.lemmas.Bool.{leb-false}
+use Rattle.ntx_nodes.specs.Walk.{is_reached, is_too_deep, max_depth, inner_lists, entered, node_reached, in_turn, enter, walk, turns_of, plain_walk, tree_walk}
 use Rattle.ntx_nodes.specs.Walker.{Marks, whole_walk, unvisited, WalksOn}
 use Rattle.ntx_nodes.specs.declared.kind.ListKind.{ListKind}
-use Rattle.ntx_nodes.specs.declared.kind.ListKind.TheVariants.{H, V, Part}
+use Rattle.ntx_nodes.specs.declared.kind.ListKind.TheVariants.{H}
 use Rattle.ntx_nodes.specs.declared.kind.Way.TheVariants.{Plain}
 use Rattle.ntx_nodes.specs.declared.fields.Contents.{Contents}
-use Rattle.ntx_nodes.specs.declared.fields.Contents.TheVariants as contents
 use Rattle.ntx_nodes.specs.declared.node.Node.{Node}
 use Rattle.ntx_nodes.specs.declared.trouble.Trouble.{Trouble}
-use Rattle.ntx_nodes.proofs.Oks.{mapped_Ok, went_Ok, at_Ok}
+use Rattle.ntx_num.proofs.Answers.{same_Ok, mapped_Ok, went_Ok}
+use Rattle.ntx_nodes.proofs.Oks.{at_Ok}
 use Rattle.ntx_lists.proofs.Places.{one_mark}
 use Rattle.ntx_nodes.proofs.Walks.{unvisited_less, failing-le, node_reached_Ok}
 use Rattle.ntx_nodes.proofs.Turns.{then_same, passes}
 use Rattle.ntx_nodes.proofs.WalkSteps.{whole, whole_None, whole_Some}
 use Rattle.ntx_lists.specs.Lists.{next_of}
-use Rattle.ntx_lists.specs.Trees.{nodes_without, without, inner_of, inner_of_found, inner_at, Frees, free_tree_step, flush_list_step}
-use Rattle.ntx_lists.specs.declared.links.Inner.{Inner}
+use Rattle.ntx_lists.specs.Trees.{nodes_without, without, inner_of_found, inner_at, Frees, free_tree_step, flush_list_step}
+use Rattle.ntx_nodes.specs.declared.inner.InnerLists.{InnerLists}
 
 -- ---- the kind of a list makes no difference where kinds are not tested
 kind_free : (heap : Heap) (turns : ℕ) (r : List ℕ) (n : Option ℕ) (d : ℕ) (k j : ListKind) → walk heap Plain turns r n d k ≡ walk heap Plain turns r n d j
@@ -35,51 +36,36 @@ kind_free heap (suc turns) r (Some n) d k j =
     then_same {A = Node × List ℕ} (enter heap Plain (λ b to i l. walk heap Plain turns b to i l) r n d k) (enter heap Plain (λ b to i l. walk heap Plain turns b to i l) r n d j)
     (λ entry. walk heap Plain turns entry.1 entry.0.fields.next d k) (λ entry. walk heap Plain turns entry.1 entry.0.fields.next d j) refl (λ entry _. kind_free heap turns entry.1 entry.0.fields.next d k j)
 
+-- a list that does not lie too deep
+pub not_deep : (depth : ℕ) → is_too_deep Plain depth ≡ false → depth ≤ max_depth
+not_deep depth e = let less : depth < suc max_depth = leb-false (suc max_depth) depth e in omega arith
+
 -- ---- the lists of a node one after another
 abbrev pub Lister : Type 0
 Lister = List ℕ → Option ℕ → ListKind → Result (List ℕ) Trouble
 
-abbrev pub three_of : Lister → List ℕ → Inner → Result (List ℕ) Trouble
+abbrev pub three_of : Lister → List ℕ → InnerLists → Result (List ℕ) Trouble
 three_of f r i = result_and_then (f r i.first H) (λ a. result_and_then (f a i.second H) (λ b. f b i.third H))
 
-then_Ok : {A E : Type 0} (r : Result A E) → result_and_then r (λ a. Ok a) ≡ r
-then_Ok (Ok a) = refl
-then_Ok (Err e) = refl
-
-none_of : (f : Lister) → ((r : List ℕ) (k : ListKind) → f r None k ≡ Ok r) → (r : List ℕ) → three_of f r (record { first = None; second = None; third = None }) ≡ Ok r
-none_of f none r =
-    ap (λ x. result_and_then x (λ a. result_and_then (f a None H) (λ b. f b None H))) (none r H)
-    ∙ ap (λ x. result_and_then x (λ b. f b None H)) (none r H) ∙ none r H
-
-one_of : (f : Lister) → ((r : List ℕ) (k : ListKind) → f r None k ≡ Ok r) → (r : List ℕ) (to : Option ℕ) → three_of f r (record { first = to; second = None; third = None }) ≡ in_turn f r ((to, H) ∷ [])
-one_of f none r to = then_same (f r to H) (f r to H) (λ a. result_and_then (f a None H) (λ b. f b None H)) (λ a. Ok a) refl (λ a _. ap (λ x. result_and_then x (λ b. f b None H)) (none a H) ∙ none a H)
-
-pub lists_in_turn : (f : Lister) → ((r : List ℕ) (k : ListKind) → f r None k ≡ Ok r) → ((r : List ℕ) (to : Option ℕ) (k j : ListKind) → f r to k ≡ f r to j) → (c : Contents) (r : List ℕ) → in_turn f r (inner_lists c) ≡ three_of f r (inner_of c)
-lists_in_turn f none free (contents.Hlist b) r = sym (one_of f none r b.list)
-lists_in_turn f none free (contents.Vlist b) r = ap (λ x. result_and_then x (λ a. Ok a)) (free r b.list V H) ∙ sym (one_of f none r b.list)
-lists_in_turn f none free (contents.Disc d) r =
-    then_same (f r d.pre Part) (f r d.pre H) _ _ (free r d.pre Part H) (λ a _. then_same (f a d.post Part) (f a d.post H) _ _ (free a d.post Part H) (λ b _. then_Ok (f b d.replace Part) ∙ free b d.replace Part H))
-lists_in_turn f none free (contents.Rule x) r = sym (none_of f none r)
-lists_in_turn f none free (contents.Glue x) r = sym (none_of f none r)
-lists_in_turn f none free (contents.Kern x) r = sym (none_of f none r)
-lists_in_turn f none free (contents.Penalty x) r = sym (none_of f none r)
-lists_in_turn f none free (contents.Glyph x) r = sym (none_of f none r)
+lists_in_turn : (f : Lister) → ((r : List ℕ) (to : Option ℕ) (k j : ListKind) → f r to k ≡ f r to j) → (l : InnerLists) (r : List ℕ) → in_turn f r l ≡ three_of f r l
+lists_in_turn f free l r =
+    then_same (f r l.first l.kind) (f r l.first H) _ _ (free r l.first l.kind H) (λ a _. then_same (f a l.second l.kind) (f a l.second H) _ _ (free a l.second l.kind H) (λ b _. free b l.third l.kind H))
 
 abbrev pub deeper : Heap → ℕ → Lister
 deeper heap d r to k = whole_walk heap Plain r to (d + 1) k
 
-pub lists_of : (heap : Heap) (d : ℕ) (c : Contents) (r : List ℕ) → in_turn (deeper heap d) r (inner_lists c) ≡ three_of (deeper heap d) r (inner_of c)
-lists_of heap d c r = lists_in_turn (deeper heap d) (λ b k. whole_None heap Plain b (d + 1) k) (λ b to k j. kind_free heap (turns_of heap) b to (d + 1) k j) c r
+pub lists_of : (heap : Heap) (d : ℕ) (c : Contents) (r : List ℕ) → in_turn (deeper heap d) r (inner_lists c) ≡ three_of (deeper heap d) r (inner_lists c)
+lists_of heap d c r = lists_in_turn (deeper heap d) (λ b to k j. kind_free heap (turns_of heap) b to (d + 1) k j) (inner_lists c) r
 
 -- ---- a walk that ends well, node by node
-pub record Three (heap : Heap) (d : ℕ) (i : Inner) (r names : List ℕ) : Type 0 where
+pub record Three (heap : Heap) (d : ℕ) (i : InnerLists) (r names : List ℕ) : Type 0 where
   pub one : List ℕ
   pub two : List ℕ
   pub first : whole_walk heap Plain r i.first (d + 1) H ≡ Ok one
   pub second : whole_walk heap Plain one i.second (d + 1) H ≡ Ok two
   pub third : whole_walk heap Plain two i.third (d + 1) H ≡ Ok names
 
-pub three_ended : (heap : Heap) (d : ℕ) (i : Inner) (r names : List ℕ) → three_of (deeper heap d) r i ≡ Ok names → Three heap d i r names
+pub three_ended : (heap : Heap) (d : ℕ) (i : InnerLists) (r names : List ℕ) → three_of (deeper heap d) r i ≡ Ok names → Three heap d i r names
 three_ended heap d i r names e =
     let f : Lister = deeper heap d in
     let a = went_Ok (λ a. result_and_then (f a i.second H) (λ b. f b i.third H)) (f r i.first H) names e in
@@ -90,7 +76,7 @@ pub record Split (heap : Heap) (r : List ℕ) (n d : ℕ) (names : List ℕ) : T
   pub node : Node
   pub here : node_reached heap Plain r n d H ≡ Ok node
   pub inside : List ℕ
-  pub lists : Three heap d (inner_of node.fields.contents) (r ++ n ∷ []) inside
+  pub lists : Three heap d (inner_lists node.fields.contents) (r ++ n ∷ []) inside
   pub after : whole_walk heap Plain inside node.fields.next d H ≡ Ok names
 
 pub split : (heap : Heap) (r : List ℕ) (n d : ℕ) (names : List ℕ) → whole_walk heap Plain r (Some n) d H ≡ Ok names → Split heap r n d names
@@ -102,7 +88,7 @@ split heap r n d names e =
       node = v.value;
       here = v.is;
       inside = m.value;
-      lists = three_ended heap d (inner_of v.value.fields.contents) (r ++ n ∷ []) m.value (sym (lists_of heap d v.value.fields.contents (r ++ n ∷ [])) ∙ m.is);
+      lists = three_ended heap d (inner_lists v.value.fields.contents) (r ++ n ∷ []) m.value (sym (lists_of heap d v.value.fields.contents (r ++ n ∷ [])) ∙ m.is);
       after = subst (λ (p : Node × List ℕ). whole_walk heap Plain p.1 p.0.fields.next d H ≡ Ok names) (sym m.gives) w.gives;
     }
 
@@ -120,9 +106,6 @@ get_without nodes [] n e = refl
 get_without nodes (m ∷ ms) n e =
     let p = or_false (nat_eq n m) (is_reached ms n) e in
     get_without (map.remove nodes m) ms n p.1 ∙ map.get-remove nat_cmp_total nodes m n ∙ ap (λ b. cond b None (map.get nodes n)) (unsigned_tied n m ∙ p.0)
-
-same_Ok : {A E : Type 0} (a b : A) → ◌≡◌ {A = Result A E} (Ok a) (Ok b) → a ≡ b
-same_Ok a b e = cc
 
 -- ---- freeing on the way
 -- from the head to a list that is left
@@ -174,16 +157,16 @@ there whole h gone n depth node is here =
 pub one_more : (whole h h1 : Heap) (gone : List ℕ) (n : ℕ) → h ≡ without whole gone → record h { nodes = map.remove h.nodes n } ≡ h1 → h1 ≡ without whole (gone ++ n ∷ [])
 one_more whole h h1 gone n is e = sym e ∙ ap (λ (x : Heap). record x { nodes = map.remove x.nodes n }) is ∙ ap (λ nodes. record whole { nodes = nodes }) (sym (without_last whole.nodes gone n))
 
-pub frees_more : (whole h h1 h2 h3 h4 : Heap) (gone inside : List ℕ) (n depth : ℕ) (node : Node) (lists : Inner) (u : Unit {0}) → h ≡ without whole gone → map.get h.nodes n ≡ Some node → Three whole depth (inner_of node.fields.contents) (gone ++ n ∷ []) inside
+pub frees_more : (whole h h1 h2 h3 h4 : Heap) (gone inside : List ℕ) (n depth : ℕ) (node : Node) (lists : InnerLists) (u : Unit {0}) → h ≡ without whole gone → map.get h.nodes n ≡ Some node → Three whole depth (inner_lists node.fields.contents) (gone ++ n ∷ []) inside
     → lists ≡ inner_at h n → free_one_step n h ≡ Ok (u, h1) → Frees h1 h2 lists.first (depth + 1) → Frees h2 h3 lists.second (depth + 1) → Frees h3 h4 lists.third (depth + 1) → h4 ≡ without whole inside
 frees_more whole h h1 h2 h3 h4 gone inside n depth node lists u is live ts lists_is e f1 f2 f3 =
-    let l : inner_of node.fields.contents ≡ lists = sym (lists_is ∙ ap inner_of_found live) in
+    let l : inner_lists node.fields.contents ≡ lists = sym (lists_is ∙ ap inner_of_found live) in
     let s = subst (λ i. Three whole depth i (gone ++ n ∷ []) inside) l ts in
     let e1 = f1 whole (gone ++ n ∷ []) s.one (one_more whole h h1 gone n is (freed_is h h1 n u e).2) s.first in
     let e2 = f2 whole s.one s.two e1 s.second in
     f3 whole s.two inside e2 s.third
 
-pub free_turn : (old h h1 h2 h3 h4 : Heap) (head at next : Option ℕ) (n depth : ℕ) (lists : Inner) (u : Unit {0}) → FreesOn old h head at depth → at ≡ Some n → lists ≡ inner_at h n → next ≡ next_of h n → free_one_step n h ≡ Ok (u, h1)
+pub free_turn : (old h h1 h2 h3 h4 : Heap) (head at next : Option ℕ) (n depth : ℕ) (lists : InnerLists) (u : Unit {0}) → FreesOn old h head at depth → at ≡ Some n → lists ≡ inner_at h n → next ≡ next_of h n → free_one_step n h ≡ Ok (u, h1)
     → Frees h1 h2 lists.first (depth + 1) → Frees h2 h3 lists.second (depth + 1) → Frees h3 h4 lists.third (depth + 1) → FreesOn old h4 head next depth
 free_turn old h h1 h2 h3 h4 head at next n depth lists u frees here lists_is next_is e f1 f2 f3 whole gone names is walks =
     let f = frees whole gone names is walks in
@@ -211,10 +194,10 @@ second_of : (node : Node) (r : Result (List ℕ) Trouble) → result_map (λ (en
 second_of node (Ok names) = refl
 second_of node (Err why) = refl
 
-pub tree_is : (heap : Heap) (n : ℕ) (node : Node) → map.get heap.nodes n ≡ Some node → tree_walk heap n ≡ three_of (deeper heap 0) (n ∷ []) (inner_of node.fields.contents)
+pub tree_is : (heap : Heap) (n : ℕ) (node : Node) → map.get heap.nodes n ≡ Some node → tree_walk heap n ≡ three_of (deeper heap 0) (n ∷ []) (inner_lists node.fields.contents)
 tree_is heap n node live =
     let f : Lister = deeper heap 0 in
-    ap (λ x. result_map (λ (entry : Node × List ℕ). entry.1) (result_and_then x (λ (node : Node). result_map {B = Node × List ℕ} (λ names. (node, names)) (in_turn f (n ∷ []) (entered Plain node.fields.contents))))) (node_reached_Ok heap Plain [] n 0 H node live refl (omega arith) refl)
+    ap (λ x. result_map (λ (entry : Node × List ℕ). entry.1) (result_and_then x (λ (node : Node). result_map {B = Node × List ℕ} (λ names. (node, names)) (in_turn f (n ∷ []) (entered Plain node.fields.contents))))) (node_reached_Ok heap Plain [] n 0 H node live refl refl refl)
     ∙ second_of node (in_turn f (n ∷ []) (inner_lists node.fields.contents))
     ∙ lists_of heap 0 node.fields.contents (n ∷ [])
 
@@ -223,24 +206,24 @@ last_of_three heap v w before to (Ok u) marks walks = sym (ap (result_map {B = U
 last_of_three heap v w before to (Err why) marks walks = sym (ap (result_map {B = Unit {0}} (λ _. tt)) (walks before marks))
 
 -- what stands when a walk has come to the node and looks at its lists
-pub record Rooted (heap : Heap) (n : ℕ) (v : Names) (lists : Inner) : Type 0 where
+pub record Rooted (heap : Heap) (n : ℕ) (v : Names) (lists : InnerLists) : Type 0 where
   pub marks : Marks v (n ∷ [])
   pub is : tree_walk heap n ≡ three_of (deeper heap 0) (n ∷ []) lists
 
-pub rooted : (heap h1 h2 : Heap) (n : ℕ) (v w : Names) (first : Bool) (lists : Inner) → h1 ≡ heap → h2 ≡ h1 → v ≡ set.empty → visit_step n h1 v ≡ Ok (first, w) → lists ≡ inner_at h2 n → Rooted heap n w lists
+pub rooted : (heap h1 h2 : Heap) (n : ℕ) (v w : Names) (first : Bool) (lists : InnerLists) → h1 ≡ heap → h2 ≡ h1 → v ≡ set.empty → visit_step n h1 v ≡ Ok (first, w) → lists ≡ inner_at h2 n → Rooted heap n w lists
 rooted heap h1 h2 n v w first lists e1 e2 e visits lists_is =
     let a = at_Ok {A = Bool × Names} h1 n (λ _. Ok (not (set.contains v n), set.insert v n)) (first, w) visits in
     let live : map.get heap.nodes n ≡ Some a.node = subst (λ (h : Heap). map.get h.nodes n ≡ Some a.node) e1 a.is in
-    let l : inner_of a.node.fields.contents ≡ lists = sym (lists_is ∙ ap (λ h. inner_at h n) (e2 ∙ e1) ∙ ap inner_of_found live) in
+    let l : inner_lists a.node.fields.contents ≡ lists = sym (lists_is ∙ ap (λ h. inner_at h n) (e2 ∙ e1) ∙ ap inner_of_found live) in
     record { marks = one_mark h1 n v w first e visits; is = tree_is heap n a.node live ∙ ap (three_of (deeper heap 0) (n ∷ [])) l }
 
-pub tree_first : (heap h : Heap) (n : ℕ) (v w : Names) (lists : Inner) (why : Trouble) → Rooted heap n v lists → h ≡ heap → WalksOn h Plain lists.first 1 H v w (Err why) → Err why ≡ result_map {B = Unit {0}} (λ _. tt) (tree_walk heap n)
+pub tree_first : (heap h : Heap) (n : ℕ) (v w : Names) (lists : InnerLists) (why : Trouble) → Rooted heap n v lists → h ≡ heap → WalksOn h Plain lists.first 1 H v w (Err why) → Err why ≡ result_map {B = Unit {0}} (λ _. tt) (tree_walk heap n)
 tree_first heap h n v w lists why r same walks =
     let f : Lister = deeper heap 0 in
     let e = subst (λ x. WalksOn x Plain lists.first 1 H v w (Err why)) same walks (n ∷ []) r.marks in
     sym (ap (result_map {B = Unit {0}} (λ _. tt)) (r.is ∙ ap (λ x. result_and_then x (λ a. result_and_then (f a lists.second H) (λ b. f b lists.third H))) e))
 
-pub tree_second : (heap h k : Heap) (n : ℕ) (v w x : Names) (lists : Inner) (u : Unit {0}) (why : Trouble) → Rooted heap n v lists → h ≡ heap → WalksOn h Plain lists.first 1 H v w (Ok u) → k ≡ heap → WalksOn k Plain lists.second 1 H w x (Err why)
+pub tree_second : (heap h k : Heap) (n : ℕ) (v w x : Names) (lists : InnerLists) (u : Unit {0}) (why : Trouble) → Rooted heap n v lists → h ≡ heap → WalksOn h Plain lists.first 1 H v w (Ok u) → k ≡ heap → WalksOn k Plain lists.second 1 H w x (Err why)
     → Err why ≡ result_map {B = Unit {0}} (λ _. tt) (tree_walk heap n)
 tree_second heap h k n v w x lists u why r same walks same2 walks2 =
     let f : Lister = deeper heap 0 in
@@ -248,7 +231,7 @@ tree_second heap h k n v w x lists u why r same walks same2 walks2 =
     let e2 = subst (λ y. WalksOn y Plain lists.second 1 H w x (Err why)) same2 walks2 e.0 e.2 in
     sym (ap (result_map {B = Unit {0}} (λ _. tt)) (r.is ∙ ap (λ x. result_and_then x (λ a. result_and_then (f a lists.second H) (λ b. f b lists.third H))) e.1 ∙ ap (λ x. result_and_then x (λ b. f b lists.third H)) e2))
 
-pub tree_third : (heap h k l : Heap) (n : ℕ) (v w x y : Names) (lists : Inner) (u t : Unit {0}) (r : Result (Unit {0}) Trouble) → Rooted heap n v lists → h ≡ heap → WalksOn h Plain lists.first 1 H v w (Ok u) → k ≡ heap → WalksOn k Plain lists.second 1 H w x (Ok t)
+pub tree_third : (heap h k l : Heap) (n : ℕ) (v w x y : Names) (lists : InnerLists) (u t : Unit {0}) (r : Result (Unit {0}) Trouble) → Rooted heap n v lists → h ≡ heap → WalksOn h Plain lists.first 1 H v w (Ok u) → k ≡ heap → WalksOn k Plain lists.second 1 H w x (Ok t)
     → l ≡ heap → WalksOn l Plain lists.third 1 H x y r → r ≡ result_map {B = Unit {0}} (λ _. tt) (tree_walk heap n)
 tree_third heap h k l n v w x y lists u t r at same walks same2 walks2 same3 walks3 =
     let f : Lister = deeper heap 0 in
@@ -289,12 +272,12 @@ tree_not_freed heap h1 n u why e same refused =
     let l = tree_live heap n w.0 w.1 in
     never heap n l.0 why l.1 (subst (λ h. free_one_step n h ≡ Err why) same refused)
 
-pub free_tree_done : (heap h1 h2 h3 h4 h5 : Heap) (n : ℕ) (lists : Inner) (u t : Unit {0}) → Ok u ≡ result_map {B = Unit {0}} (λ _. tt) (tree_walk heap n) → h1 ≡ heap → lists ≡ inner_at h1 n → free_one_step n h1 ≡ Ok (t, h2)
+pub free_tree_done : (heap h1 h2 h3 h4 h5 : Heap) (n : ℕ) (lists : InnerLists) (u t : Unit {0}) → Ok u ≡ result_map {B = Unit {0}} (λ _. tt) (tree_walk heap n) → h1 ≡ heap → lists ≡ inner_at h1 n → free_one_step n h1 ≡ Ok (t, h2)
     → Frees h2 h3 lists.first 1 → Frees h3 h4 lists.second 1 → Frees h4 h5 lists.third 1 → free_tree_step n heap ≡ Ok (tt, h5)
 free_tree_done heap h1 h2 h3 h4 h5 n lists u t e same lists_is freed f1 f2 f3 =
     let w = walked (tree_walk heap n) u e in
     let l = tree_live heap n w.0 w.1 in
-    let ts = three_ended heap 0 (inner_of l.0.fields.contents) (n ∷ []) w.0 (sym (tree_is heap n l.0 l.1) ∙ w.1) in
+    let ts = three_ended heap 0 (inner_lists l.0.fields.contents) (n ∷ []) w.0 (sym (tree_is heap n l.0 l.1) ∙ w.1) in
     let live : map.get h1.nodes n ≡ Some l.0 = ap (λ (h : Heap). map.get h.nodes n) same ∙ l.1 in
     let left = frees_more heap h1 h2 h3 h4 h5 [] w.0 n 0 l.0 lists t same live ts lists_is freed f1 f2 f3 in
     ap (result_map {B = Unit {0} × Heap} (λ names. (tt, without heap names))) w.1 ∙ (λ i. Ok (tt, sym left i))

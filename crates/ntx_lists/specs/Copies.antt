@@ -12,15 +12,15 @@ use Rattle.std.specs.Ordering.{nat_cmp}
 use Rattle.std.specs.FinMap as map
 use Rattle.ntx_num.specs.declared.answer.Fail.{Fail}
 use Rattle.ntx_num.specs.declared.answer.Fail.TheVariants.{NoMemory, Is}
-use Rattle.ntx_nodes.specs.Heap.{Heap, name_limit, max_nodes}
-use Rattle.ntx_nodes.specs.Walk.{plain_walk, tree_walk}
+use Rattle.ntx_num.specs.Dimension.{max_nodes}
+use Rattle.ntx_nodes.specs.Heap.{Heap, name_limit}
+use Rattle.ntx_nodes.specs.Walk.{plain_walk, tree_walk, inner_lists}
 use Rattle.ntx_nodes.specs.declared.fields.Contents.{Contents}
 use Rattle.ntx_nodes.specs.declared.fields.Contents.TheVariants as contents
 use Rattle.ntx_nodes.specs.declared.node.Node.{Node}
 use Rattle.ntx_nodes.specs.declared.trouble.Trouble.{Trouble}
 use Rattle.ntx_nodes.specs.declared.trouble.Trouble.TheVariants.{NodesFull, NamesOut}
-use Rattle.ntx_lists.specs.Trees.{inner_of}
-use Rattle.ntx_lists.specs.declared.links.Inner.{Inner}
+use Rattle.ntx_nodes.specs.declared.inner.InnerLists.{InnerLists}
 
 -- ---- names and links
 -- Copies of these names take one name after another, from first on: the name of the copy of n, if n is among them.
@@ -33,24 +33,24 @@ abbrev pub copied_link : ℕ → List ℕ → Option ℕ → Option ℕ
 copied_link first names to = option_and_then (copy_name first names) to
 
 -- the same contents with these inner lists
-abbrev pub with_lists : Contents → Inner → Contents
+abbrev pub with_lists : Contents → InnerLists → Contents
 with_lists (contents.Hlist b) lists = contents.Hlist (record b { list = lists.first })
 with_lists (contents.Vlist b) lists = contents.Vlist (record b { list = lists.first })
 with_lists (contents.Disc d) lists = contents.Disc (record { pre = lists.first; post = lists.second; replace = lists.third })
 with_lists c lists = c
 
 -- a node of the same kind, subtype, numbers and attributes, with these inner lists, and followed by this
-abbrev pub relinked : Node → Inner → Option ℕ → Node
+abbrev pub relinked : Node → InnerLists → Option ℕ → Node
 relinked node lists next = record { fields = record { subtype = node.fields.subtype; next = next; contents = with_lists node.fields.contents lists }; attributes = node.attributes }
 
 -- ---- one copy
 -- the copies of inner lists
-abbrev pub copied_lists : ℕ → List ℕ → Inner → Inner
-copied_lists first names lists = record { first = copied_link first names lists.first; second = copied_link first names lists.second; third = copied_link first names lists.third }
+abbrev pub copied_lists : ℕ → List ℕ → InnerLists → InnerLists
+copied_lists first names lists = record { first = copied_link first names lists.first; second = copied_link first names lists.second; third = copied_link first names lists.third; kind = lists.kind }
 
 -- The copy of a node has the copies of its inner lists, and is followed by the copy of this.
 abbrev pub copy_before : ℕ → List ℕ → Option ℕ → Node → Node
-copy_before first names next node = relinked node (copied_lists first names (inner_of node.fields.contents)) (copied_link first names next)
+copy_before first names next node = relinked node (copied_lists first names (inner_lists node.fields.contents)) (copied_link first names next)
 
 -- of a list: the copy of what follows a node follows its copy
 abbrev pub list_copy : ℕ → List ℕ → ℕ → Node → Node

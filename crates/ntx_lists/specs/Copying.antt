@@ -13,7 +13,7 @@ use Rattle.ntx_num.specs.declared.answer.Fail.TheVariants.{NoMemory, Is}
 use Rattle.ntx_nodes.specs.Heap.{Heap, IsLawful, is_live}
 use Rattle.ntx_nodes.specs.Fields.{kind_of, with_field}
 use Rattle.ntx_nodes.specs.Steps.{put, put_fields, copy_of, next_name}
-use Rattle.ntx_nodes.specs.Walk.{is_reached}
+use Rattle.ntx_nodes.specs.Walk.{is_reached, inner_lists}
 use Rattle.ntx_nodes.specs.Walker.{whole_walk}
 use Rattle.ntx_nodes.specs.declared.kind.Kind.{Kind}
 use Rattle.ntx_nodes.specs.declared.kind.Kind.TheVariants as kind
@@ -28,8 +28,7 @@ use Rattle.ntx_nodes.specs.declared.node.Node.{Node}
 use Rattle.ntx_nodes.specs.declared.trouble.Trouble.{Trouble}
 use Rattle.ntx_lists.specs.Survey.{IsLiveLink}
 use Rattle.ntx_lists.specs.Copies.{relinked, copy_before, list_copy, with_copies, moved_on, room, why_no_more}
-use Rattle.ntx_lists.specs.Trees.{inner_of}
-use Rattle.ntx_lists.specs.declared.links.Inner.{Inner}
+use Rattle.ntx_nodes.specs.declared.inner.InnerLists.{InnerLists}
 
 abbrev pub bare : Heap → List ℕ → Heap
 bare heap names = with_copies heap (λ _ node. copy_of node) names
@@ -59,7 +58,7 @@ Makes old new head depth result =
     (whole : Heap) (before names : List ℕ) → IsLawful whole → old ≡ bare whole before → whole_walk whole Plain before head depth H ≡ Ok names → Made whole names new result
 
 -- What remains after a node: its inner lists, and what is to follow it.
-abbrev pub MakesRest : Heap → Heap → Inner → Option ℕ → Result (Unit {0}) (Fail Trouble) → Type 0
+abbrev pub MakesRest : Heap → Heap → InnerLists → Option ℕ → Result (Unit {0}) (Fail Trouble) → Type 0
 MakesRest old new lists next result =
     (whole : Heap) (n : ℕ) (one two three names : List ℕ) → IsLawful whole → old ≡ bare whole (n ∷ [])
     → whole_walk whole Plain (n ∷ []) lists.first 1 H ≡ Ok one → whole_walk whole Plain one lists.second 1 H ≡ Ok two → whole_walk whole Plain two lists.third 1 H ≡ Ok three → whole_walk whole Plain three next 0 H ≡ Ok names
@@ -89,11 +88,11 @@ abbrev pub SetsLink : Heap → Heap → ℕ → Field → Option ℕ → Type 0
 SetsLink old new n f to = (node : Node) (fields : Fields) → map.get old.nodes n ≡ Some node → with_field node.fields f (Link to) ≡ Ok fields → IsLiveLink old to → new ≡ put_fields old n node fields
 
 -- links to live nodes, or to nothing
-abbrev pub AreLiveLists : Heap → Inner → Type 0
+abbrev pub AreLiveLists : Heap → InnerLists → Type 0
 AreLiveLists heap lists = IsLiveLink heap lists.first × IsLiveLink heap lists.second × IsLiveLink heap lists.third
 
 -- The lists of a discretionary
-abbrev pub SetsParts : Heap → Heap → ℕ → Inner → Type 0
+abbrev pub SetsParts : Heap → Heap → ℕ → InnerLists → Type 0
 SetsParts old new n lists = (node : Node) (d : DiscFields) → map.get old.nodes n ≡ Some node → node.fields.contents ≡ contents.Disc d → AreLiveLists old lists → new ≡ put old n (relinked node lists node.fields.next)
 
 -- whether a node of this kind holds one list, or three
@@ -107,15 +106,15 @@ is_disc kind.Disc = true
 is_disc _ = false
 
 -- or of a live node of this kind,
-abbrev pub SetsListsOf : Heap → Heap → ℕ → Kind → Inner → Type 0
+abbrev pub SetsListsOf : Heap → Heap → ℕ → Kind → InnerLists → Type 0
 SetsListsOf old new n k lists = (node : Node) → map.get old.nodes n ≡ Some node → kind_of node.fields.contents ≡ k → AreLiveLists old lists → new ≡ put old n (relinked node lists node.fields.next)
 
 -- or of any live node are set,
-abbrev pub SetsLists : Heap → Heap → ℕ → Inner → Type 0
+abbrev pub SetsLists : Heap → Heap → ℕ → InnerLists → Type 0
 SetsLists old new n lists = (node : Node) → map.get old.nodes n ≡ Some node → AreLiveLists old lists → new ≡ put old n (relinked node lists node.fields.next)
 
 -- and what follows it too.
-abbrev pub SetsLinks : Heap → Heap → ℕ → Inner → Option ℕ → Type 0
+abbrev pub SetsLinks : Heap → Heap → ℕ → InnerLists → Option ℕ → Type 0
 SetsLinks old new n lists next = (node : Node) → map.get old.nodes n ≡ Some node → AreLiveLists old lists → IsLiveLink old next → new ≡ put old n (relinked node lists next)
 
 -- A heap with copies of all these names of a whole one, which have no links yet from the first on: the next to be linked is the copy of what a
@@ -146,9 +145,9 @@ Links old new head depth first result =
     → (result ≡ whole.next + length names) × Linked (with_copies whole copy all) old new first result
 
 -- The copy of a node after which all that this reaches has been copied: its inner lists, and what is to follow it.
-abbrev pub LinksRest : Heap → Heap → Inner → Option ℕ → ℕ → Type 0
+abbrev pub LinksRest : Heap → Heap → InnerLists → Option ℕ → ℕ → Type 0
 LinksRest old new lists next first =
-    (whole : Heap) (copy : ℕ → Node → Node) (n : ℕ) (node : Node) (one two three all : List ℕ) → IsLawful whole → AllLive whole all → first ≡ whole.next → old ≡ bare whole all → map.get whole.nodes n ≡ Some node → lists ≡ inner_of node.fields.contents
+    (whole : Heap) (copy : ℕ → Node → Node) (n : ℕ) (node : Node) (one two three all : List ℕ) → IsLawful whole → AllLive whole all → first ≡ whole.next → old ≡ bare whole all → map.get whole.nodes n ≡ Some node → lists ≡ inner_lists node.fields.contents
     → copy n node ≡ copy_before whole.next all next node → ((m : ℕ) (other : Node) → is_reached (n ∷ []) m ≡ false → copy m other ≡ list_copy whole.next all m other)
     → whole_walk whole Plain (n ∷ []) lists.first 1 H ≡ Ok one → whole_walk whole Plain one lists.second 1 H ≡ Ok two → whole_walk whole Plain two lists.third 1 H ≡ Ok three → whole_walk whole Plain three next 0 H ≡ Ok all
     → new ≡ with_copies whole copy all
@@ -165,5 +164,5 @@ abbrev pub CopiesNode : Heap → Heap → ℕ → Option ℕ → Result ℕ (Fai
 CopiesNode old new n next result =
     (copy : ℕ → Node → Node) (node : Node) (one two three names : List ℕ) → map.get old.nodes n ≡ Some node
     → copy n node ≡ copy_before old.next names next node → ((m : ℕ) (other : Node) → is_reached (n ∷ []) m ≡ false → copy m other ≡ list_copy old.next names m other)
-    → whole_walk old Plain (n ∷ []) (inner_of node.fields.contents).first 1 H ≡ Ok one → whole_walk old Plain one (inner_of node.fields.contents).second 1 H ≡ Ok two → whole_walk old Plain two (inner_of node.fields.contents).third 1 H ≡ Ok three
+    → whole_walk old Plain (n ∷ []) (inner_lists node.fields.contents).first 1 H ≡ Ok one → whole_walk old Plain one (inner_lists node.fields.contents).second 1 H ≡ Ok two → whole_walk old Plain two (inner_lists node.fields.contents).third 1 H ≡ Ok three
     → whole_walk old Plain three next 0 H ≡ Ok names → LeavesCopies old new copy names result

@@ -4,15 +4,13 @@ use Rattle.std.specs.Ordering.{nat_cmp}
 use Rattle.std.specs.FinMap as map
 use Rattle.ntx_num.specs.Answer.{result_map}
 use Rattle.ntx_nodes.specs.Heap.{Heap}
-use Rattle.ntx_nodes.specs.Walk.{plain_walk, tree_walk}
+use Rattle.ntx_nodes.specs.Walk.{no_lists, inner_lists, plain_walk, tree_walk}
 use Rattle.ntx_nodes.specs.Walker.{whole_walk}
-use Rattle.ntx_nodes.specs.declared.fields.Contents.{Contents}
-use Rattle.ntx_nodes.specs.declared.fields.Contents.TheVariants as contents
 use Rattle.ntx_nodes.specs.declared.kind.ListKind.TheVariants.{H}
 use Rattle.ntx_nodes.specs.declared.kind.Way.TheVariants.{Plain}
 use Rattle.ntx_nodes.specs.declared.node.Node.{Node}
 use Rattle.ntx_nodes.specs.declared.trouble.Trouble.{Trouble}
-use Rattle.ntx_lists.specs.declared.links.Inner.{Inner}
+use Rattle.ntx_nodes.specs.declared.inner.InnerLists.{InnerLists}
 
 -- the nodes but those of these names
 abbrev pub nodes_without : map.FinMap nat_cmp Node → List ℕ → map.FinMap nat_cmp Node
@@ -31,19 +29,13 @@ abbrev pub flush_list_step : Option ℕ → Heap → Result (Unit {0} × Heap) T
 flush_list_step head heap = result_map (λ names. (tt, without heap names)) (plain_walk heap head)
 
 -- ---- how freeing goes
--- the inner lists of a node
-abbrev pub inner_of : Contents → Inner
-inner_of (contents.Hlist b) = record { first = b.list; second = None; third = None }
-inner_of (contents.Vlist b) = record { first = b.list; second = None; third = None }
-inner_of (contents.Disc d) = record { first = d.pre; second = d.post; third = d.replace }
-inner_of _ = record { first = None; second = None; third = None }
-
-abbrev pub inner_of_found : Option Node → Inner
-inner_of_found None = record { first = None; second = None; third = None }
-inner_of_found (Some node) = inner_of node.fields.contents
+-- the inner lists of a node that is found, and none where none is
+abbrev pub inner_of_found : Option Node → InnerLists
+inner_of_found None = no_lists
+inner_of_found (Some node) = inner_lists node.fields.contents
 
 -- the same of the node of this name
-abbrev pub inner_at : Heap → ℕ → Inner
+abbrev pub inner_at : Heap → ℕ → InnerLists
 inner_at heap n = inner_of_found (map.get heap.nodes n)
 
 -- Where the walk of a list ends well in the whole heap, from names that are gone already, all the names that it reaches are gone then.

@@ -5,10 +5,10 @@ ghost use Rattle.ntx_nodes.specs.Walk.{max_depth, plain_walk, tree_walk};
 ghost use Rattle.ntx_lists.specs.Copies.{copy_list_step, copy_tree_step, Copies};
 ghost use Rattle.ntx_lists.specs.Copying.{Makes, MakesRest, FreesRun, SetsLink, SetsParts, SetsListsOf, SetsLists, is_box, is_disc, SetsLinks, link_to, Links, LinksRest, CopiesNode};
 
-use crate::free::MAX_DEPTH;
-use crate::links::{Inner, inner_lists, visit_tree};
-use crate::survey::following;
-use ntx_nodes::{Field, FieldValue, Kind, ListKind, Nodes, Trouble, Way, visit_list};
+use crate::links::{following, inner_lists, visit_tree};
+use ntx_nodes::{
+    Field, FieldValue, InnerLists, Kind, ListKind, MAX_DEPTH, Nodes, Trouble, Way, visit_list,
+};
 use ntx_num::Fail;
 use std::alloc::Global;
 
@@ -56,7 +56,7 @@ fn set_link<N: Nodes>(nodes: &mut N, n: u64, f: Field, to: Option<u64>)
 }
 
 /// Sets the lists of a discretionary.
-fn set_parts<N: Nodes>(nodes: &mut N, n: u64, lists: Inner)
+fn set_parts<N: Nodes>(nodes: &mut N, n: u64, lists: InnerLists)
     ensures sets { SetsParts (N.heap nodes.old) (N.heap nodes.new) n lists }
     ensures names { (N.heap nodes.new).next ≡ (N.heap nodes.old).next }
 {
@@ -80,7 +80,7 @@ fn is_disc(kind: Kind) -> bool
 }
 
 /// Sets the inner lists of a node of this kind, as many as it has.
-fn set_lists_of<N: Nodes>(nodes: &mut N, n: u64, kind: Kind, lists: Inner)
+fn set_lists_of<N: Nodes>(nodes: &mut N, n: u64, kind: Kind, lists: InnerLists)
     ensures sets { SetsListsOf (N.heap nodes.old) (N.heap nodes.new) n kind lists }
     ensures names { (N.heap nodes.new).next ≡ (N.heap nodes.old).next }
 {
@@ -92,7 +92,7 @@ fn set_lists_of<N: Nodes>(nodes: &mut N, n: u64, kind: Kind, lists: Inner)
 }
 
 /// Sets the inner lists of a node, as many as it has.
-fn set_lists<N: Nodes>(nodes: &mut N, n: u64, lists: Inner)
+fn set_lists<N: Nodes>(nodes: &mut N, n: u64, lists: InnerLists)
     ensures sets { SetsLists (N.heap nodes.old) (N.heap nodes.new) n lists }
     ensures names { (N.heap nodes.new).next ≡ (N.heap nodes.old).next }
 {
@@ -102,7 +102,7 @@ fn set_lists<N: Nodes>(nodes: &mut N, n: u64, lists: Inner)
 }
 
 /// Sets the inner lists of a node, and what follows it.
-fn set_links<N: Nodes>(nodes: &mut N, n: u64, lists: Inner, next: Option<u64>)
+fn set_links<N: Nodes>(nodes: &mut N, n: u64, lists: InnerLists, next: Option<u64>)
     ensures sets { SetsLinks (N.heap nodes.old) (N.heap nodes.new) n lists next }
     ensures names { (N.heap nodes.new).next ≡ (N.heap nodes.old).next }
 {
@@ -140,10 +140,11 @@ fn link_list<N: Nodes>(nodes: &mut N, head: Option<u64>, depth: u64, first: u64)
         let second = link_list(nodes, lists.first, depth + 1, copy + 1);
         let third = link_list(nodes, lists.second, depth + 1, second);
         let after = link_list(nodes, lists.third, depth + 1, third);
-        let copies = Inner {
+        let copies = InnerLists {
             first: link_to(lists.first, copy + 1),
             second: link_to(lists.second, second),
             third: link_to(lists.third, third),
+            kind: lists.kind,
         };
         set_links(nodes, copy, copies, link_to(at, after));
         copy = after;
@@ -152,7 +153,11 @@ fn link_list<N: Nodes>(nodes: &mut N, head: Option<u64>, depth: u64, first: u64)
 }
 
 /// Copies what lies in a node and what follows it, with no links yet, after the node itself.
-fn make_rest<N: Nodes>(nodes: &mut N, lists: Inner, next: Option<u64>) -> Result<(), Fail<Trouble>>
+fn make_rest<N: Nodes>(
+    nodes: &mut N,
+    lists: InnerLists,
+    next: Option<u64>,
+) -> Result<(), Fail<Trouble>>
     ensures { MakesRest (N.heap nodes.old) (N.heap nodes.new) lists next result }
 {
     make_list(nodes, lists.first, 1)?;
@@ -162,17 +167,18 @@ fn make_rest<N: Nodes>(nodes: &mut N, lists: Inner, next: Option<u64>) -> Result
 }
 
 /// Links the copies that `make_rest` made after `first`, and that one.
-fn link_rest<N: Nodes>(nodes: &mut N, lists: Inner, next: Option<u64>, first: u64)
+fn link_rest<N: Nodes>(nodes: &mut N, lists: InnerLists, next: Option<u64>, first: u64)
     requires { first < 2 ^ 48 }
     ensures links { LinksRest (N.heap nodes.old) (N.heap nodes.new) lists next first }
 {
     let second = link_list(nodes, lists.first, 1, first + 1);
     let third = link_list(nodes, lists.second, 1, second);
     let after = link_list(nodes, lists.third, 1, third);
-    let copies = Inner {
+    let copies = InnerLists {
         first: link_to(lists.first, first + 1),
         second: link_to(lists.second, second),
         third: link_to(lists.third, third),
+        kind: lists.kind,
     };
     set_links(nodes, first, copies, link_to(next, after));
     link_list(nodes, next, 0, after);

@@ -6,12 +6,8 @@ ghost use Rattle.ntx_num.specs.Answer.{StepsAtOnce};
 ghost use Rattle.ntx_nodes.specs.Walk.{max_depth};
 ghost use Rattle.ntx_lists.specs.Trees.{Frees, free_tree_step, flush_list_step};
 
-use crate::links::{inner_lists, visit_tree};
-use crate::survey::following;
-use ntx_nodes::{ListKind, Nodes, Trouble, Way, visit_list};
-
-/// Lists lie no deeper inside one another.
-pub(crate) const MAX_DEPTH: u64 = 100;
+use crate::links::{following, inner_lists, visit_tree};
+use ntx_nodes::{ListKind, MAX_DEPTH, Nodes, Trouble, Way, visit_list};
 
 /// Frees all that the list at a head reaches, where a walk has come to its end before.
 fn free_list<N: Nodes>(nodes: &mut N, head: Option<u64>, depth: u64)

@@ -6,7 +6,8 @@ ghost use Rattle.ntx_lists.specs.Lists.{tail_answer, length_answer, insert_befor
 ghost use Rattle.ntx_nodes.specs.Walker.{Marks};
 ghost use Rattle.ntx_lists.specs.Survey.{Finds, FindsIn, FindsRoom, Follows, FollowsAt};
 
-use crate::survey::{following, go_along};
+use crate::links::following;
+use crate::survey::go_along;
 use ntx_nodes::{Field, FieldValue, Nodes, Trouble};
 
 /// The last node of a list.

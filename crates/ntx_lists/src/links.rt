@@ -2,51 +2,29 @@
 
 ghost use Rattle.std.specs.Prelude.{◌≡◌};
 ghost use Rattle.ntx_num.specs.Answer.{result_map};
-ghost use Rattle.ntx_nodes.specs.Steps.{get_answer};
 ghost use Rattle.ntx_nodes.specs.Walk.{tree_walk};
-ghost use Rattle.ntx_nodes.specs.Walker.{link_in};
+ghost use Rattle.ntx_lists.specs.Lists.{next_of};
 ghost use Rattle.ntx_lists.specs.Trees.{inner_at};
 
-use ntx_nodes::{Field, FieldValue, Kind, ListKind, Nodes, Trouble, Way, visit_on};
+use ntx_nodes::{InnerLists, ListKind, Nodes, Trouble, Way, visit_on};
 
-/// The inner lists of a node, in the order of a walk.
-#[derive(Clone, Copy, Debug, PartialEq, Eq)]
-pub(crate) struct Inner {
-    pub first: Option<u64>,
-    pub second: Option<u64>,
-    pub third: Option<u64>,
-}
-
-/// The link in a field, where there is one.
-fn link<N: Nodes>(nodes: &N, n: u64, f: Field) -> Option<u64>
-    ensures { result ≡ link_in (get_answer n f (N.heap nodes.now)) }
+/// The inner lists of a node, and none of a dead one.
+pub(crate) fn inner_lists<N: Nodes>(nodes: &N, n: u64) -> InnerLists
+    ensures { result ≡ inner_at (N.heap nodes.now) n }
 {
-    match nodes.get(n, f) {
-        Ok(FieldValue::Link(to)) => to,
-        _ => None,
+    match nodes.fields(n) {
+        Ok(fields) => fields.contents.inner_lists(),
+        Err(_) => InnerLists::none(),
     }
 }
 
-/// The inner lists of a node, and none of a dead one.
-pub(crate) fn inner_lists<N: Nodes>(nodes: &N, n: u64) -> Inner
-    ensures { result ≡ inner_at (N.heap nodes.now) n }
+/// What follows a node, and nothing after a dead one.
+pub(crate) fn following<N: Nodes>(nodes: &N, n: u64) -> Option<u64>
+    ensures { result ≡ next_of (N.heap nodes.now) n }
 {
-    let none = Inner {
-        first: None,
-        second: None,
-        third: None,
-    };
-    match nodes.kind_of(n) {
-        Ok((Kind::Hlist | Kind::Vlist, _)) => Inner {
-            first: link(nodes, n, Field::List),
-            ..none
-        },
-        Ok((Kind::Disc, _)) => Inner {
-            first: link(nodes, n, Field::Pre),
-            second: link(nodes, n, Field::Post),
-            third: link(nodes, n, Field::Replace),
-        },
-        _ => none,
+    match nodes.fields(n) {
+        Ok(fields) => fields.next,
+        Err(_) => None,
     }
 }
 

@@ -1,10 +1,10 @@
 //! One way along a list.
 
 ghost use Rattle.std.specs.Prelude.{◌≡◌, ◌+◌, ◌<◌, ◌^◌};
-ghost use Rattle.ntx_lists.specs.Lists.{next_of};
 ghost use Rattle.ntx_lists.specs.Survey.{survey_with, Surveys};
 
-use ntx_nodes::{Field, FieldValue, Nodes, Trouble};
+use crate::links::following;
+use ntx_nodes::{Nodes, Trouble};
 
 /// What was seen on the way along a list.
 #[derive(Clone, Copy, Debug, PartialEq, Eq)]
@@ -36,16 +36,6 @@ impl Survey {
             },
             found: self.found || here,
         }
-    }
-}
-
-/// What follows a node.
-pub(crate) fn following<N: Nodes>(nodes: &N, n: u64) -> Option<u64>
-    ensures { result ≡ next_of (N.heap nodes.now) n }
-{
-    match nodes.get(n, Field::Next) {
-        Ok(FieldValue::Link(to)) => to,
-        _ => None,
     }
 }
 

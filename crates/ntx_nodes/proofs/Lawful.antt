@@ -189,7 +189,6 @@ later_node next later node h l = record { numbers = l.numbers; links = λ f n e.
 pub no_attributes : AreLawful map.empty
 no_attributes = record { few = rw (map.len-empty int_cmp ℤ) (omega arith); entries = λ id v e. let none = map.get-empty {X = ℤ} int_cmp id in cc }
 
-
 few_after : (b : Bool) (n : ℕ) → n ≤ max_attributes → (not b && nat_le max_attributes n) ≡ false → cond b n (n + 1) ≤ max_attributes
 few_after true n h e = h
 few_after false n h e = let less : n < max_attributes = leb-false max_attributes n e in omega arith

@@ -1,8 +1,9 @@
 //! Worked examples of heaps and walks, and the fields of each kind at the ends of their ranges.
 
 use crate::{
-    Field, FieldValue, Kind, ListKind, Nodes, PlainHeap, Ratio, Trouble, Way, check, names_on,
-    names_reached, turns_are_enough, visit_list, visit_on, walks_are_sound,
+    Contents, Field, FieldValue, Fields, Kind, ListKind, Nodes, PlainHeap, Ratio, Trouble, Way,
+    check, fields_follow_the_table, make_current, make_filled, make_like, names_on, names_reached,
+    steps_keep_heaps_lawful, turns_are_enough, visit_list, visit_on, walks_are_sound,
 };
 use ntx_num::Fail;
 use std::process::Abort;
@@ -222,6 +223,26 @@ fn a_copy_has_the_numbers_and_attributes_and_no_links(rt: HostRuntime) -> Result
     Ok(())
 }
 
+#[test]
+fn made_nodes_have_their_fields_and_attributes(rt: HostRuntime) -> Result<(), test::Fail> {
+    let mut heap = PlainHeap::new(rt.alloc(), 1)?;
+    let fields = Fields {
+        subtype: 1,
+        next: None,
+        contents: Contents::Kern(-7),
+    };
+    heap.set_current(3, 30)?;
+    let bare = make_filled(&mut heap, fields)?;
+    let current = make_current(&mut heap, fields)?;
+    heap.unset_current(3)?;
+    let like = make_like(&mut heap, fields, current)?;
+    for (n, value) in [(bare, None), (current, Some(30)), (like, Some(30))] {
+        assert_eq!(rt; heap.fields(n), Ok(fields));
+        assert_eq!(rt; heap.attr(n, 3), Ok(value));
+    }
+    Ok(())
+}
+
 /// Puts a node into a box, as its list.
 fn boxed(heap: &mut PlainHeap, inside: u64) -> Result<u64, Fail<Trouble>> {
     let outer = heap.make(Kind::Hlist, 0)?;
@@ -267,6 +288,8 @@ fn a_node_that_two_boxes_share_is_a_loop(rt: HostRuntime) -> Result<(), test::Fa
     )?;
     assert_eq!(rt; inner.as_slice(), [2, 1, 3, 2, 1, 3].as_slice());
     walks_are_sound();
+    fields_follow_the_table();
+    steps_keep_heaps_lawful();
     turns_are_enough();
     heap.set(x, Field::List, FieldValue::Link(Some(x)))?;
     let itself = check(rt.alloc(), &mut heap, Some(x), ListKind::H);

@@ -84,12 +84,7 @@ fn fill<N: Nodes>(nodes: &mut N, n: u64, fields: Fields)
     ensures visits { N.visited nodes.new ≡ N.visited nodes.old }
     ensures keeps { (each : Kind) → N.spare_of nodes.old each ≤ N.spare_of nodes.new each }
 {
-    copy_fields(
-        nodes,
-        n,
-        &fields,
-        fields.contents.kind().settable_fields(),
-    );
+    copy_fields(nodes, n, &fields, fields.contents.kind().settable_fields());
     match fields.contents {
         Contents::Hlist(b) => copy_glue(nodes, n, b),
         Contents::Vlist(b) => copy_glue(nodes, n, b),
@@ -141,11 +136,7 @@ pub fn make_current<N: Nodes>(nodes: &mut N, fields: Fields) -> Result<u64, Fail
 ///
 /// With Stale of a dead `from`, and then as `Nodes::make`. After a refusal the heap is as it was. After running out of
 /// memory it is as it was, or has the node with no attributes.
-pub fn make_like<N: Nodes>(
-    nodes: &mut N,
-    fields: Fields,
-    from: u64,
-) -> Result<u64, Fail<Trouble>>
+pub fn make_like<N: Nodes>(nodes: &mut N, fields: Fields, from: u64) -> Result<u64, Fail<Trouble>>
     requires { AreMakable (N.heap nodes.old) fields }
     ensures step { StepsInTwo result (N.heap nodes.old) (N.heap nodes.new) (make_filled_step fields (N.heap nodes.old)) (make_like_step fields from (N.heap nodes.old)) }
     ensures visits { N.visited nodes.new ≡ N.visited nodes.old }

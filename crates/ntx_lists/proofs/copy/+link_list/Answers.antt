@@ -16,8 +16,8 @@ loop-at-preserved g t c =
     let h = g.N.Nodes.heap in
     record {
       links = links_turn (h c.args.nodes.now) (h c.loop-at.nodes) (h c.link_list-second.new.nodes) (h c.link_list-third.new.nodes) (h c.link_list-after.new.nodes) (h c.set_links.new.nodes) c.args.head c.loop-at.at c.following-at.result c.link_to-in-Some-3.result c.in-Some.n c.args.depth c.args.first c.loop-at.copy
-          c.link_list-second.result c.link_list-third.result c.link_list-after.result c.inner_lists-lists.result (record { first = c.link_to.result; second = c.link_to-in-Some.result; third = c.link_to-in-Some-2.result }) c.loop-at.invariant.links c.in-Some.is c.inner_lists-lists.ensures c.following-at.ensures
-          c.link_list-second.ensures.links c.link_list-third.ensures.links c.link_list-after.ensures.links (λ i. record { first = c.link_to.ensures i; second = c.link_to-in-Some.ensures i; third = c.link_to-in-Some-2.ensures i }) c.link_to-in-Some-3.ensures c.set_links.ensures.sets;
+          c.link_list-second.result c.link_list-third.result c.link_list-after.result c.inner_lists-lists.result (record { first = c.link_to.result; second = c.link_to-in-Some.result; third = c.link_to-in-Some-2.result; kind = c.inner_lists-lists.result.kind }) c.loop-at.invariant.links c.in-Some.is c.inner_lists-lists.ensures c.following-at.ensures
+          c.link_list-second.ensures.links c.link_list-third.ensures.links c.link_list-after.ensures.links (λ i. record { first = c.link_to.ensures i; second = c.link_to-in-Some.ensures i; third = c.link_to-in-Some-2.ensures i; kind = c.inner_lists-lists.result.kind }) c.link_to-in-Some-3.ensures c.set_links.ensures.sets;
       further = search rules;
       names = search rules;
     }

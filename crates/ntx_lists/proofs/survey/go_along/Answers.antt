@@ -1,5 +1,5 @@
 use Rattle.std.proofs.Common.{◌+◌, ◌<◌, ◌≤◌, ◌∙◌, refl, sym, subst, arith}
-use Rattle.ntx_nodes.specs.Heap.{max_nodes}
+use Rattle.ntx_num.specs.Dimension.{max_nodes}
 use Rattle.ntx_nodes.specs.Walker.{unvisited}
 use Rattle.ntx_lists.proofs.Along.{Goes, turn, goes_begun, few_left}
 use Rattle.ntx_lists.proofs.survey.go_along.Goals as goal

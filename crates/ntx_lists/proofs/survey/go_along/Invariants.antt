@@ -1,5 +1,5 @@
 use Rattle.std.proofs.Common.{◌≡◌, ◌+◌, ◌≤◌}
-use Rattle.ntx_nodes.specs.Heap.{max_nodes}
+use Rattle.ntx_num.specs.Dimension.{max_nodes}
 use Rattle.ntx_nodes.specs.Walker.{unvisited}
 use Rattle.ntx_lists.proofs.Along.{Goes}
 use Rattle.ntx_lists.proofs.survey.go_along.Given as goal
