@@ -4,6 +4,7 @@ use Rattle.std.specs.Prelude.{Option, Result, not, ◌||◌, nat_eq}
 use Rattle.std.specs.Option.{option_and_then}
 use Rattle.std.specs.FinMap as map
 use Rattle.std.specs.FinSet as set
+use Rattle.std.proofs.lemmas.Bool.{not-false}
 use Rattle.ntx_num.specs.Answer.{result_and_then}
 use Rattle.ntx_num.specs.Dimension.{max_nodes}
 use Rattle.ntx_num.proofs.Answers.{same_Ok}
@@ -82,10 +83,6 @@ not_true : (b : Bool) → not b ≡ true → b ≡ false
 not_true true e = cc
 not_true false e = refl
 
-not_false : (b : Bool) → not b ≡ false → b ≡ true
-not_false true e = refl
-not_false false e = cc
-
 pub goes_on : (heap : Heap) (head cur n : ℕ) (v w x : Names) (seen : Survey) (first : Bool) → Goes heap head cur v (Some n) w seen → visit_step n heap w ≡ Ok (first, x) → first ≡ true
     → Goes heap head cur v (next_of heap n) x (survey_with seen n cur) × (unvisited heap x < unvisited heap w)
 goes_on heap head cur n v w x seen first goes visits is_first =
@@ -124,7 +121,7 @@ pub goes_back : (heap : Heap) (head cur n : ℕ) (v w x : Names) (seen : Survey)
 goes_back heap head cur n v w x seen first goes visits not_first before marks =
     let g = goes before marks in
     let at = at_Ok {A = Bool × Names} heap n (λ _. Ok (not (set.contains w n), set.insert w n)) (first, x) visits in
-    let old : set.contains w n ≡ true = not_false (set.contains w n) (ap (λ p. p.0) (same_Ok _ _ at.gives) ∙ not_first) in
+    let old : set.contains w n ≡ true = not-false (set.contains w n) (ap (λ p. p.0) (same_Ok _ _ at.gives) ∙ not_first) in
     let reached : is_reached (before ++ g.0) n ≡ true = sym (g.2 n) ∙ old in
     let refused : node_reached heap Flat (before ++ g.0) n 0 H ≡ Err (Loop n) = rw (at.is, reached) refl in
     g.1 ∙ whole_refused heap Flat (before ++ g.0) n 0 H (Loop n) refused

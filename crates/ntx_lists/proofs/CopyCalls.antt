@@ -3,6 +3,7 @@ use Rattle.std.proofs.Common.{◌≡◌, ℕ, ◌≤◌, ◌<◌, length, List, 
 use Rattle.std.specs.Prelude.{Option, Result, nat_le, nat_eq, ◌||◌}
 use Rattle.std.specs.Option.{option_and_then, option_map}
 use Rattle.std.proofs.lemmas.Bool.Decides.{nat_tests}
+use Rattle.std.proofs.lemmas.Bool.{le-leb as le_test, lt-leb as lt_test}
 use Rattle.ntx_num.specs.Answer.{result_map}
 use Rattle.ntx_num.specs.declared.answer.Fail.{Fail}
 use Rattle.ntx_num.specs.declared.answer.Fail.TheVariants.{NoMemory, Is}
@@ -21,12 +22,6 @@ use Rattle.ntx_lists.specs.Copies.{copy_before, list_copy, tree_copy, with_copie
 use Rattle.ntx_lists.specs.Copying.{LeavesCopies, CopiesNode}
 use Rattle.ntx_lists.proofs.Trees.{split, walked, three_ended, tree_is, tree_live}
 use Rattle.ntx_lists.proofs.CopyMaps.{Copier, no_copies}
-
-le_test : (a b : ℕ) → a ≤ b → nat_le a b ≡ true
-le_test a b h = grind (arith, nat_tests)
-
-lt_test : (a b : ℕ) → b < a → nat_le a b ≡ false
-lt_test a b h = grind (arith, nat_tests)
 
 -- ---- what is left
 left_ok : {A : Type 0} (heap new : Heap) (copy : List ℕ → Copier) (names : List ℕ) (a b : A) → length names ≤ room heap → a ≡ b → new ≡ with_copies heap (copy names) names → copies_left heap copy a (Ok names) ≡ (Ok b, new)

@@ -3,7 +3,7 @@ use Rattle.std.proofs.Common.{◌≡◌, ℕ, ◌+◌, ◌-◌, ◌≤◌, ◌<�
 use Rattle.std.specs.Prelude.{Option, Result, nat_le, nat_eq, is_some, ◌||◌, ◌⊎◌}
 use Rattle.std.specs.FinMap as map
 use Rattle.std.proofs.Math.Nat.{le-min, min-eq_left, min-eq_right}
-use Rattle.std.proofs.lemmas.Bool.{eqb-true, leb-true, leb-false}
+use Rattle.std.proofs.lemmas.Bool.{le-leb as le_test, lt-leb as lt_test, or_left, eqb-true, leb-true, leb-false}
 use Rattle.std.proofs.lemmas.Bool.Decides.{nat_tests}
 use Rattle.ntx_num.specs.Answer.{Steps}
 use Rattle.ntx_num.specs.declared.answer.Fail.{Fail}
@@ -54,12 +54,6 @@ refused_cases h why false false f o e = cc
 pub refused : (h : Heap) (why : Trouble) → next_name h ≡ Err why → IsRefused h why
 refused h why e = refused_cases h why (nat_le max_nodes (map.len h.nodes)) (nat_le name_limit h.next) refl refl e
 
-le_test : (a b : ℕ) → a ≤ b → nat_le a b ≡ true
-le_test a b h = grind (arith, nat_tests)
-
-lt_test : (a b : ℕ) → b < a → nat_le a b ≡ false
-lt_test a b h = grind (arith, nat_tests)
-
 -- where a making is refused, as many copies were made as there was room for
 pub record Full (whole : Heap) (made : List ℕ) (why : Trouble) : Type 0 where
   pub count : length made ≡ room whole
@@ -100,10 +94,6 @@ alone heap n node live m reached =
       | true ↦ λ e _. subst (λ x. is_live heap x ≡ true) (sym (eqb-true m n e)) (ap is_some live)
       | false ↦ λ _ h. cc
     ] refl reached
-
-or_left : (a b : Bool) → a ≡ true → (a || b) ≡ true
-or_left true b e = refl
-or_left false b e = cc
 
 part_live : (heap : Heap) (names made rest : List ℕ) → names ≡ made ++ rest → AllLive heap names → AllLive heap made
 part_live heap names made rest is live m reached = live m (ap (λ x. is_reached x m) is ∙ is_reached-append made rest m ∙ or_left (is_reached made m) (is_reached rest m) reached)

@@ -4,7 +4,7 @@ use Rattle.std.specs.Prelude.{Option, Result, nat_eq, nat_le, is_some, ◌||◌}
 use Rattle.std.specs.Option.{option_map}
 use Rattle.std.specs.FinMap as map
 use Rattle.std.proofs.Math.Nat.{min-le_left, min-le_right, min-eq_left, min-eq_right}
-use Rattle.std.proofs.lemmas.Bool.{cases_lt, eqb-true}
+use Rattle.std.proofs.lemmas.Bool.{le-leb as le_test, lt-leb as lt_test, or_left, cases_lt, eqb-true}
 use Rattle.std.proofs.lemmas.Bool.Decides.{nat_tests}
 use Rattle.ntx_num.specs.Answer.{result_and_then}
 use Rattle.ntx_num.specs.Dimension.{max_nodes}
@@ -108,10 +108,6 @@ list_copied heap head names lawful e =
 -- each node but the first leads on to those reached
 AreClosed : Heap → ℕ → List ℕ → Type 0
 AreClosed heap root r = (m : ℕ) (node : Node) → is_reached r m ≡ true → is_reached (root ∷ []) m ≡ false → map.get heap.nodes m ≡ Some node → LeadsOn Plain r node
-
-or_left : (a b : Bool) → a ≡ true → (a || b) ≡ true
-or_left true b e = refl
-or_left false b e = cc
 
 leads_later : (a b : List ℕ) (to : Option ℕ) → Extends a b → LeadsTo a to → LeadsTo b to
 leads_later a b to x h m e = ap (λ y. is_reached y m) x.is ∙ is_reached-append a x.more m ∙ or_left (is_reached a m) (is_reached x.more m) (h m e)
@@ -256,12 +252,6 @@ tree_copied heap n names lawful e =
     ∙ ap Ok (copies_all heap heap.next [] names (tree_fresh heap n names r) ∙ ap (λ y. names_from y (length names)) (sym at))
 
 -- ---- where copying stops
-le_test : (a b : ℕ) → a ≤ b → nat_le a b ≡ true
-le_test a b h = grind (arith, nat_tests)
-
-lt_test : (a b : ℕ) → b < a → nat_le a b ≡ false
-lt_test a b h = grind (arith, nat_tests)
-
 next_case : (heap : Heap) (full out : Bool) → nat_le max_nodes (map.len heap.nodes) ≡ full → nat_le name_limit heap.next ≡ out → next_name heap ≡ cond full (Err NodesFull) (cond out (Err NamesOut) (Ok heap.next))
 next_case heap full out f o = λ i. cond (f i) (Err NodesFull) (cond (o i) (Err NamesOut) (Ok heap.next))
 

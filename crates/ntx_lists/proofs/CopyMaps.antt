@@ -5,6 +5,7 @@ use Rattle.std.specs.Ordering.{nat_cmp}
 use Rattle.std.specs.Cmp.{nat_cmp_total, unsigned_tied}
 use Rattle.std.specs.FinMap as map
 use Rattle.std.proofs.lemmas.Bool.Decides.{nat_tests}
+use Rattle.std.proofs.lemmas.Bool.{or_right}
 use Rattle.ntx_nodes.specs.Heap.{Heap, IsLawful, is_live}
 use Rattle.ntx_nodes.specs.Walk.{is_reached}
 use Rattle.ntx_nodes.specs.declared.node.Node.{Node}
@@ -107,10 +108,6 @@ no_copies heap copy = let same : heap.next + 0 ≡ heap.next = omega arith in λ
 found_len : (at : ℕ) (copy : Node → Node) (nodes : Map) (o : Option Node) → map.get nodes at ≡ None → is_some o ≡ true → map.len (with_found at copy nodes o) ≡ map.len nodes + 1
 found_len at copy nodes None new live = cc
 found_len at copy nodes (Some node) new live = map.len-insert nat_cmp_total nodes at (copy node) ∙ ap (λ o. cond (is_some o) (map.len nodes) (map.len nodes + 1)) new
-
-or_right : (a b : Bool) → b ≡ true → (a || b) ≡ true
-or_right true b e = refl
-or_right false b e = e
 
 nodes_len : (old : Map) (copy : Copier) (first : ℕ) (names : List ℕ) (nodes : Map) → ((q : ℕ) → first ≤ q → map.get nodes q ≡ None) → ((n : ℕ) → is_reached names n ≡ true → is_some (map.get old n) ≡ true)
     → map.len (nodes_with old copy first names nodes) ≡ map.len nodes + length names

@@ -2,7 +2,7 @@
 use Rattle.std.proofs.Common.{◌≡◌, ℕ, zero, suc, ◌+◌, ◌≤◌, length, List, [], ◌∷◌, ◌++◌, Bool, true, false, cond, Some, None, Ok, refl, sym, ◌∙◌, ap, subst, append_assoc, arith}
 use Rattle.std.specs.Prelude.{Option, Result, nat_eq, ◌||◌}
 use Rattle.std.specs.FinMap as map
-use Rattle.std.proofs.lemmas.Bool.{eqb-true}
+use Rattle.std.proofs.lemmas.Bool.{or_right, eqb-true}
 use Rattle.ntx_num.specs.Answer.{result_map, result_and_then}
 use Rattle.ntx_nodes.specs.Fields.{kind_of}
 use Rattle.ntx_nodes.specs.Heap.{Heap}
@@ -114,10 +114,6 @@ copy_new first names [] n c e new = refl
 copy_new first names (m ∷ ms) n c e new =
     let p = or_false (nat_eq n m) (is_reached ms n) new in
     not_among (copy_name first names m) (copies_of first names ms) c (λ x. differs n m p.0 (names_apart first names n m c e x)) (copy_new first names ms n c e p.1)
-
-or_right : (a b : Bool) → b ≡ true → (a || b) ≡ true
-or_right true b e = refl
-or_right false b e = e
 
 pub copies_length : (first : ℕ) (names some : List ℕ) → ((q : ℕ) → is_reached some q ≡ true → is_reached names q ≡ true) → length (copies_of first names some) ≡ length some
 copies_length first names [] h = refl

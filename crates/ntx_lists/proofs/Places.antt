@@ -6,6 +6,7 @@ use Rattle.std.specs.Option.{option_and_then, unwrap_or}
 use Rattle.std.specs.FinMap as map
 use Rattle.std.specs.FinSet as set
 use Rattle.std.proofs.Math.Seq.{drop-append_seam}
+use Rattle.std.proofs.lemmas.Bool.{not-false, or_left, or_right}
 use Rattle.ntx_num.specs.Answer.{result_map, result_and_then}
 use Rattle.ntx_num.proofs.Answers.{same_Ok}
 use Rattle.ntx_nodes.specs.Heap.{Heap, Names, is_live, AreLive}
@@ -64,18 +65,6 @@ pub length_stopped : (heap h : Heap) (head cur : ℕ) (v w : Names) (why : Troub
 length_stopped heap h head cur v w why same e surveys = sym (ap (result_map length) (flat_stopped heap h head cur v w why same e surveys))
 
 -- ---- the node before
-or_left : (a b : Bool) → a ≡ true → (a || b) ≡ true
-or_left true b e = refl
-or_left false b e = cc
-
-or_right : (a b : Bool) → b ≡ true → (a || b) ≡ true
-or_right true b e = refl
-or_right false b e = e
-
-not_false : (b : Bool) → not b ≡ false → b ≡ true
-not_false true e = refl
-not_false false e = cc
-
 -- a name before another is one of them, or stood before
 before_is : (P : ℕ → Type 0) (p : Option ℕ) (ns : List ℕ) (cur m : ℕ) → ((q : ℕ) → p ≡ Some q → P q) → ((q : ℕ) → is_reached ns q ≡ true → P q) → name_before p ns cur ≡ Some m → P m
 before_is P p [] cur m first all e = cc
@@ -109,7 +98,7 @@ found_at heap h head cur v w seen same live surveys found others marks =
     let names : List ℕ = s.0 in
     let all_live : (q : ℕ) → is_reached (others ++ names) q ≡ true → is_live heap q ≡ true = λ q e. subst (λ x. is_live x q ≡ true) same (live q (s.2 q ∙ e)) in
     let in_names : (q : ℕ) → is_reached names q ≡ true → is_reached (others ++ names) q ≡ true = λ q e. is_reached-append others names q ∙ or_right (is_reached others q) (is_reached names q) e in
-    let here : is_reached names cur ≡ true = ap (λ (x : Survey). x.found) (sym s.3) ∙ not_false seen.found found in
+    let here : is_reached names cur ≡ true = ap (λ (x : Survey). x.found) (sym s.3) ∙ not-false seen.found found in
     let prior : seen.before ≡ name_before None names cur = ap (λ (x : Survey). x.before) s.3 in (
       ap Ok prior ∙ sym (ap (result_map (λ names. name_before None names cur)) (with_cur heap head cur others names true (listed heap head others names s.1) here)),
       (
