@@ -1,7 +1,7 @@
 use Rattle.std.proofs.Common.{◌≤◌, ◌*◌, rules}
 use Rattle.ntx_tfm.specs.Scaling.{magnitude, divisor_of, reduced}
 use Rattle.ntx_tfm.proofs.ScalingLemmas.{magnitude_below}
-use Rattle.ntx_tfm.proofs.scaling.part.Goals as goal
+use Rattle.ntx_tfm.proofs.scaling.magnitude.Goals as goal
 
 pub returns-clause-below : goal.returns-clause-below
 unfolding magnitude
