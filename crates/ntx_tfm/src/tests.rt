@@ -87,10 +87,10 @@ fn a_font_has_its_sizes_and_programs(rt: HostRuntime) -> Result<(), test::Fail> 
 fn a_font_has_its_parameters_and_definition(rt: HostRuntime) -> Result<(), test::Fail> {
     let bytes = small_font(rt.alloc())?;
     let font = read_font(rt.alloc(), &bytes, "T", Some(65_536))?;
-    let table = [0, 16_384, 8_192, 4_096, 0, 0, 0];
-    for (k, want) in (1u8..8).zip(table) {
-        assert_eq!(rt; font.param(k), want, "parameter {k}");
-    }
+    assert_eq!(rt; [font.param(1), font.param(2)], [0, 16_384]);
+    assert_eq!(rt; [font.param(3), font.param(4)], [8_192, 4_096]);
+    assert_eq!(rt; [font.param(5), font.param(6)], [0, 0]);
+    assert_eq!(rt; font.param(7), 0);
     let def = font.def().try_clone(rt.alloc())?;
     assert_eq!(rt; def.checksum, 0);
     assert_eq!(rt; def.size, 65_536);
