@@ -7,7 +7,7 @@ use Rattle.std.specs.Ordering.{nat_cmp, eq_by_cmp}
 use Rattle.std.specs.Cmp.{nat_cmp_total, unsigned_tied}
 use Rattle.std.proofs.lemmas.Int.{ints, to_z-of_z}
 use Rattle.ntx_num.specs.Answer.{result_map, result_and_then}
-use Rattle.ntx_num.specs.Dimension.{max_dimension}
+use Rattle.ntx_num.specs.Dimension.{IsDimension}
 use Rattle.ntx_nodes.specs.Fields.{dimension, fresh_box}
 use Rattle.ntx_nodes.specs.Heap.{Heap}
 use Rattle.ntx_nodes.specs.Steps.{of_found, put, next_name, making, new_node, make_step, linkable, put_fields, changed, set_step, with_glue_set, with_ratio, set_ratio_step}
@@ -22,16 +22,17 @@ use Rattle.ntx_nodes.specs.declared.node.Node.{Node}
 use Rattle.ntx_nodes.specs.declared.ratio.Ratio.{Ratio}
 use Rattle.ntx_nodes.specs.declared.trouble.Trouble.{Trouble}
 use Rattle.ntx_nodes.specs.declared.trouble.Trouble.TheVariants.{BadValue}
-use Rattle.ntx_nodes.proofs.Oks.{mapped_Ok}
+use Rattle.ntx_num.proofs.Answers.{mapped_Ok}
 use Rattle.ntx_nodes.proofs.Walks.{nat_eq_same}
 use Rattle.ntx_pack.specs.declared.direction.Direction.{Direction}
 use Rattle.ntx_pack.specs.declared.direction.Direction.TheVariants.{Horizontal, Vertical}
 use Rattle.ntx_pack.specs.declared.glue_set.GlueSet.{GlueSet}
 use Rattle.ntx_pack.specs.declared.packed.Packed.{Packed}
-use Rattle.ntx_pack.specs.Vertical.{IsMeasuredSize}
+use Rattle.ntx_tfm.specs.Font.{IsSized}
 use Rattle.ntx_pack.specs.Output.{IsRatio}
 use Rattle.ntx_pack.specs.Made.{IsLiveHead}
-use Rattle.ntx_pack.specs.Pack.{is_dimension, box_contents, box_kind, box_fields}
+use Rattle.ntx_pack.specs.Pack.{box_contents, box_kind, box_fields}
+use Rattle.ntx_num.specs.Dimension.{is_dimension}
 
 -- ---- one node put twice
 pub tied : (n : ℕ) → eq_by_cmp nat_cmp n n ≡ true
@@ -75,10 +76,10 @@ set_at heap n node f v fields e =
     ∙ ap (λ h. Ok (tt, h)) (put_put heap n node (record node { fields = fields }))
 
 -- ---- its numbers
-pub is_dimension_true : (x : ℤ) → unsigned_abs x ≤ max_dimension → is_dimension x ≡ true
+pub is_dimension_true : (x : ℤ) → IsDimension x → is_dimension x ≡ true
 is_dimension_true x h = grind (arith, ints)
 
-takes : (x : ℤ) → unsigned_abs x ≤ max_dimension → dimension (Number x) ≡ Ok x
+takes : (x : ℤ) → IsDimension x → dimension (Number x) ≡ Ok x
 takes x h = ap (λ b. cond b (Ok x) (Err BadValue)) (is_dimension_true x h)
 
 -- what writing a dimension makes of the fields, if the box takes it
@@ -86,25 +87,25 @@ written : (heap : Heap) (direction : Direction) (x : ℤ) (with : ℤ → BoxFie
     → result_and_then (result_map (λ c. record (fields_of direction (with x)) { contents = c }) (result_map (box_contents direction) (result_map with r))) (λ w. result_map (λ _. w) (linkable heap (Number x))) ≡ Ok (fields_of direction (with x))
 written heap direction x with r e = ap (λ r. result_and_then (result_map (λ c. record (fields_of direction (with x)) { contents = c }) (result_map (box_contents direction) (result_map with r))) (λ w. result_map (λ _. w) (linkable heap (Number x)))) e
 
-width_changed : (heap : Heap) (direction : Direction) (b : BoxFields) (x : ℤ) → unsigned_abs x ≤ max_dimension → changed heap (fields_of direction b) field.Width (Number x) ≡ Ok (fields_of direction (record b { width = x }))
+width_changed : (heap : Heap) (direction : Direction) (b : BoxFields) (x : ℤ) → IsDimension x → changed heap (fields_of direction b) field.Width (Number x) ≡ Ok (fields_of direction (record b { width = x }))
 width_changed heap Horizontal b x h = written heap Horizontal x (λ x. record b { width = x }) (dimension (Number x)) (takes x h)
 width_changed heap Vertical b x h = written heap Vertical x (λ x. record b { width = x }) (dimension (Number x)) (takes x h)
 
-height_changed : (heap : Heap) (direction : Direction) (b : BoxFields) (x : ℤ) → unsigned_abs x ≤ max_dimension → changed heap (fields_of direction b) field.Height (Number x) ≡ Ok (fields_of direction (record b { height = x }))
+height_changed : (heap : Heap) (direction : Direction) (b : BoxFields) (x : ℤ) → IsDimension x → changed heap (fields_of direction b) field.Height (Number x) ≡ Ok (fields_of direction (record b { height = x }))
 height_changed heap Horizontal b x h = written heap Horizontal x (λ x. record b { height = x }) (dimension (Number x)) (takes x h)
 height_changed heap Vertical b x h = written heap Vertical x (λ x. record b { height = x }) (dimension (Number x)) (takes x h)
 
-depth_changed : (heap : Heap) (direction : Direction) (b : BoxFields) (x : ℤ) → unsigned_abs x ≤ max_dimension → changed heap (fields_of direction b) field.Depth (Number x) ≡ Ok (fields_of direction (record b { depth = x }))
+depth_changed : (heap : Heap) (direction : Direction) (b : BoxFields) (x : ℤ) → IsDimension x → changed heap (fields_of direction b) field.Depth (Number x) ≡ Ok (fields_of direction (record b { depth = x }))
 depth_changed heap Horizontal b x h = written heap Horizontal x (λ x. record b { depth = x }) (dimension (Number x)) (takes x h)
 depth_changed heap Vertical b x h = written heap Vertical x (λ x. record b { depth = x }) (dimension (Number x)) (takes x h)
 
-pub width_set : (heap : Heap) (n : ℕ) (direction : Direction) (b : BoxFields) (x : ℤ) → unsigned_abs x ≤ max_dimension → set_step n field.Width (Number x) (holding heap n direction b) ≡ Ok (tt, holding heap n direction (record b { width = x }))
+pub width_set : (heap : Heap) (n : ℕ) (direction : Direction) (b : BoxFields) (x : ℤ) → IsDimension x → set_step n field.Width (Number x) (holding heap n direction b) ≡ Ok (tt, holding heap n direction (record b { width = x }))
 width_set heap n direction b x h = set_at heap n (node_of direction b) field.Width (Number x) (fields_of direction (record b { width = x })) (width_changed (holding heap n direction b) direction b x h)
 
-pub height_set : (heap : Heap) (n : ℕ) (direction : Direction) (b : BoxFields) (x : ℤ) → unsigned_abs x ≤ max_dimension → set_step n field.Height (Number x) (holding heap n direction b) ≡ Ok (tt, holding heap n direction (record b { height = x }))
+pub height_set : (heap : Heap) (n : ℕ) (direction : Direction) (b : BoxFields) (x : ℤ) → IsDimension x → set_step n field.Height (Number x) (holding heap n direction b) ≡ Ok (tt, holding heap n direction (record b { height = x }))
 height_set heap n direction b x h = set_at heap n (node_of direction b) field.Height (Number x) (fields_of direction (record b { height = x })) (height_changed (holding heap n direction b) direction b x h)
 
-pub depth_set : (heap : Heap) (n : ℕ) (direction : Direction) (b : BoxFields) (x : ℤ) → unsigned_abs x ≤ max_dimension → set_step n field.Depth (Number x) (holding heap n direction b) ≡ Ok (tt, holding heap n direction (record b { depth = x }))
+pub depth_set : (heap : Heap) (n : ℕ) (direction : Direction) (b : BoxFields) (x : ℤ) → IsDimension x → set_step n field.Depth (Number x) (holding heap n direction b) ≡ Ok (tt, holding heap n direction (record b { depth = x }))
 depth_set heap n direction b x h = set_at heap n (node_of direction b) field.Depth (Number x) (fields_of direction (record b { depth = x })) (depth_changed (holding heap n direction b) direction b x h)
 
 -- ---- its list
@@ -190,22 +191,22 @@ is_ok_at step a b old same e = subst IsOk (sym (ap step same ∙ e)) refl
 pub holds_new : (old new : Heap) (n : ℕ) (kind : Kind) (direction : Direction) → kind ≡ box_kind direction → make_step kind 0 old ≡ Ok (n, new) → Holds (beyond old n) n direction fresh_box new
 holds_new old new n kind direction same e = record { is = (makes direction old new n (sym (ap (λ k. make_step k 0 old) same) ∙ e)).is }
 
-pub holds_width : {base heap new : Heap} {n : ℕ} {direction : Direction} {b : BoxFields} (x : ℤ) → Holds base n direction b heap → unsigned_abs x ≤ max_dimension → set_step n field.Width (Number x) heap ≡ Ok (tt, new) → Holds base n direction (record b { width = x }) new
+pub holds_width : {base heap new : Heap} {n : ℕ} {direction : Direction} {b : BoxFields} (x : ℤ) → Holds base n direction b heap → IsDimension x → set_step n field.Width (Number x) heap ≡ Ok (tt, new) → Holds base n direction (record b { width = x }) new
 holds_width {base} {heap} {new} {n} {direction} {b} x held le e = record { is = holds_on (set_step n field.Width (Number x)) (holding base n direction b) (holding base n direction (record b { width = x })) heap new held.is (width_set base n direction b x le) e }
 
-pub width_ok : {base heap : Heap} {n : ℕ} {direction : Direction} {b : BoxFields} (x : ℤ) → Holds base n direction b heap → unsigned_abs x ≤ max_dimension → IsOk (set_step n field.Width (Number x) heap)
+pub width_ok : {base heap : Heap} {n : ℕ} {direction : Direction} {b : BoxFields} (x : ℤ) → Holds base n direction b heap → IsDimension x → IsOk (set_step n field.Width (Number x) heap)
 width_ok {base} {heap} {n} {direction} {b} x held le = is_ok_at (set_step n field.Width (Number x)) (holding base n direction b) (holding base n direction (record b { width = x })) heap held.is (width_set base n direction b x le)
 
-pub holds_height : {base heap new : Heap} {n : ℕ} {direction : Direction} {b : BoxFields} (x : ℤ) → Holds base n direction b heap → unsigned_abs x ≤ max_dimension → set_step n field.Height (Number x) heap ≡ Ok (tt, new) → Holds base n direction (record b { height = x }) new
+pub holds_height : {base heap new : Heap} {n : ℕ} {direction : Direction} {b : BoxFields} (x : ℤ) → Holds base n direction b heap → IsDimension x → set_step n field.Height (Number x) heap ≡ Ok (tt, new) → Holds base n direction (record b { height = x }) new
 holds_height {base} {heap} {new} {n} {direction} {b} x held le e = record { is = holds_on (set_step n field.Height (Number x)) (holding base n direction b) (holding base n direction (record b { height = x })) heap new held.is (height_set base n direction b x le) e }
 
-pub height_ok : {base heap : Heap} {n : ℕ} {direction : Direction} {b : BoxFields} (x : ℤ) → Holds base n direction b heap → unsigned_abs x ≤ max_dimension → IsOk (set_step n field.Height (Number x) heap)
+pub height_ok : {base heap : Heap} {n : ℕ} {direction : Direction} {b : BoxFields} (x : ℤ) → Holds base n direction b heap → IsDimension x → IsOk (set_step n field.Height (Number x) heap)
 height_ok {base} {heap} {n} {direction} {b} x held le = is_ok_at (set_step n field.Height (Number x)) (holding base n direction b) (holding base n direction (record b { height = x })) heap held.is (height_set base n direction b x le)
 
-pub holds_depth : {base heap new : Heap} {n : ℕ} {direction : Direction} {b : BoxFields} (x : ℤ) → Holds base n direction b heap → unsigned_abs x ≤ max_dimension → set_step n field.Depth (Number x) heap ≡ Ok (tt, new) → Holds base n direction (record b { depth = x }) new
+pub holds_depth : {base heap new : Heap} {n : ℕ} {direction : Direction} {b : BoxFields} (x : ℤ) → Holds base n direction b heap → IsDimension x → set_step n field.Depth (Number x) heap ≡ Ok (tt, new) → Holds base n direction (record b { depth = x }) new
 holds_depth {base} {heap} {new} {n} {direction} {b} x held le e = record { is = holds_on (set_step n field.Depth (Number x)) (holding base n direction b) (holding base n direction (record b { depth = x })) heap new held.is (depth_set base n direction b x le) e }
 
-pub depth_ok : {base heap : Heap} {n : ℕ} {direction : Direction} {b : BoxFields} (x : ℤ) → Holds base n direction b heap → unsigned_abs x ≤ max_dimension → IsOk (set_step n field.Depth (Number x) heap)
+pub depth_ok : {base heap : Heap} {n : ℕ} {direction : Direction} {b : BoxFields} (x : ℤ) → Holds base n direction b heap → IsDimension x → IsOk (set_step n field.Depth (Number x) heap)
 depth_ok {base} {heap} {n} {direction} {b} x held le = is_ok_at (set_step n field.Depth (Number x)) (holding base n direction b) (holding base n direction (record b { depth = x })) heap held.is (depth_set base n direction b x le)
 
 pub holds_list : {base heap new : Heap} {n : ℕ} {direction : Direction} {b : BoxFields} (head : Option ℕ) → Holds base n direction b heap → IsLiveHead base head → set_step n field.List (Link head) heap ≡ Ok (tt, new) → Holds base n direction (record b { list = head }) new
@@ -235,10 +236,10 @@ box_refused old kind node why e = refused old (new_node kind 0) node why e
 pub plain : (x : ℤ) → unsigned_abs x ≤ 2 ^ 32 → to_z w64 (of_z w64 x) ≡ x
 plain x h = omega (arith, ints)
 
-plain_size : (x : ℤ) → unsigned_abs x ≤ max_dimension → to_z w64 (of_z w64 x) ≡ x
+plain_size : (x : ℤ) → IsDimension x → to_z w64 (of_z w64 x) ≡ x
 plain_size x h = omega (arith, ints)
 
-pub plain_le : (x : ℤ) → unsigned_abs x ≤ max_dimension → unsigned_abs (to_z w64 (of_z w64 x)) ≤ max_dimension
+pub plain_le : (x : ℤ) → IsDimension x → IsDimension (to_z w64 (of_z w64 x))
 plain_le x h = omega (arith, ints)
 
 pub plain_den : (x : ℤ) → FitsSigned w64 x → to_z w64 (of_z w64 x) ≡ x
@@ -258,7 +259,7 @@ abbrev pub ratio_of : (glue : GlueSet) → IsRatio glue → FitsSigned w64 glue.
 ratio_of glue r f = record { num = to_z w64 (of_z w64 glue.num); den = to_z w64 (of_z w64 glue.den); above = above_of glue r; below = below_of glue r; positive = positive_of glue r f }
 
 -- the fields that are written are those of the box
-pub fields_are : (head : Option ℕ) (box : Packed) → IsMeasuredSize box.size → (r : IsRatio box.glue) (f : FitsSigned w64 box.glue.den)
+pub fields_are : (head : Option ℕ) (box : Packed) → IsSized box.size → (r : IsRatio box.glue) (f : FitsSigned w64 box.glue.den)
     → record { width = to_z w64 (of_z w64 box.size.w); height = to_z w64 (of_z w64 box.size.h); depth = to_z w64 (of_z w64 box.size.d); shift = pos 0; list = head; glue_sign = box.glue.sign; glue_order = box.glue.order; glue_num = to_z w64 (of_z w64 box.glue.num); glue_den = to_z w64 (of_z w64 box.glue.den) }
     ≡ box_fields head box
 fields_are head box m r f =

@@ -8,7 +8,7 @@ use ntx_num::Size;
 
 /// The direction of a list.
 #[derive(Clone, Copy, Debug, PartialEq, Eq)]
-pub(crate) enum Direction {
+pub enum Direction {
     /// From the left to the right, as in an hlist.
     Horizontal,
     /// From the top down, as in a vlist.

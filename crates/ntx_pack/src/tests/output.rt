@@ -16,7 +16,7 @@ fn next_size(rt: &impl Abort, setter: &mut GlueSetter, spec: GlueSpec) -> i64 {
     assert!(rt; spec.stretch.unsigned_abs() < 1000);
     assert!(rt; spec.shrink.unsigned_abs() < 1000);
     assert!(rt; setter.total.unsigned_abs() < 1000);
-    setter.size_of(&spec)
+    setter.next_size(&spec)
 }
 
 #[test]

@@ -1,10 +1,10 @@
--- proofs/setter/GlueSetter/size_of/Answers.antt
+-- proofs/setter/GlueSetter/next_size/Answers.antt
 use Rattle.std.proofs.Common.{◌≡◌, ◌≤◌, ◌+◌, ℤ, ◌+ℤ◌, ◌-ℤ◌, to_z, of_z, w64, subst, sym, ap, ◌∙◌}
 use Rattle.std.specs.Int.RustNames.{unsigned_abs}
 use Rattle.ntx_item.specs.declared.item.Item.TheVariants.{Glue}
 use Rattle.ntx_pack.specs.Output.{move, widened, set_size}
 use Rattle.ntx_pack.proofs.CodeNumbers.{moved_on, with_difference_is, with_difference_le}
-use Rattle.ntx_pack.proofs.setter.GlueSetter.size_of.Goals as goal
+use Rattle.ntx_pack.proofs.setter.GlueSetter.next_size.Goals as goal
 
 size_is : (c : goal.After-with_difference) → to_z w64 (of_z w64 c.with_difference.result) ≡ set_size c.args.self.now.glue c.args.self.now.total c.args.spec.now.width (Glue c.args.spec.now)
 size_is c =
