@@ -6,7 +6,8 @@ use Rattle.std.specs.FinMap as fin
 use Rattle.std.specs.Cmp.{nat_cmp_total, unsigned_tied}
 use Rattle.std.proofs.lemmas.Bool.Decides.{nat_tests}
 use Rattle.ntx_num.specs.Answer.{result_map, result_and_then}
-use Rattle.ntx_nodes.specs.Heap.{Heap, IsLawful, max_nodes, name_limit}
+use Rattle.ntx_num.specs.Dimension.{max_nodes}
+use Rattle.ntx_nodes.specs.Heap.{Heap, IsLawful, name_limit}
 use Rattle.ntx_nodes.specs.Steps.{put, next_name, making}
 use Rattle.ntx_nodes.specs.Walk.{inner_lists, checked_walk, flat_walk, turns_of}
 use Rattle.ntx_nodes.specs.declared.kind.ListKind.{ListKind}

@@ -10,7 +10,7 @@ use Rattle.ntx_item.specs.Sums.{signed_sum}
 use Rattle.ntx_item.specs.declared.glue_change.GlueChange.{GlueChange}
 use Rattle.ntx_item.specs.declared.glue_change.GlueChange.TheVariants.{Stretch, Shrink}
 use Rattle.ntx_pack.specs.declared.glue_set.GlueSet.{GlueSet}
-use Rattle.ntx_item.specs.Sums.{amount_in, glue_total}
+use Rattle.ntx_item.specs.Sums.{amount_in}
 use Rattle.ntx_pack.specs.Output.{move, running, widened, set_size, set_sizes, sum_of}
 use Rattle.ntx_pack.specs.Laws.{IsGlue}
 use Rattle.ntx_item.proofs.SumLemmas.{signed_sum-cons}

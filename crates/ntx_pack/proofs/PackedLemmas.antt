@@ -1,6 +1,6 @@
 -- What packing decides of items.
 use Rattle.std.proofs.Common.{◌≡◌, ℕ, ◌≤◌, ℤ, pos, ◌+ℤ◌, ◌-ℤ◌, List, [], ◌∷◌, Bool, true, false, cond, Ok, subst, refl, sym, ◌∙◌, ap, arith}
-use Rattle.std.specs.Prelude.{nat_eq, ◌≢◌, Result, ◌&&◌}
+use Rattle.std.specs.Prelude.{nat_eq, ◌≢◌, ◌&&◌}
 use Rattle.std.specs.Int.RustNames.{unsigned_abs}
 use Rattle.std.proofs.lemmas.Int.{ints}
 use Rattle.ntx_num.specs.Answer.{result_map}

@@ -4,7 +4,7 @@
 --     badness_for items x      how bad that is: from 0 to 10000, and 1000000 of an overfull box; 0 of an empty list
 --     glue_set_answer n heap   how the glue of a box of a heap is set
 --     is_overfull items x      whether it is overfull: its glue is finite, shrinks by all it can, and that is too little
-use Rattle.std.specs.Prelude.{ℕ, zero, ℤ, pos, negsuc, neg_ℤ, int_lt, unsigned_abs, nat_eq, Bool, false, ◌&&◌, if◌then◌else◌, List, [], Result, Ok, Err}
+use Rattle.std.specs.Prelude.{ℕ, zero, ℤ, pos, neg_ℤ, int_lt, unsigned_abs, nat_eq, Bool, false, ◌&&◌, if◌then◌else◌, List, [], Result, Ok, Err}
 use Rattle.ntx_num.specs.Badness.{badness_of}
 use Rattle.ntx_num.specs.Ratio.{with_sign_of}
 use Rattle.ntx_nodes.specs.Heap.{Heap}

@@ -9,10 +9,9 @@
 --     OtherSizesStay           in output only glue changes its size, and none where it is not set
 --     TotalsStayBounded        the running totals of output stay in range
 --     BoxesHoldTheirLists      a packed box is as its list is packed, and holds that list
-use Rattle.std.specs.Prelude.{◌≡◌, ◌≢◌, ◌≤◌, ℕ, ℤ, pos, neg_ℤ, ◌+ℤ◌, ◌-ℤ◌, unsigned_abs, true, false, List, [], ◌∷◌, ◌++◌, map, take, Option, Some, Ok, All}
+use Rattle.std.specs.Prelude.{◌≡◌, ◌≢◌, ◌≤◌, ℕ, ℤ, pos, neg_ℤ, ◌+ℤ◌, ◌-ℤ◌, unsigned_abs, true, false, List, [], ◌∷◌, ◌++◌, map, take, Option, Some, Ok}
 use Rattle.std.specs.FinMap as fin
 use Rattle.ntx_nodes.specs.Heap.{Heap, IsLawful}
-use Rattle.ntx_nodes.specs.declared.kind.ListKind.{ListKind}
 use Rattle.ntx_tfm.specs.Font.{FontTables}
 use Rattle.ntx_item.specs.declared.item.Item.{Item}
 use Rattle.ntx_item.specs.declared.item.Item.TheVariants.{Glue}

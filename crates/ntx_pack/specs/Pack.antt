@@ -11,13 +11,12 @@ use Rattle.ntx_num.specs.Dimension.{is_dimension}
 use Rattle.ntx_num.specs.declared.size.Size.{Size}
 use Rattle.ntx_nodes.specs.Heap.{Heap}
 use Rattle.ntx_nodes.specs.Steps.{making}
-use Rattle.ntx_nodes.specs.declared.kind.Kind.{Kind}
-use Rattle.ntx_nodes.specs.declared.kind.Kind.TheVariants as kind
 use Rattle.ntx_nodes.specs.declared.kind.ListKind.{ListKind}
 use Rattle.ntx_nodes.specs.declared.kind.ListKind.TheVariants.{H, V}
 use Rattle.ntx_nodes.specs.declared.contents.BoxFields.{BoxFields}
 use Rattle.ntx_nodes.specs.declared.fields.Contents.{Contents}
 use Rattle.ntx_nodes.specs.declared.fields.Contents.TheVariants.{Hlist, Vlist}
+use Rattle.ntx_nodes.specs.declared.fields.Fields.{Fields}
 use Rattle.ntx_nodes.specs.declared.node.Node.{Node}
 use Rattle.ntx_nodes.specs.declared.trouble.Trouble.{Trouble}
 use Rattle.ntx_nodes.specs.declared.trouble.Trouble.TheVariants.{Dimension}
@@ -87,13 +86,12 @@ abbrev pub box_contents : Direction → BoxFields → Contents
 box_contents Horizontal b = Hlist b
 box_contents Vertical b = Vlist b
 
-abbrev pub box_kind : Direction → Kind
-box_kind Horizontal = kind.Hlist
-box_kind Vertical = kind.Vlist
-
 -- a box of subtype 0 over a list, without attributes
+abbrev pub node_fields : Direction → Option ℕ → Packed → Fields
+node_fields direction head box = record { subtype = 0; next = None; contents = box_contents direction (box_fields head box) }
+
 abbrev pub box_node : Direction → Option ℕ → Packed → Node
-box_node direction head box = record { fields = record { subtype = 0; next = None; contents = box_contents direction (box_fields head box) }; attributes = map.empty }
+box_node direction head box = record { fields = node_fields direction head box; attributes = map.empty }
 
 -- ---- steps
 

@@ -1,6 +1,6 @@
 -- How much the glue of a list stretches and shrinks, totalled in four orders ("TeX: The Program", sections 150, 650, 656 and 659).
 --     highest_order change items         the highest order with a total other than 0
-use Rattle.std.specs.Prelude.{ℕ, ◌≤◌, ℤ, pos, ◌+ℤ◌, unsigned_abs, List, if◌then◌else◌}
+use Rattle.std.specs.Prelude.{ℕ, ◌≤◌, pos, ◌+ℤ◌, unsigned_abs, List, if◌then◌else◌}
 use Rattle.std.specs.Ordering.{int_eq}
 use Rattle.ntx_item.specs.declared.item.Item.{Item}
 use Rattle.ntx_item.specs.Items.{max_total}

@@ -1,8 +1,9 @@
 //! Packing of lists into boxes ("TeX: The Program", sections 644 to 679), with exact fractions as glue ratios.
 //!
 //! [`hpack`] and [`vpack`] make a box over a list, [`dimensions`] measures one. What they decide of the items alone stands
-//! apart: [`vlist_size`], [`stacked`], [`interline_glue`] and [`set_glue`]. [`GlueSetter`] says what glue comes to in output. `specs/Laws.antt` has laws of all
-//! that, each the contract of a function that does nothing.
+//! apart: [`vlist_size`], [`stacked`], [`interline_glue`] and [`set_glue`]. [`GlueSetter`] says what glue comes to in
+//! output, from what [`GlueSet::read`] finds in a box. `specs/Laws.antt` has laws of all that, each the contract of a
+//! function that does nothing.
 //!
 //! It stands on `ntx_view` for the items of lists, on `ntx_nodes` for boxes, on `ntx_item`, on `ntx_tfm` for fonts, and on
 //! `ntx_num` for badness and ratios.

@@ -6,7 +6,8 @@ use Rattle.std.specs.FinMap as map
 use Rattle.std.proofs.lemmas.List.Elements.{All-from_recursion, All-nil, All-cons}
 use Rattle.std.proofs.lemmas.List.Sums.{sum_by-cons}
 use Rattle.ntx_num.specs.Answer.{result_and_then}
-use Rattle.ntx_nodes.specs.Heap.{Heap, IsLawful, max_nodes}
+use Rattle.ntx_num.specs.Dimension.{max_nodes}
+use Rattle.ntx_nodes.specs.Heap.{Heap, IsLawful}
 use Rattle.ntx_nodes.specs.Steps.{of_found, fields_answer}
 use Rattle.ntx_nodes.specs.Walk.{is_reached, inner_lists, entered, node_reached, turns_of, flat_walk, checked_walk}
 use Rattle.ntx_nodes.specs.Walker.{whole_walk}

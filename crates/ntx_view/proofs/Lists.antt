@@ -1,5 +1,5 @@
 -- Items of nodes, one after another.
-use Rattle.std.proofs.Common.{◌≡◌, ℕ, zero, suc, ◌+◌, ◌*◌, ◌≤◌, ◌<◌, List, [], ◌∷◌, ◌++◌, length, map, take, get_or, slice_get, Some, Ok, None, refl, sym, ◌∙◌, ap, subst, length-append, append-nil, arith}
+use Rattle.std.proofs.Common.{◌≡◌, ℕ, zero, suc, ◌+◌, ◌*◌, ◌≤◌, ◌<◌, List, [], ◌∷◌, ◌++◌, length, map, take, get_or, slice_get, Some, Ok, None, refl, sym, ◌∙◌, ap, length-append, arith}
 use Rattle.std.specs.Prelude.{Option, sum_by}
 use Rattle.std.specs.Option.{option_map}
 use Rattle.std.specs.List.{All, cons_option}

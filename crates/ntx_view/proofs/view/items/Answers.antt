@@ -3,7 +3,7 @@
 use Rattle.std.proofs.Common.{◌≤◌, [], length, map, slice_get, IsOk, refl, subst, sym, ap, ◌∙◌, arith}
 use Rattle.std.specs.List.{All, sum_by}
 use Rattle.std.proofs.lemmas.List.{length-map}
-use Rattle.ntx_nodes.specs.Heap.{max_nodes}
+use Rattle.ntx_num.specs.Dimension.{max_nodes}
 use Rattle.ntx_nodes.specs.Walk.{flat_walk}
 use Rattle.ntx_nodes.specs.declared.kind.Way.TheVariants.{Checked, Flat}
 use Rattle.ntx_nodes.specs.declared.kind.ListKind.TheVariants.{H}
