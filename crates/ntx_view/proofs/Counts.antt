@@ -8,7 +8,6 @@ use Rattle.std.proofs.lemmas.List.Sums.{sum_by-cons}
 use Rattle.ntx_num.specs.Answer.{result_and_then}
 use Rattle.ntx_num.specs.Dimension.{max_nodes}
 use Rattle.ntx_nodes.specs.Heap.{Heap, IsLawful}
-use Rattle.ntx_nodes.specs.Steps.{of_found, fields_answer}
 use Rattle.ntx_nodes.specs.Walk.{is_reached, inner_lists, entered, node_reached, turns_of, flat_walk, checked_walk}
 use Rattle.ntx_nodes.specs.Walker.{whole_walk}
 use Rattle.ntx_nodes.specs.declared.inner.InnerLists.{InnerLists}
@@ -211,10 +210,3 @@ all_live heap before (n ∷ ns) fresh = All-cons (IsLiveAt heap) n ns fresh.0 (a
 
 pub sound_live : (heap : Heap) (way : Way) (head : Option ℕ) (names : List ℕ) → Sound heap way [] head names → All (IsLiveAt heap) names
 sound_live heap way head names s = subst (All (IsLiveAt heap)) (sym s.added) (all_live heap [] s.more s.fresh)
-
--- a live node has fields
-pub live_fields : (heap : Heap) (n : ℕ) (why : Trouble) → IsLiveAt heap n → fields_answer n heap ≡ Err why → ⊥
-live_fields heap n why live e =
-    let node = live_node (map.get heap.nodes n) live in
-    let there : fields_answer n heap ≡ Ok node.0.fields = ap (of_found n (λ (x : Node). Ok x.fields)) node.1 in
-    cc

@@ -5,7 +5,7 @@ use Rattle.std.specs.Option.{option_map}
 use Rattle.std.specs.List.{All, cons_option}
 use Rattle.std.specs.FinMap as map'
 use Rattle.std.proofs.lemmas.List.{take_more, map-append, length-take-le}
-use Rattle.std.proofs.lemmas.List.Elements.{filter_map-append, All-nil, All-push, All-weaker}
+use Rattle.std.proofs.lemmas.List.Elements.{filter_map-append, All-push, All-weaker}
 use Rattle.std.proofs.lemmas.List.Sums.{sum_by-le, sum_by_push, sum_by_more}
 use Rattle.ntx_num.specs.Dimension.{max_dimension, max_nodes}
 use Rattle.ntx_nodes.specs.Heap.{Heap}
@@ -64,9 +64,6 @@ bounded_width items n all few =
     omega arith
 
 -- ---- a list whose items are measured from several nodes
-pub bounded_none : (heap : Heap) → AreBoundedBy heap [] []
-bounded_none heap = record { count = omega arith; each = All-nil IsItemInRange; widths = omega arith; stretches = omega arith; shrinks = omega arith; reaching = All-nil IsReaching }
-
 -- of one name more
 pub bounded_more : (heap : Heap) (names : List ℕ) (items : List Item) (i : ℕ) (item : Item) → i < length names → AreBoundedBy heap (take i names) items
     → IsBoundedBy (weight_at heap (get_or names i 0)) item → AreBoundedBy heap (take (i + 1) names) (items ++ item ∷ [])
