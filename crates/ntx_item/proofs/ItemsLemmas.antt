@@ -1,13 +1,11 @@
--- Parts of items in range, and sums over items.
-use Rattle.std.proofs.Common.{ℕ, ◌+◌, ◌≤◌, ℤ, pos, ◌+ℤ◌, List, [], ◌∷◌, length, take, drop, fold, get_or, arith, ◌<◌}
+-- Parts of items in range.
+use Rattle.std.proofs.Common.{ℕ, ◌≤◌, List, length, take, drop, get_or, arith, ◌<◌}
 use Rattle.std.specs.List.{All, sum_by}
-use Rattle.std.specs.Int.RustNames.{unsigned_abs}
-use Rattle.std.proofs.lemmas.Int.{ints}
 use Rattle.std.proofs.lemmas.List.{length-take, length-drop}
 use Rattle.std.proofs.lemmas.List.Elements.{All-take, All-drop}
-use Rattle.std.proofs.lemmas.List.Sums.{sum_by-take-drop, sum_by_more_le, sum_by-cons}
+use Rattle.std.proofs.lemmas.List.Sums.{sum_by-take-drop, sum_by_more_le}
 use Rattle.ntx_item.specs.declared.item.Item.{Item}
-use Rattle.ntx_item.specs.Items.{absolute_width, absolute_stretch, absolute_shrink, IsItemInRange, IsBounded, AreItemsInRange, PartsAreInRange, SumsAreBounded}
+use Rattle.ntx_item.specs.Items.{absolute_width, absolute_stretch, absolute_shrink, IsItemInRange, IsBounded, AreItemsInRange, PartsAreInRange}
 
 take_le : (f : Item → ℕ) (items : List Item) (k : ℕ) (n : ℕ) → sum_by f items ≤ n → sum_by f (take k items) ≤ n
 take_le f items k n le = omega (arith, sum_by-take-drop f items k)
@@ -47,15 +45,3 @@ each items r = λ k d inside. record {
 
 pub parts_are_in_range : PartsAreInRange
 parts_are_in_range = record { front = front; rest = rest; each = each }
-
-absolute_sum : (a b : ℤ) → unsigned_abs (a +ℤ b) ≤ unsigned_abs a + unsigned_abs b
-absolute_sum a b = omega (arith, ints)
-
--- a sum that begins with a number is no greater than that number and the others
-sum_from : (f : Item → ℤ) (bound : Item → ℕ) → ((item : Item) → unsigned_abs (f item) ≤ bound item) → (start : ℤ) (items : List Item) →
-    unsigned_abs (fold (λ sum item. sum +ℤ f item) start items) ≤ unsigned_abs start + sum_by bound items
-sum_from f bound h start [] = omega arith
-sum_from f bound h start (x ∷ xs) = omega (arith, sum_from f bound h (start +ℤ f x) xs, h x, sum_by-cons bound x xs, absolute_sum start (f x))
-
-pub sums_are_bounded : SumsAreBounded
-sums_are_bounded f bound h items = omega (arith, sum_from f bound h (pos 0) items)

@@ -1,26 +1,21 @@
 -- Items in range: bounds of lists within which the sums of packing and line breaking stay far inside 64 bits. TeX's own sums are of 32 bits
 -- ("TeX: The Program", sections 650 and 837).
 --     AreItemsInRange items             a list of items is in range
---     signed_sum f items                a sum over the items
---     PartsAreInRange, SumsAreBounded   what follows for parts and sums
-use Rattle.std.specs.Prelude.{ℕ, ◌+◌, ◌-◌, ◌^◌, ◌≤◌, ℤ, pos, ◌+ℤ◌, List, length, take, drop, All, fold, sum_by, unsigned_abs}
+--     PartsAreInRange                   its parts are in range then
+use Rattle.std.specs.Prelude.{ℕ, ◌+◌, ◌^◌, ◌≤◌, List, length, take, drop, All, sum_by, unsigned_abs}
+use Rattle.ntx_num.specs.Dimension.{max_nodes, max_order, max_penalty}
 use Rattle.ntx_item.specs.declared.item.Item.{Item}
 use Rattle.ntx_item.specs.declared.item.Item.TheVariants.{Box, Glyph, Rule, Glue, Kern, Penalty, Disc}
-use Rattle.ntx_item.specs.Parameters.{max_order}
 
 -- ---- bounds
 
--- the most items of a list
+-- the most items of a list: one for each node
 abbrev pub max_items : ℕ
-max_items = 2 ^ 18
+max_items = max_nodes
 
 -- the greatest sum of absolute widths, stretches or shrinks, whatever their orders
 abbrev pub max_total : ℕ
 max_total = 2 ^ 48
-
--- the greatest penalty
-abbrev pub max_penalty : ℕ
-max_penalty = 2 ^ 31 - 1
 
 -- ---- one item
 
@@ -64,19 +59,8 @@ pub record AreItemsInRange (items : List Item) : Type 0 where
   pub stretches : sum_by absolute_stretch items ≤ max_total
   pub shrinks : sum_by absolute_shrink items ≤ max_total
 
--- the sum of a number of each item, with its sign
-abbrev pub signed_sum : (Item → ℤ) → List Item → ℤ
-signed_sum f items = fold (λ sum item. sum +ℤ f item) (pos 0) items
-
--- ---- laws
-
 -- Of items in range the first ones and the others are in range, and each of them is bounded.
 pub record PartsAreInRange : Type 0 where
   pub front : (items : List Item) (k : ℕ) → AreItemsInRange items → AreItemsInRange (take k items)
   pub rest : (items : List Item) (k : ℕ) → AreItemsInRange items → AreItemsInRange (drop k items)
   pub each : (items : List Item) → AreItemsInRange items → All IsBounded items
-
--- A sum with signs is no greater than the sum of the absolute values, or of any numbers that are no less.
-abbrev pub SumsAreBounded : Type 0
-SumsAreBounded = (f : Item → ℤ) (bound : Item → ℕ) → ((item : Item) → unsigned_abs (f item) ≤ bound item) →
-    (items : List Item) → unsigned_abs (signed_sum f items) ≤ sum_by bound items

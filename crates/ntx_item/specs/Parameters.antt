@@ -7,7 +7,7 @@
 --     is_in_range p v, is_glue_in_range spec  the same as tests
 use Rattle.std.specs.Prelude.{ℕ, ◌^◌, ◌≤◌, nat_le, ℤ, pos, neg_ℤ, ◌≤ℤ◌, int_le, Bool, ◌&&◌, List, [], ◌∷◌, Option, bytes_eq, codes}
 use Rattle.std.specs.List.{find}
-use Rattle.ntx_num.specs.Dimension.{max_dimension}
+use Rattle.ntx_num.specs.Dimension.{max_dimension, max_order, IsDimension, is_dimension}
 use Rattle.ntx_item.specs.declared.param.Param.{Param}
 use Rattle.ntx_item.specs.declared.param.Param.TheVariants.{Pretolerance, Tolerance, Linepenalty, Hyphenpenalty, Exhyphenpenalty, Adjdemerits, Doublehyphendemerits, Finalhyphendemerits, Interlinepenalty, Clubpenalty, Widowpenalty, Brokenpenalty, Lefthyphenmin, Righthyphenmin, Hyphenchar, Hsize, Emergencystretch, Parindent, Lineskiplimit}
 use Rattle.ntx_item.specs.declared.glue_param.GlueParam.{GlueParam}
@@ -75,13 +75,13 @@ IsIn range z = (range.low ≤ℤ z) × (z ≤ℤ range.high)
 abbrev pub is_in : Range → ℤ → Bool
 is_in range z = int_le range.low z && int_le z range.high
 
--- from -most to most
-abbrev pub within : ℕ → Range
-within most = record { low = neg_ℤ (pos most); high = pos most }
+-- the numbers of at most this absolute value
+abbrev pub up_to : ℕ → Range
+up_to most = record { low = neg_ℤ (pos most); high = pos most }
 
 -- TeX's dimensions, in scaled points
 abbrev pub dimensions : Range
-dimensions = within max_dimension
+dimensions = up_to max_dimension
 
 abbrev pub range_of : Param → Range
 range_of Lefthyphenmin = record { low = pos 1; high = pos 63 }
@@ -91,7 +91,7 @@ range_of Hsize = dimensions
 range_of Emergencystretch = dimensions
 range_of Parindent = dimensions
 range_of Lineskiplimit = dimensions
-range_of _ = within (10 ^ 8)
+range_of _ = up_to (10 ^ 8)
 
 -- the value is one that the parameter may be set to
 abbrev pub IsInRange : Param → ℤ → Type 0
@@ -100,18 +100,14 @@ IsInRange p v = IsIn (range_of p) v
 abbrev pub is_in_range : Param → ℤ → Bool
 is_in_range p v = is_in (range_of p) v
 
--- the greatest order of infinity
-abbrev pub max_order : ℕ
-max_order = 3
-
 pub record IsGlueInRange (spec : GlueSpec) : Type 0 where
-  pub width : IsIn dimensions spec.width
-  pub stretch : IsIn dimensions spec.stretch
+  pub width : IsDimension spec.width
+  pub stretch : IsDimension spec.stretch
   pub stretch_order : spec.stretch_order ≤ max_order
-  pub shrink : IsIn dimensions spec.shrink
+  pub shrink : IsDimension spec.shrink
   pub shrink_order : spec.shrink_order ≤ max_order
 
 abbrev pub is_glue_in_range : GlueSpec → Bool
 is_glue_in_range spec =
-    is_in dimensions spec.width && is_in dimensions spec.stretch && nat_le spec.stretch_order max_order && is_in dimensions spec.shrink &&
+    is_dimension spec.width && is_dimension spec.stretch && nat_le spec.stretch_order max_order && is_dimension spec.shrink &&
     nat_le spec.shrink_order max_order

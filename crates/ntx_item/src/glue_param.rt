@@ -36,11 +36,14 @@ const GLUE_PARAMS: [GlueParam; 7] = [
     GlueParam::Parfillskip,
 ];
 
-/// The first parameter of this name.
-fn first_named(name: &str) -> Option<GlueParam>
+/// The first parameter whose name has these bytes.
+fn first_named(name: &[u8]) -> Option<GlueParam>
     ensures { result ≡ glue_param_named name.now }
 {
-    GLUE_PARAMS.iter().copied().find(|g| g.name() == name)
+    GLUE_PARAMS
+        .iter()
+        .copied()
+        .find(|g| g.name().as_bytes() == name)
 }
 
 impl GlueParam {
@@ -59,8 +62,8 @@ impl GlueParam {
         }
     }
 
-    /// The parameter of this name, if there is one.
-    pub fn of_name(name: &str) -> Option<GlueParam>
+    /// The parameter whose name has these bytes, if there is one.
+    pub fn of_name(name: &[u8]) -> Option<GlueParam>
         ensures value { result ≡ glue_param_named name.now }
         ensures each { (g : GlueParam) → (result ≡ Some g) ↔ (name.now ≡ glue_name_of g) }
     {

@@ -1,9 +1,12 @@
 //! The items of a list: its nodes without what packing and line breaking do not look at ("TeX: The Program", sections
 //! 135 to 161).
 
-ghost use Rattle.ntx_item.specs.Items.{PartsAreInRange, SumsAreBounded};
+ghost use Rattle.std.specs.Prelude.{◌≡◌};
+ghost use Rattle.ntx_item.specs.Items.{PartsAreInRange};
+ghost use Rattle.ntx_item.specs.Sums.{natural_width, amount_in, SumsAddOverParts, SumsAreBounded};
 
 use crate::glue::GlueSpec;
+use crate::glue_change::GlueChange;
 use ntx_num::Size;
 
 /// One item of a list. All sizes are in scaled points.
@@ -51,9 +54,41 @@ pub enum Item {
     },
 }
 
+impl Item {
+    /// The natural width in scaled points; of a discretionary that of what stands there without a break.
+    pub fn natural_width(&self) -> i64
+        ensures { result ≡ natural_width self.now }
+    {
+        match self {
+            Item::Box { size, .. } | Item::Glyph { size } | Item::Rule { size } => size.w,
+            Item::Glue { spec } => spec.width,
+            Item::Kern { w, .. } => *w,
+            Item::Penalty { .. } => 0,
+            Item::Disc { replace, .. } => replace.w,
+        }
+    }
+
+    /// How far the item stretches or shrinks as glue of this order, in scaled points or units of the order; 0 where it is
+    /// no glue of the order.
+    pub fn amount_in(&self, change: GlueChange, order: u8) -> i64
+        ensures { result ≡ amount_in change order self.now }
+    {
+        match self {
+            Item::Glue { spec } if spec.order(change) == order => spec.amount(change),
+            _ => 0,
+        }
+    }
+}
+
 /// The law that of items in range the first ones and the others are in range, and each is bounded.
 pub fn parts_are_in_range()
     ensures { PartsAreInRange }
+{}
+
+/// The law that a sum over a list is the sum over its parts, so that a sum between two places is the difference of two sums
+/// over prefixes.
+pub fn sums_add_over_parts()
+    ensures { SumsAddOverParts }
 {}
 
 /// The law that a sum over items, with its signs, is no greater than the sum of the absolute values.

@@ -5,6 +5,7 @@
 #![tactic(auto)]
 
 mod glue;
+mod glue_change;
 mod glue_param;
 mod item;
 mod out_of_range;
@@ -13,8 +14,9 @@ mod param;
 mod params;
 
 pub use glue::GlueSpec;
+pub use glue_change::GlueChange;
 pub use glue_param::GlueParam;
-pub use item::{Item, parts_are_in_range, sums_are_bounded};
+pub use item::{Item, parts_are_in_range, sums_add_over_parts, sums_are_bounded};
 pub use out_of_range::OutOfRange;
 pub use pack_to::PackTo;
 pub use param::Param;

@@ -76,11 +76,11 @@ const PARAMS: [Param; 19] = [
     Param::Lineskiplimit,
 ];
 
-/// The first parameter of this name.
-fn first_named(name: &str) -> Option<Param>
+/// The first parameter whose name has these bytes.
+fn first_named(name: &[u8]) -> Option<Param>
     ensures { result ≡ param_named name.now }
 {
-    PARAMS.iter().copied().find(|p| p.name() == name)
+    PARAMS.iter().copied().find(|p| p.name().as_bytes() == name)
 }
 
 impl Param {
@@ -111,8 +111,8 @@ impl Param {
         }
     }
 
-    /// The parameter of this name, if there is one.
-    pub fn of_name(name: &str) -> Option<Param>
+    /// The parameter whose name has these bytes, if there is one.
+    pub fn of_name(name: &[u8]) -> Option<Param>
         ensures value { result ≡ param_named name.now }
         ensures each { (p : Param) → (result ≡ Some p) ↔ (name.now ≡ name_of p) }
     {

@@ -58,7 +58,7 @@ fn numbers_have_defaults_and_ranges(rt: HostRuntime) {
 /// Finds `p` by its name.
 fn is_named(rt: &impl Abort, p: Param, name: &str) {
     assert!(rt; p.name() == name);
-    assert!(rt; Param::of_name(name) == Some(p));
+    assert!(rt; Param::of_name(name.as_bytes()) == Some(p));
 }
 
 #[test]
@@ -82,13 +82,13 @@ fn numbers_have_names(rt: HostRuntime) {
     is_named(&rt, Param::Emergencystretch, "emergencystretch");
     is_named(&rt, Param::Parindent, "parindent");
     is_named(&rt, Param::Lineskiplimit, "lineskiplimit");
-    assert!(rt; Param::of_name("Hsize").is_none());
+    assert!(rt; Param::of_name(b"Hsize").is_none());
 }
 
 /// Finds `g` by its name, with this default.
 fn is_glue(rt: &impl Abort, g: GlueParam, name: &str, default: GlueSpec) {
     assert!(rt; g.name() == name);
-    assert!(rt; GlueParam::of_name(name) == Some(g));
+    assert!(rt; GlueParam::of_name(name.as_bytes()) == Some(g));
     assert!(rt; Params::plain().get_glue(g) == default);
 }
 
@@ -114,7 +114,7 @@ fn glues_have_names_and_defaults(rt: HostRuntime) {
     is_glue(&rt, GlueParam::Leftskip, "leftskip", rigid(0));
     is_glue(&rt, GlueParam::Rightskip, "rightskip", rigid(0));
     is_glue(&rt, GlueParam::Parfillskip, "parfillskip", fil);
-    assert!(rt; GlueParam::of_name("hsize").is_none());
+    assert!(rt; GlueParam::of_name(b"hsize").is_none());
 }
 
 /// Whether `topskip` takes this glue.
@@ -147,6 +147,7 @@ fn glue_has_ranges(rt: HostRuntime) {
 fn glue_is_put_and_items_differ(rt: HostRuntime) {
     changes_stand_alone();
     parts_are_in_range();
+    sums_add_over_parts();
     sums_are_bounded();
     let mut params = Params::plain();
     assert!(rt; rigid(1).is_in_range());
@@ -155,5 +156,16 @@ fn glue_is_put_and_items_differ(rt: HostRuntime) {
     assert!(rt; params.baselineskip == rigid(786_432));
     let size = Size { w: 1, h: 2, d: 3 };
     assert!(rt; Item::Glyph { size } != Item::Rule { size });
+    assert!(rt; Item::Rule { size }.natural_width() == 1);
+    let glue = Item::Glue {
+        spec: GlueSpec {
+            stretch: 5,
+            stretch_order: 2,
+            ..rigid(4)
+        },
+    };
+    assert!(rt; glue.natural_width() == 4);
+    assert!(rt; glue.amount_in(GlueChange::for_shortfall(0), 2) == 5);
+    assert!(rt; glue.amount_in(GlueChange::for_shortfall(-1), 2) == 0);
     assert!(rt; PackTo::Exactly(1) != PackTo::Additional(1));
 }

@@ -6,7 +6,8 @@ use Rattle.std.specs.FinMap as fin
 use Rattle.std.specs.Cmp.{nat_cmp_total, unsigned_tied}
 use Rattle.std.proofs.lemmas.Bool.Decides.{nat_tests}
 use Rattle.ntx_num.specs.Answer.{result_map, result_and_then}
-use Rattle.ntx_nodes.specs.Heap.{Heap, IsLawful, max_nodes, name_limit}
+use Rattle.ntx_num.specs.Dimension.{max_nodes}
+use Rattle.ntx_nodes.specs.Heap.{Heap, IsLawful, name_limit}
 use Rattle.ntx_nodes.specs.Steps.{put, next_name, making}
 use Rattle.ntx_nodes.specs.Walk.{inner_lists, checked_walk, flat_walk, turns_of}
 use Rattle.ntx_nodes.specs.declared.kind.ListKind.{ListKind}
@@ -17,14 +18,14 @@ use Rattle.ntx_nodes.specs.declared.fields.Contents.TheVariants as contents
 use Rattle.ntx_nodes.specs.declared.node.Node.{Node}
 use Rattle.ntx_nodes.specs.declared.trouble.Trouble.{Trouble}
 use Rattle.ntx_nodes.specs.declared.trouble.Trouble.TheVariants.{NodesFull, NamesOut}
-use Rattle.ntx_nodes.proofs.Oks.{mapped_Ok, went_Ok, not_taken}
+use Rattle.ntx_num.proofs.Answers.{mapped_Ok, went_Ok, not_taken}
 use Rattle.ntx_nodes.proofs.Turns.{then_same}
 use Rattle.ntx_tfm.specs.Font.{FontTables}
 use Rattle.ntx_item.specs.declared.item.Item.{Item}
 use Rattle.ntx_item.specs.declared.item.Item.TheVariants.{Disc}
 use Rattle.ntx_item.specs.declared.pack_to.PackTo.{PackTo}
 use Rattle.ntx_view.specs.Natural.{hlist_size}
-use Rattle.ntx_view.specs.View.{is_lacking, first_lacking, item_with, names_in, nodes_named, list_nodes, bare_item, part_size, item_of, list_items, unless_lacking, items_answer}
+use Rattle.ntx_view.specs.View.{is_missing_char_at, first_missing_char, item_with, names_in, nodes_named, list_nodes, bare_item, part_size, item_of, list_items, unless_missing_char, items_answer}
 use Rattle.ntx_pack.specs.declared.direction.Direction.{Direction}
 use Rattle.ntx_pack.specs.declared.packed.Packed.{Packed}
 use Rattle.ntx_pack.specs.Pack.{packed, box_node, list_kind, pack_step}
@@ -37,9 +38,9 @@ nodes_same : (heap new : Heap) (names : List ℕ) → Agree heap new → NamesBe
 nodes_same heap new [] agree below = refl
 nodes_same heap new (n ∷ ns) agree below = λ j. cons_option (agree.get n below.0 j) (nodes_same heap new ns agree below.1 j)
 
-lacking_same : (heap new : Heap) (fonts : List FontTables) (names : List ℕ) → Agree heap new → NamesBelow heap.next names → first_lacking new fonts names ≡ first_lacking heap fonts names
+lacking_same : (heap new : Heap) (fonts : List FontTables) (names : List ℕ) → Agree heap new → NamesBelow heap.next names → first_missing_char new fonts names ≡ first_missing_char heap fonts names
 lacking_same heap new fonts [] agree below = refl
-lacking_same heap new fonts (n ∷ ns) agree below = λ j. cond (is_lacking fonts (agree.get n below.0 j)) (Some n) (lacking_same heap new fonts ns agree below.1 j)
+lacking_same heap new fonts (n ∷ ns) agree below = λ j. cond (is_missing_char_at fonts (agree.get n below.0 j)) (Some n) (lacking_same heap new fonts ns agree below.1 j)
 
 -- two heaps, the second with one node more
 record OneMore (heap new : Heap) : Type 0 where
@@ -61,7 +62,7 @@ part_same heap new fonts to more below = ap (λ nodes. hlist_size (map (bare_ite
 
 contents_same : (heap new : Heap) (fonts : List FontTables) (subtype : ℕ) (c : Contents) → OneMore heap new → AreBelow heap.next (inner_lists c) → item_with (part_size new fonts) fonts subtype c ≡ item_with (part_size heap fonts) fonts subtype c
 contents_same heap new fonts subtype (contents.Disc d) more below =
-    λ j. Disc (part_same heap new fonts d.pre more below.0 j) (part_same heap new fonts d.post more below.1.0 j) (part_same heap new fonts d.replace more below.1.1.0 j) (is_none d.pre) (is_none d.post) (nat_eq subtype 3)
+    λ j. Disc (part_same heap new fonts d.pre more below.0 j) (part_same heap new fonts d.post more below.1 j) (part_same heap new fonts d.replace more below.2 j) (is_none d.pre) (is_none d.post) (nat_eq subtype 3)
 contents_same heap new fonts subtype (contents.Hlist b) more below = refl
 contents_same heap new fonts subtype (contents.Vlist b) more below = refl
 contents_same heap new fonts subtype (contents.Rule r) more below = refl
@@ -86,9 +87,9 @@ list_items_same heap new fonts head more below = ap (map (item_of new fonts)) (l
 
 items_same : (heap new : Heap) (fonts : List FontTables) (head : Option ℕ) (k : ListKind) → OneMore heap new → IsBelow heap.next head → items_answer new fonts head k ≡ items_answer heap fonts head k
 items_same heap new fonts head k more below =
-    then_same (checked_walk new head k) (checked_walk heap head k) (λ names. unless_lacking (first_lacking new fonts names) (list_items new fonts head)) (λ names. unless_lacking (first_lacking heap fonts names) (list_items heap fonts head))
+    then_same (checked_walk new head k) (checked_walk heap head k) (λ names. unless_missing_char (first_missing_char new fonts names) (list_items new fonts head)) (λ names. unless_missing_char (first_missing_char heap fonts names) (list_items heap fonts head))
     (walk_from_same heap new Checked head k more.lawful more.agree more.turns below)
-    (λ names is j. unless_lacking (lacking_same heap new fonts names more.agree (reached heap Checked head k names more.lawful is).each j) (list_items_same heap new fonts head more below j))
+    (λ names is j. unless_missing_char (lacking_same heap new fonts names more.agree (reached heap Checked head k names more.lawful is).each j) (list_items_same heap new fonts head more below j))
 
 -- ---- the heap with a made node
 next_is : (heap : Heap) (k : ℕ) → next_name heap ≡ Ok k → heap.next ≡ k
@@ -117,7 +118,7 @@ holds_if : (direction : Direction) (fonts : List FontTables) (head : Option ℕ)
     → packed direction to items ≡ Ok box → heap.next ≡ n → badness ≡ box.badness → new ≡ put (beyond heap n) n (box_node direction head box) → HoldsItsList direction fonts head to heap new n badness
 holds_if direction fonts head to heap new n badness items box lawful before decided name told is =
     let node : Node = box_node direction head box in
-    let walk = went_Ok (λ names. unless_lacking (first_lacking heap fonts names) (list_items heap fonts head)) (checked_walk heap head (list_kind direction)) items before in
+    let walk = went_Ok (λ names. unless_missing_char (first_missing_char heap fonts names) (list_items heap fonts head)) (checked_walk heap head (list_kind direction)) items before in
     let below : IsBelow heap.next head = (reached heap Checked head (list_kind direction) walk.value lawful walk.is).first in
     let after : items_answer (put (beyond heap heap.next) heap.next node) fonts head (list_kind direction) ≡ Ok items = items_same heap (put (beyond heap heap.next) heap.next node) fonts head (list_kind direction) (one_more heap node lawful) below ∙ before in
     record {
@@ -125,7 +126,7 @@ holds_if direction fonts head to heap new n badness items box lawful before deci
       box = box;
       before = before;
       decided = decided;
-      told = told;
+      badness_is = told;
       made = ap (λ (h : Heap). fin.get h.nodes n) is ∙ get_put (beyond heap n) n node;
       after = ap (λ h. items_answer h fonts head (list_kind direction)) is ∙ subst (λ m. items_answer (put (beyond heap m) m node) fonts head (list_kind direction) ≡ Ok items) name after;
     }

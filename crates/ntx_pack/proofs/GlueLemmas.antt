@@ -7,13 +7,14 @@ use Rattle.std.proofs.lemmas.Bool.{eqb-true}
 use Rattle.std.proofs.lemmas.Nat.{div-mul-add}
 use Rattle.ntx_num.specs.Ratio.{nearest, rounded_fraction, rounded_part}
 use Rattle.ntx_item.specs.declared.item.Item.{Item}
-use Rattle.ntx_item.specs.Items.{signed_sum}
-use Rattle.ntx_pack.specs.declared.change.Change.TheVariants.{Stretch, Shrink}
+use Rattle.ntx_item.specs.Sums.{signed_sum}
+use Rattle.ntx_item.specs.declared.glue_change.GlueChange.TheVariants.{Stretch, Shrink}
 use Rattle.ntx_pack.specs.declared.glue_set.GlueSet.{GlueSet}
-use Rattle.ntx_pack.specs.Totals.{amount_in, total}
+use Rattle.ntx_item.specs.Sums.{amount_in, glue_total}
 use Rattle.ntx_pack.specs.GlueSet.{order_for, total_for, unset, shared, fully, is_overfull, glue_set}
 use Rattle.ntx_pack.specs.Output.{running, widened, set_sizes, sum_of}
-use Rattle.ntx_pack.proofs.OutputLemmas.{set_sizes_sum, signed_sum-cons}
+use Rattle.ntx_item.proofs.SumLemmas.{signed_sum-cons}
+use Rattle.ntx_pack.proofs.OutputLemmas.{set_sizes_sum}
 
 -- ---- exact fractions
 nearest_exact : (n d : ℕ) → nearest (n * suc d) (suc d) ≡ n
@@ -48,7 +49,7 @@ pub record Fills (glue : GlueSet) (items : List Item) (x : ℤ) : Type 0 where
   pub all : widened glue (running glue items) ≡ x
   pub none : widened glue (pos 0) ≡ pos 0
 
-stretches : (items : List Item) (order n : ℕ) (t : ℤ) → suc n ≤ 1000000000 → total Stretch order items ≡ t → (shared Stretch order (suc n) t).sign ≢ 0 → Fills (shared Stretch order (suc n) t) items (pos (suc n))
+stretches : (items : List Item) (order n : ℕ) (t : ℤ) → suc n ≤ 1000000000 → glue_total Stretch order items ≡ t → (shared Stretch order (suc n) t).sign ≢ 0 → Fills (shared Stretch order (suc n) t) items (pos (suc n))
 stretches items order n (pos zero) small e sign = absurd (sign refl)
 stretches items order n (pos (suc t)) small e sign = record {
   all = exact_pos _ (suc n) t small (ap (λ r. pos (suc n) *ℤ r) e);
@@ -67,7 +68,7 @@ sum_neg f (x ∷ xs) =
     let i : signed_sum (λ item. neg_ℤ (f item)) xs ≡ neg_ℤ (signed_sum f xs) = sum_neg f xs in
     omega (arith, ints)
 
-shrinks : (items : List Item) (order n : ℕ) (t : ℤ) → suc n ≤ 1000000000 → total Shrink order items ≡ t → (shared Shrink order (suc n) t).sign ≢ 0 → Fills (shared Shrink order (suc n) t) items (negsuc n)
+shrinks : (items : List Item) (order n : ℕ) (t : ℤ) → suc n ≤ 1000000000 → glue_total Shrink order items ≡ t → (shared Shrink order (suc n) t).sign ≢ 0 → Fills (shared Shrink order (suc n) t) items (negsuc n)
 shrinks items order n (pos zero) small e sign = absurd (sign refl)
 shrinks items order n (pos (suc t)) small e sign = record {
   all = exact_neg _ n t small (ap (λ r. pos (suc n) *ℤ r) (sum_neg (amount_in Shrink order) items ∙ ap neg_ℤ e));
@@ -129,7 +130,7 @@ all_shrinks items t r e is small = record {
   none = once (pos 0) (omega arith);
 }
 
-shrinks_fully : (items : List Item) (t : ℤ) → total Shrink 0 items ≡ t → unsigned_abs t ≤ 1000000000 → Fills (fully t) items (neg_ℤ t)
+shrinks_fully : (items : List Item) (t : ℤ) → glue_total Shrink 0 items ≡ t → unsigned_abs t ≤ 1000000000 → Fills (fully t) items (neg_ℤ t)
 shrinks_fully items (pos zero) e small = record { all = unset_part (running unset items); none = unset_part (pos 0) }
 shrinks_fully items (pos (suc t)) e small = all_shrinks items (pos (suc t)) _ (sum_neg (amount_in Shrink 0) items) (ap neg_ℤ e) small
 shrinks_fully items (negsuc t) e small = all_shrinks items (negsuc t) _ (sum_neg (amount_in Shrink 0) items) (ap neg_ℤ e) small
@@ -141,11 +142,11 @@ both_true false b e = cc
 never_short : (x : ℕ) → int_lt (pos x) (pos 0) ≡ true → ⊥
 never_short x e = grind (arith, ints)
 
-fully_filled : (size : Item → ℤ) (items : List Item) (x : ℤ) (order : ℕ) → order ≡ 0 → unsigned_abs (total Shrink order items) ≤ 1000000000
-    → sum_of (set_sizes size (fully (total Shrink order items)) (pos 0) items) ≡ signed_sum size items +ℤ neg_ℤ (total Shrink order items)
+fully_filled : (size : Item → ℤ) (items : List Item) (x : ℤ) (order : ℕ) → order ≡ 0 → unsigned_abs (glue_total Shrink order items) ≤ 1000000000
+    → sum_of (set_sizes size (fully (glue_total Shrink order items)) (pos 0) items) ≡ signed_sum size items +ℤ neg_ℤ (glue_total Shrink order items)
 fully_filled size items x order none small =
-    let t : ℤ = total Shrink order items in
-    filled size (fully t) items (neg_ℤ t) (shrinks_fully items t (ap (λ o. total Shrink o items) (sym none)) small)
+    let t : ℤ = glue_total Shrink order items in
+    filled size (fully t) items (neg_ℤ t) (shrinks_fully items t (ap (λ o. glue_total Shrink o items) (sym none)) small)
 
 pub overfull_lem : (size : Item → ℤ) (items : List Item) (x : ℤ) → is_overfull items x ≡ true → unsigned_abs (total_for items x) ≤ 1000000000 → sum_of (set_sizes size (glue_set items x) (pos 0) items) ≡ signed_sum size items +ℤ neg_ℤ (total_for items x)
 overfull_lem size [] x over small = cc

@@ -4,7 +4,6 @@ pub mod OutputLemmas
 pub mod CodeNumbers
 pub mod GlueLemmas
 pub mod PackedLemmas
-pub mod HeapItems
 pub mod BoxLemmas
 pub mod WalkLemmas
 pub mod BoxLists

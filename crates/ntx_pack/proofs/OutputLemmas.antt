@@ -1,22 +1,24 @@
 -- Sizes in output.
-use Rattle.std.proofs.Common.{◌≡◌, ℕ, ◌≤◌, ◌<◌, ℤ, pos, neg_ℤ, ◌+ℤ◌, ◌-ℤ◌, List, [], ◌∷◌, map, Bool, true, false, cond, take, fold, refl, sym, ◌∙◌, ap, arith}
+use Rattle.std.proofs.Common.{◌≡◌, ℕ, ◌≤◌, ◌<◌, ℤ, pos, neg_ℤ, ◌+ℤ◌, ◌-ℤ◌, List, [], ◌∷◌, ◌++◌, map, Bool, true, false, cond, take, refl, sym, ◌∙◌, ap, arith}
 use Rattle.std.specs.Prelude.{nat_eq}
 use Rattle.std.specs.Int.RustNames.{unsigned_abs}
 use Rattle.std.proofs.lemmas.Int.{ints}
 use Rattle.ntx_item.specs.declared.item.Item.{Item}
 use Rattle.ntx_item.specs.declared.item.Item.TheVariants.{Glue}
-use Rattle.ntx_item.specs.Items.{absolute_stretch, absolute_shrink, AreItemsInRange, signed_sum, max_total}
-use Rattle.ntx_pack.specs.declared.change.Change.{Change}
-use Rattle.ntx_pack.specs.declared.change.Change.TheVariants.{Stretch, Shrink}
+use Rattle.ntx_item.specs.Items.{absolute_stretch, absolute_shrink, AreItemsInRange, max_total}
+use Rattle.ntx_item.specs.Sums.{signed_sum}
+use Rattle.ntx_item.specs.declared.glue_change.GlueChange.{GlueChange}
+use Rattle.ntx_item.specs.declared.glue_change.GlueChange.TheVariants.{Stretch, Shrink}
 use Rattle.ntx_pack.specs.declared.glue_set.GlueSet.{GlueSet}
-use Rattle.ntx_pack.specs.Totals.{amount_in, total}
+use Rattle.ntx_item.specs.Sums.{amount_in}
 use Rattle.ntx_pack.specs.Output.{move, running, widened, set_size, set_sizes, sum_of}
 use Rattle.ntx_pack.specs.Laws.{IsGlue}
+use Rattle.ntx_item.proofs.SumLemmas.{signed_sum-cons}
 use Rattle.ntx_pack.proofs.TotalLemmas.{absolute_amount, amount_le, front_in_range}
 
 -- ---- running totals stay in range
 -- the change that a sign stands for, as far as bounds go
-abbrev bound_of : Bool → Change
+abbrev bound_of : Bool → GlueChange
 bound_of true = Stretch
 bound_of false = Shrink
 
@@ -36,7 +38,7 @@ sum_small : (a b : ℤ) → unsigned_abs a < 1000 → unsigned_abs b < 1000 → 
 sum_small a b p q = omega (arith, ints)
 
 -- a small total stays in range with one glue more
-amount_small : (change : Change) (item : Item) (n : ℕ) → absolute_stretch item < n → absolute_shrink item < n → absolute_amount change item < n
+amount_small : (change : GlueChange) (item : Item) (n : ℕ) → absolute_stretch item < n → absolute_shrink item < n → absolute_amount change item < n
 amount_small Stretch item n a b = a
 amount_small Shrink item n a b = b
 
@@ -47,25 +49,8 @@ small_total glue total item t a b =
     sum_small total (move glue item) t (omega arith)
 
 -- ---- sums of sizes
-sum_from : (f : Item → ℤ) (start : ℤ) (items : List Item) → fold (λ sum item. sum +ℤ f item) start items ≡ start +ℤ signed_sum f items
-sum_from f start [] = omega (arith, ints)
-sum_from f start (x ∷ xs) =
-    let a : fold (λ sum item. sum +ℤ f item) (start +ℤ f x) xs ≡ (start +ℤ f x) +ℤ signed_sum f xs = sum_from f (start +ℤ f x) xs in
-    let b : fold (λ sum item. sum +ℤ f item) (pos 0 +ℤ f x) xs ≡ (pos 0 +ℤ f x) +ℤ signed_sum f xs = sum_from f (pos 0 +ℤ f x) xs in
-    omega (arith, ints)
-
-sum_of_from : (start : ℤ) (sizes : List ℤ) → fold (λ sum size. sum +ℤ size) start sizes ≡ start +ℤ sum_of sizes
-sum_of_from start [] = omega (arith, ints)
-sum_of_from start (x ∷ xs) =
-    let a : fold (λ sum size. sum +ℤ size) (start +ℤ x) xs ≡ (start +ℤ x) +ℤ sum_of xs = sum_of_from (start +ℤ x) xs in
-    let b : fold (λ sum size. sum +ℤ size) (pos 0 +ℤ x) xs ≡ (pos 0 +ℤ x) +ℤ sum_of xs = sum_of_from (pos 0 +ℤ x) xs in
-    omega (arith, ints)
-
 pub sum_of-cons : (x : ℤ) (xs : List ℤ) → sum_of (x ∷ xs) ≡ x +ℤ sum_of xs
-sum_of-cons x xs = let b : fold (λ sum size. sum +ℤ size) (pos 0 +ℤ x) xs ≡ (pos 0 +ℤ x) +ℤ sum_of xs = sum_of_from (pos 0 +ℤ x) xs in omega (arith, ints)
-
-pub signed_sum-cons : (f : Item → ℤ) (x : Item) (xs : List Item) → signed_sum f (x ∷ xs) ≡ f x +ℤ signed_sum f xs
-signed_sum-cons f x xs = let b : fold (λ sum item. sum +ℤ f item) (pos 0 +ℤ f x) xs ≡ (pos 0 +ℤ f x) +ℤ signed_sum f xs = sum_from f (pos 0 +ℤ f x) xs in omega (arith, ints)
+sum_of-cons x xs = signed_sum-cons (λ y. y) x xs
 
 -- the roundings cancel, but for the last and the first
 telescope : (s m w0 w1 w2 rest sizes : ℤ) → rest ≡ sizes +ℤ (w2 -ℤ w1) → (s +ℤ (w1 -ℤ w0)) +ℤ rest ≡ (s +ℤ sizes) +ℤ (w2 -ℤ w0)
@@ -90,6 +75,15 @@ set_sizes_sum size glue g (x ∷ xs) =
     ∙ telescope (size x) g1 (widened glue g) (widened glue g1) (widened glue (g1 +ℤ running glue xs)) (sum_of (set_sizes size glue g1 xs)) (signed_sum size xs) rest
     ∙ ap (λ s. s +ℤ (widened glue (g1 +ℤ running glue xs) -ℤ widened glue g)) (sym (signed_sum-cons size x xs))
     ∙ ap (λ r. signed_sum size (x ∷ xs) +ℤ (widened glue r -ℤ widened glue g)) run
+
+-- one item more at the end
+pub set_sizes-push : (size : Item → ℤ) (glue : GlueSet) (g : ℤ) (items : List Item) (item : Item)
+    → set_sizes size glue g (items ++ item ∷ []) ≡ set_sizes size glue g items ++ set_size glue (g +ℤ running glue items) (size item) item ∷ []
+set_sizes-push size glue g [] item = ap (λ total. set_size glue total (size item) item ∷ []) (sym (plus_zero g))
+set_sizes-push size glue g (x ∷ xs) item =
+    ap (λ sizes. set_size glue g (size x) x ∷ sizes)
+    (set_sizes-push size glue (g +ℤ move glue x) xs item
+    ∙ ap (λ total. set_sizes size glue (g +ℤ move glue x) xs ++ set_size glue total (size item) item ∷ []) (assoc g (move glue x) (running glue xs) ∙ ap (λ r. g +ℤ r) (sym (signed_sum-cons (move glue) x xs))))
 
 -- ---- sizes that stay
 no_move : (glue : GlueSet) (item : Item) → glue.sign ≡ 0 → move glue item ≡ pos 0

@@ -1,16 +1,17 @@
 -- What packing decides of items.
 use Rattle.std.proofs.Common.{◌≡◌, ℕ, ◌≤◌, ℤ, pos, ◌+ℤ◌, ◌-ℤ◌, List, [], ◌∷◌, Bool, true, false, cond, Ok, subst, refl, sym, ◌∙◌, ap, arith}
-use Rattle.std.specs.Prelude.{nat_eq, ◌≢◌, Result, ◌&&◌}
+use Rattle.std.specs.Prelude.{nat_eq, ◌≢◌, ◌&&◌}
 use Rattle.std.specs.Int.RustNames.{unsigned_abs}
 use Rattle.std.proofs.lemmas.Int.{ints}
 use Rattle.ntx_num.specs.Answer.{result_map}
 use Rattle.ntx_num.specs.declared.size.Size.{Size}
 use Rattle.ntx_nodes.specs.declared.trouble.Trouble.{Trouble}
-use Rattle.ntx_nodes.proofs.Oks.{went_Ok, mapped_Ok, taken}
+use Rattle.ntx_num.proofs.Answers.{same_Ok, went_Ok, mapped_Ok, taken}
 use Rattle.ntx_item.specs.declared.item.Item.{Item}
 use Rattle.ntx_item.specs.declared.pack_to.PackTo.{PackTo}
-use Rattle.ntx_item.specs.Items.{signed_sum}
-use Rattle.ntx_view.specs.Natural.{natural_width, hlist_size}
+use Rattle.ntx_item.specs.Sums.{signed_sum}
+use Rattle.ntx_view.specs.Natural.{hlist_size}
+use Rattle.ntx_item.specs.Sums.{natural_width}
 use Rattle.ntx_pack.specs.declared.direction.Direction.{Direction}
 use Rattle.ntx_pack.specs.declared.direction.Direction.TheVariants.{Horizontal, Vertical}
 use Rattle.ntx_pack.specs.declared.packed.Packed.{Packed}
@@ -18,39 +19,39 @@ use Rattle.ntx_pack.specs.declared.glue_set.GlueSet.{GlueSet}
 use Rattle.ntx_pack.specs.Vertical.{extent, vlist_depth, vlist_size}
 use Rattle.ntx_pack.specs.GlueSet.{order_for, total_for, is_overfull_by, is_overfull, glue_set, badness_for}
 use Rattle.ntx_pack.specs.Output.{set_sizes, set_widths, set_heights, sum_of}
-use Rattle.ntx_pack.specs.Pack.{is_dimension, within, natural_size, along, with_along, wished, packed_into, packed}
+use Rattle.ntx_pack.specs.Pack.{checked_size, natural_size, along, with_along, target_size, packed_into, packed}
+use Rattle.ntx_num.specs.Dimension.{is_dimension}
 use Rattle.ntx_pack.specs.Laws.{IsNatural}
 use Rattle.ntx_pack.proofs.GlueLemmas.{set_sizes_add_up_lem}
 
-same_size : (size found : Size) → within size ≡ Ok found → size ≡ found
+same_size : (size found : Size) → checked_size size ≡ Ok found → size ≡ found
 same_size size found e =
     let t = taken ((is_dimension size.w && is_dimension size.h) && is_dimension size.d) _ (Ok size) found e in
-    let ok : ◌≡◌ {A = Result Size Trouble} (Ok size) (Ok found) = t.1 in
-    cc
+    same_Ok {E = Trouble} size found t.1
 
 -- ---- size, glue and badness of a box
 pub record IsDecided (direction : Direction) (to : PackTo) (items : List Item) (box : Packed) : Type 0 where
-  pub size : box.size ≡ with_along direction (wished to (along direction (natural_size direction items))) (natural_size direction items)
+  pub size : box.size ≡ with_along direction (target_size to (along direction (natural_size direction items))) (natural_size direction items)
   pub glue : box.glue ≡ glue_set items (along direction box.size -ℤ along direction (natural_size direction items))
   pub badness : box.badness ≡ pos (badness_for items (along direction box.size -ℤ along direction (natural_size direction items)))
 
-decided_from : (direction : Direction) (to : PackTo) (items : List Item) (natural size : Size) (box : Packed) → natural_size direction items ≡ natural → with_along direction (wished to (along direction natural)) natural ≡ size
+decided_from : (direction : Direction) (to : PackTo) (items : List Item) (natural size : Size) (box : Packed) → natural_size direction items ≡ natural → with_along direction (target_size to (along direction natural)) natural ≡ size
     → packed_into direction items natural size ≡ box → IsDecided direction to items box
 decided_from direction to items natural size box n s e =
     let b : box.size ≡ size = ap (λ (x : Packed). x.size) (sym e) in
     let short : along direction size -ℤ along direction natural ≡ along direction box.size -ℤ along direction (natural_size direction items) = λ j. along direction (sym b j) -ℤ along direction (sym n j) in
     record {
-      size = b ∙ sym s ∙ (λ j. with_along direction (wished to (along direction (sym n j))) (sym n j));
+      size = b ∙ sym s ∙ (λ j. with_along direction (target_size to (along direction (sym n j))) (sym n j));
       glue = ap (λ (x : Packed). x.glue) (sym e) ∙ ap (glue_set items) short;
       badness = ap (λ (x : Packed). x.badness) (sym e) ∙ ap (λ x. pos (badness_for items x)) short;
     }
 
 pub decided : (direction : Direction) (to : PackTo) (items : List Item) (box : Packed) → packed direction to items ≡ Ok box → IsDecided direction to items box
 decided direction to items box e =
-    let first = went_Ok (λ natural. result_map (packed_into direction items natural) (within (with_along direction (wished to (along direction natural)) natural))) (within (natural_size direction items)) box e in
+    let first = went_Ok (λ natural. result_map (packed_into direction items natural) (checked_size (with_along direction (target_size to (along direction natural)) natural))) (checked_size (natural_size direction items)) box e in
     let natural : Size = first.value in
-    let second = mapped_Ok (packed_into direction items natural) (within (with_along direction (wished to (along direction natural)) natural)) box first.gives in
-    decided_from direction to items natural second.value box (same_size (natural_size direction items) natural first.is) (same_size (with_along direction (wished to (along direction natural)) natural) second.value second.is) second.gives
+    let second = mapped_Ok (packed_into direction items natural) (checked_size (with_along direction (target_size to (along direction natural)) natural)) box first.gives in
+    decided_from direction to items natural second.value box (same_size (natural_size direction items) natural first.is) (same_size (with_along direction (target_size to (along direction natural)) natural) second.value second.is) second.gives
 
 -- ---- a box of natural size
 with_own : (direction : Direction) (size : Size) → with_along direction (along direction size) size ≡ size
@@ -68,8 +69,8 @@ never_bad (x ∷ xs) = same_branch (nat_eq (order_for (x ∷ xs) (pos 0)) 0)
 minus_same : (a b : ℤ) → a ≡ b → a -ℤ b ≡ pos 0
 minus_same a b e = omega (arith, ints)
 
--- where the size that is wished for is the natural one
-pub unset_if : (direction : Direction) (to : PackTo) (items : List Item) (box : Packed) → wished to (along direction (natural_size direction items)) ≡ along direction (natural_size direction items) → packed direction to items ≡ Ok box → IsNatural direction items box
+-- where the size that is target_size for is the natural one
+pub unset_if : (direction : Direction) (to : PackTo) (items : List Item) (box : Packed) → target_size to (along direction (natural_size direction items)) ≡ along direction (natural_size direction items) → packed direction to items ≡ Ok box → IsNatural direction items box
 unset_if direction to items box wish e =
     let n : Size = natural_size direction items in
     let is = decided direction to items box e in

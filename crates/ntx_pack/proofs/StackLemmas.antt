@@ -7,14 +7,17 @@ use Rattle.std.proofs.lemmas.Int.{ints, clamps}
 use Rattle.std.proofs.lemmas.List.{length-take}
 use Rattle.std.proofs.lemmas.List.Elements.{All-head, All-tail, All-weaker, All-take}
 use Rattle.std.proofs.lemmas.List.Sums.{fold_more, fold_push}
-use Rattle.ntx_num.specs.Dimension.{max_dimension}
+use Rattle.ntx_num.specs.Dimension.{IsDimension}
 use Rattle.ntx_num.specs.declared.size.Size.{Size}
 use Rattle.ntx_item.specs.declared.item.Item.{Item}
 use Rattle.ntx_item.specs.declared.item.Item.TheVariants.{Box, Glyph, Rule, Glue, Kern, Penalty, Disc}
-use Rattle.ntx_item.specs.Items.{signed_sum, max_items}
+use Rattle.ntx_item.specs.Items.{max_items}
+use Rattle.ntx_item.specs.Sums.{signed_sum}
 use Rattle.ntx_view.specs.Natural.{greatest}
+use Rattle.ntx_item.proofs.SumLemmas.{absolute_sum}
 use Rattle.ntx_view.proofs.Sizes.{greatest_within}
-use Rattle.ntx_pack.specs.Vertical.{extent, reach_right, depth_after, vlist_depth, vlist_size, stacked, IsMeasured}
+use Rattle.ntx_pack.specs.Vertical.{extent, reach_right, depth_after, vlist_depth, vlist_size, stacked}
+use Rattle.ntx_view.specs.Measured.{IsMeasured}
 
 -- ---- one item more
 -- the size of a list with one item more, by its parts
@@ -23,10 +26,6 @@ size_then w e d item = record { w = int_max w (reach_right item); h = (e +ℤ ex
 
 abbrev pub size_so_far : ℤ → ℤ → ℤ → Size
 size_so_far w e d = record { w = w; h = e -ℤ d; d = d }
-
--- a width is no less than 0
-abbrev IsWidth : ℤ → Type 0
-IsWidth w = int_max w (pos 0) ≡ w
 
 pub stacked_is : (w e d : ℤ) (item : Item) → int_max w (pos 0) ≡ w → size_then w e d item ≡ stacked (size_so_far w e d) item
 stacked_is w e d (Box size shift) h = let x : (e +ℤ (size.h +ℤ size.d)) -ℤ size.d ≡ ((e -ℤ d) +ℤ d) +ℤ size.h = omega (arith, ints) in λ i. record { w = int_max w (size.w +ℤ shift); h = x i; d = size.d }
@@ -66,8 +65,8 @@ vlist_size-push items item =
 
 -- ---- bounds
 extent_le : (item : Item) → IsMeasured item → unsigned_abs (extent item) ≤ 2 ^ 31
-extent_le (Box size shift) m = let h : unsigned_abs size.h ≤ max_dimension = m.0.height in let d : unsigned_abs size.d ≤ max_dimension = m.0.depth in omega (arith, ints)
-extent_le (Rule size) m = let h : unsigned_abs size.h ≤ max_dimension = m.height in let d : unsigned_abs size.d ≤ max_dimension = m.depth in omega (arith, ints)
+extent_le (Box size shift) m = let h : IsDimension size.h = m.0.height in let d : IsDimension size.d = m.0.depth in omega (arith, ints)
+extent_le (Rule size) m = let h : IsDimension size.h = m.height in let d : IsDimension size.d = m.depth in omega (arith, ints)
 extent_le (Glue spec) m = omega (arith, ints)
 extent_le (Kern w font) m = omega (arith, ints)
 extent_le (Glyph size) m = omega (arith, ints)
@@ -75,8 +74,8 @@ extent_le (Penalty p) m = omega (arith, ints)
 extent_le (Disc pre post replace pre_empty post_empty regular) m = omega (arith, ints)
 
 reach_le : (item : Item) → IsMeasured item → unsigned_abs (reach_right item) ≤ 2 ^ 31
-reach_le (Box size shift) m = let h : unsigned_abs size.w ≤ max_dimension = m.0.width in let d : unsigned_abs shift ≤ max_dimension = m.1 in omega (arith, ints)
-reach_le (Rule size) m = let h : unsigned_abs size.w ≤ max_dimension = m.width in omega (arith, ints)
+reach_le (Box size shift) m = let h : IsDimension size.w = m.0.width in let d : IsDimension shift = m.1 in omega (arith, ints)
+reach_le (Rule size) m = let h : IsDimension size.w = m.width in omega (arith, ints)
 reach_le (Glue spec) m = omega (arith, ints)
 reach_le (Kern w font) m = omega (arith, ints)
 reach_le (Glyph size) m = omega (arith, ints)
@@ -84,8 +83,8 @@ reach_le (Penalty p) m = omega (arith, ints)
 reach_le (Disc pre post replace pre_empty post_empty regular) m = omega (arith, ints)
 
 after_le : (item : Item) (d : ℤ) → IsMeasured item → unsigned_abs d ≤ 2 ^ 31 → unsigned_abs (depth_after d item) ≤ 2 ^ 31
-after_le (Box size shift) d m h = let b : unsigned_abs size.d ≤ max_dimension = m.0.depth in omega (arith, ints)
-after_le (Rule size) d m h = let b : unsigned_abs size.d ≤ max_dimension = m.depth in omega (arith, ints)
+after_le (Box size shift) d m h = let b : IsDimension size.d = m.0.depth in omega (arith, ints)
+after_le (Rule size) d m h = let b : IsDimension size.d = m.depth in omega (arith, ints)
 after_le (Glue spec) d m h = omega (arith, ints)
 after_le (Kern w font) d m h = omega (arith, ints)
 after_le (Glyph size) d m h = h
@@ -102,15 +101,12 @@ depth_le items all = depth_from (pos 0) items (omega arith) all
 pub width_le : (items : List Item) → All IsMeasured items → unsigned_abs (greatest reach_right items) ≤ 2 ^ 31
 width_le items all = greatest_within reach_right (2 ^ 31) items (All-weaker IsMeasured (λ item. unsigned_abs (reach_right item) ≤ 2 ^ 31) reach_le items all)
 
-sum_abs : (a b : ℤ) → unsigned_abs (a +ℤ b) ≤ unsigned_abs a + unsigned_abs b
-sum_abs a b = omega (arith, ints)
-
 extents_from : (start : ℤ) (items : List Item) → All IsMeasured items → unsigned_abs (fold (λ sum item. sum +ℤ extent item) start items) ≤ unsigned_abs start + 2 ^ 31 * length items
 extents_from start [] all = omega arith
 extents_from start (x ∷ xs) all =
     let rest : unsigned_abs (fold (λ sum item. sum +ℤ extent item) (start +ℤ extent x) xs) ≤ unsigned_abs (start +ℤ extent x) + 2 ^ 31 * length xs = extents_from (start +ℤ extent x) xs (All-tail IsMeasured x xs all) in
     let one : unsigned_abs (extent x) ≤ 2 ^ 31 = extent_le x (All-head IsMeasured x xs all) in
-    let both : unsigned_abs (start +ℤ extent x) ≤ unsigned_abs start + unsigned_abs (extent x) = sum_abs start (extent x) in
+    let both : unsigned_abs (start +ℤ extent x) ≤ unsigned_abs start + unsigned_abs (extent x) = absolute_sum start (extent x) in
     omega arith
 
 pub extents_le : (items : List Item) → length items ≤ max_items → All IsMeasured items → unsigned_abs (signed_sum extent items) ≤ 2 ^ 49

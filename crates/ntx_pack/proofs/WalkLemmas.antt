@@ -1,14 +1,15 @@
 -- Walks through a heap with one node more, to which nothing leads.
 use Rattle.std.proofs.Common.{◌≡◌, ℕ, zero, suc, ◌+◌, ◌<◌, List, [], ◌∷◌, ◌++◌, true, false, cond, Some, None, Ok, Err, refl, sym, ◌∙◌, ap, subst}
-use Rattle.std.specs.Prelude.{Option, Result, not, nat_eq, nat_lt, ◌||◌}
+use Rattle.std.specs.Prelude.{Option, Result, not, nat_eq, ◌||◌}
 use Rattle.std.specs.FinMap as fin
 use Rattle.ntx_num.specs.Answer.{result_map}
 use Rattle.ntx_nodes.specs.Fields.{kind_of, field_of}
 use Rattle.ntx_nodes.specs.Heap.{Heap, IsLawful, is_live}
 use Rattle.ntx_nodes.specs.Steps.{of_found}
-use Rattle.ntx_nodes.specs.Walk.{inner_lists, is_reached, max_depth, admits, entered, node_reached, in_turn, enter, walk, turns_of, walk_from}
+use Rattle.ntx_nodes.specs.Walk.{inner_lists, no_lists, is_reached, is_too_deep, admits, entered, node_reached, in_turn, enter, walk, turns_of, walk_from}
 use Rattle.ntx_nodes.specs.WalkLaws.{AreFresh}
 use Rattle.ntx_nodes.specs.declared.kind.ListKind.{ListKind}
+use Rattle.ntx_nodes.specs.declared.inner.InnerLists.{InnerLists}
 use Rattle.ntx_nodes.specs.declared.kind.Way.{Way}
 use Rattle.ntx_nodes.specs.declared.kind.Way.TheVariants.{Checked, Plain, Flat}
 use Rattle.ntx_nodes.specs.declared.field.Field.{Field}
@@ -30,9 +31,14 @@ use Rattle.std.proofs.lemmas.Bool.{eqb-true}
 abbrev pub IsBelow : ℕ → Option ℕ → Type 0
 IsBelow next to = (m : ℕ) → to ≡ Some m → m < next
 
-abbrev pub AreBelow : ℕ → List (Option ℕ × ListKind) → Type 0
-AreBelow next [] = Unit {0}
-AreBelow next (l ∷ ls) = IsBelow next l.0 × AreBelow next ls
+abbrev pub AreBelow : ℕ → InnerLists → Type 0
+AreBelow next lists = IsBelow next lists.first × IsBelow next lists.second × IsBelow next lists.third
+
+nothing_below : (next : ℕ) → IsBelow next None
+nothing_below next m e = cc
+
+no_lists_below : (next : ℕ) → AreBelow next no_lists
+no_lists_below next = (nothing_below next, nothing_below next, nothing_below next)
 
 -- what is known of the links in the fields of a kind
 abbrev LinksBelow : ℕ → ℕ → Option ℕ → Contents → Type 0
@@ -42,22 +48,19 @@ linked : (to : Option ℕ) (m : ℕ) → to ≡ Some m → ◌≡◌ {A = Result
 linked to m e = ap (λ o. Ok (Link o)) e
 
 inner_below : (next subtype : ℕ) (to : Option ℕ) (c : Contents) → LinksBelow next subtype to c → AreBelow next (inner_lists c)
-inner_below next subtype to (contents.Hlist b) h = (λ m e. h field.List m (linked b.list m e), tt)
-inner_below next subtype to (contents.Vlist b) h = (λ m e. h field.List m (linked b.list m e), tt)
-inner_below next subtype to (contents.Disc d) h = (λ m e. h field.Pre m (linked d.pre m e), (λ m e. h field.Post m (linked d.post m e), (λ m e. h field.Replace m (linked d.replace m e), tt)))
-inner_below next subtype to (contents.Rule r) h = tt
-inner_below next subtype to (contents.Glue g) h = tt
-inner_below next subtype to (contents.Kern w) h = tt
-inner_below next subtype to (contents.Penalty p) h = tt
-inner_below next subtype to (contents.Glyph g) h = tt
-
-none_below : (next : ℕ) → AreBelow next []
-none_below next = tt
+inner_below next subtype to (contents.Hlist b) h = (λ m e. h field.List m (linked b.list m e), nothing_below next, nothing_below next)
+inner_below next subtype to (contents.Vlist b) h = (λ m e. h field.List m (linked b.list m e), nothing_below next, nothing_below next)
+inner_below next subtype to (contents.Disc d) h = (λ m e. h field.Pre m (linked d.pre m e), λ m e. h field.Post m (linked d.post m e), λ m e. h field.Replace m (linked d.replace m e))
+inner_below next subtype to (contents.Rule r) h = no_lists_below next
+inner_below next subtype to (contents.Glue g) h = no_lists_below next
+inner_below next subtype to (contents.Kern w) h = no_lists_below next
+inner_below next subtype to (contents.Penalty p) h = no_lists_below next
+inner_below next subtype to (contents.Glyph g) h = no_lists_below next
 
 entered_below : (way : Way) (next subtype : ℕ) (to : Option ℕ) (c : Contents) → LinksBelow next subtype to c → AreBelow next (entered way c)
 entered_below Checked next subtype to c h = inner_below next subtype to c h
 entered_below Plain next subtype to c h = inner_below next subtype to c h
-entered_below Flat next subtype to c h = tt
+entered_below Flat next subtype to c h = no_lists_below next
 
 -- the links of a live node
 pub links_below : (heap : Heap) (way : Way) (n : ℕ) (node : Node) → IsLawful heap → fin.get heap.nodes n ≡ Some node → AreBelow heap.next (entered way node.fields.contents)
@@ -75,15 +78,15 @@ pub record Agree (heap new : Heap) : Type 0 where
 
 reached_same : (heap new : Heap) (way : Way) (r : List ℕ) (n d : ℕ) (k : ListKind) → Agree heap new → n < heap.next → node_reached new way r n d k ≡ node_reached heap way r n d k
 reached_same heap new way r n d k agree lt =
-    ap (of_found n (λ (node : Node). cond (is_reached r n) (Err (Loop n)) (cond (nat_lt max_depth d) (Err Nest) (cond (not (admits way k (kind_of node.fields.contents))) (Err (WrongKind n)) (Ok node))))) (agree.get n lt)
+    ap (of_found n (λ (node : Node). cond (is_reached r n) (Err (Loop n)) (cond (is_too_deep way d) (Err Nest) (cond (not (admits way k (kind_of node.fields.contents))) (Err (WrongKind n)) (Ok node))))) (agree.get n lt)
 
 abbrev Turn : Type 0
 Turn = List ℕ → Option ℕ → ListKind → Result (List ℕ) Trouble
 
-turns_same : (next : ℕ) (f g : Turn) → ((r : List ℕ) (to : Option ℕ) (k : ListKind) → IsBelow next to → f r to k ≡ g r to k) → (r : List ℕ) (ls : List (Option ℕ × ListKind)) → AreBelow next ls → in_turn f r ls ≡ in_turn g r ls
-turns_same next f g same r [] below = refl
-turns_same next f g same r (l ∷ ls) below =
-    then_same (f r l.0 l.1) (g r l.0 l.1) (λ b. in_turn f b ls) (λ b. in_turn g b ls) (same r l.0 l.1 below.0) (λ b is. turns_same next f g same b ls below.1)
+turns_same : (next : ℕ) (f g : Turn) → ((r : List ℕ) (to : Option ℕ) (k : ListKind) → IsBelow next to → f r to k ≡ g r to k) → (r : List ℕ) (l : InnerLists) → AreBelow next l → in_turn f r l ≡ in_turn g r l
+turns_same next f g same r l below =
+    then_same (f r l.first l.kind) (g r l.first l.kind) _ _ (same r l.first l.kind below.0) (λ a one.
+    then_same (f a l.second l.kind) (g a l.second l.kind) _ _ (same a l.second l.kind below.1) (λ b two. same b l.third l.kind below.2))
 
 pub walk_same : (heap new : Heap) (way : Way) → IsLawful heap → Agree heap new → (turns : ℕ) (r : List ℕ) (to : Option ℕ) (d : ℕ) (k : ListKind) → IsBelow heap.next to → walk new way turns r to d k ≡ walk heap way turns r to d k
 walk_same heap new way lawful agree zero r to d k below = refl

@@ -1,34 +1,34 @@
 -- Laws of packing ("TeX: The Program", sections 625, 634 and 649 to 679).
 --     VerticalListsStack       the height and depth of a vertical list grow as TeX builds them
---     BoxesAreSized            a box has the size that was wished for, and its other two sizes from its list
+--     BoxesAreSized            a box has the size that was target_size for, and its other two sizes from its list
 --     NaturalBoxesAreUnset     a box of the natural size of its list leaves its glue alone
+--     SetSizesGrow             in output an item more at the end has its size from the running total before it
 --     SetSizesAddUp            in output items are together larger by the shortfall, where glue makes up for it, of at most 10^9
 --     BoxesAreFilled           so the items of a box fill it
 --     OverfullBoxesShrinkFully in an overfull box they are smaller by all that its glue can shrink
 --     OtherSizesStay           in output only glue changes its size, and none where it is not set
 --     TotalsStayBounded        the running totals of output stay in range
---     HeapsAreMeasured         the boxes, rules, glue and kerns of every heap have sizes within TeX's largest dimension
 --     BoxesHoldTheirLists      a packed box is as its list is packed, and holds that list
-use Rattle.std.specs.Prelude.{◌≡◌, ◌≢◌, ◌≤◌, ℕ, ℤ, pos, neg_ℤ, ◌+ℤ◌, ◌-ℤ◌, unsigned_abs, true, false, List, [], ◌∷◌, ◌++◌, map, take, Option, Some, Ok, All}
+use Rattle.std.specs.Prelude.{◌≡◌, ◌≢◌, ◌≤◌, ℕ, ℤ, pos, neg_ℤ, ◌+ℤ◌, ◌-ℤ◌, unsigned_abs, true, false, List, [], ◌∷◌, ◌++◌, map, take, Option, Some, Ok}
 use Rattle.std.specs.FinMap as fin
 use Rattle.ntx_nodes.specs.Heap.{Heap, IsLawful}
-use Rattle.ntx_nodes.specs.declared.kind.ListKind.{ListKind}
 use Rattle.ntx_tfm.specs.Font.{FontTables}
 use Rattle.ntx_item.specs.declared.item.Item.{Item}
 use Rattle.ntx_item.specs.declared.item.Item.TheVariants.{Glue}
 use Rattle.ntx_item.specs.declared.pack_to.PackTo.{PackTo}
 use Rattle.ntx_item.specs.declared.pack_to.PackTo.TheVariants.{Exactly, Additional}
-use Rattle.ntx_item.specs.Items.{AreItemsInRange, signed_sum, max_total}
+use Rattle.ntx_item.specs.Items.{AreItemsInRange, max_total}
+use Rattle.ntx_item.specs.Sums.{signed_sum}
 use Rattle.ntx_view.specs.Natural.{hlist_size}
 use Rattle.ntx_view.specs.View.{items_answer}
 use Rattle.ntx_pack.specs.declared.direction.Direction.{Direction}
 use Rattle.ntx_pack.specs.declared.direction.Direction.TheVariants.{Horizontal, Vertical}
 use Rattle.ntx_pack.specs.declared.packed.Packed.{Packed}
 use Rattle.ntx_pack.specs.declared.glue_set.GlueSet.{GlueSet}
-use Rattle.ntx_pack.specs.Vertical.{vlist_size, stacked, IsMeasured}
+use Rattle.ntx_pack.specs.Vertical.{vlist_size, stacked}
 use Rattle.ntx_pack.specs.GlueSet.{total_for, glue_set, is_overfull, unset}
 use Rattle.ntx_pack.specs.Output.{running, set_size, set_sizes, set_widths, set_heights, sum_of}
-use Rattle.ntx_pack.specs.Pack.{natural_size, along, with_along, wished, packed, box_node, list_kind, pack_step}
+use Rattle.ntx_pack.specs.Pack.{natural_size, along, with_along, target_size, packed, box_node, list_kind, pack_step}
 
 -- ---- sizes
 
@@ -37,7 +37,7 @@ VerticalListsStack = (items : List Item) (item : Item) → vlist_size (items ++ 
 
 abbrev pub BoxesAreSized : Type 0
 BoxesAreSized = (direction : Direction) (to : PackTo) (items : List Item) (box : Packed) → packed direction to items ≡ Ok box →
-    box.size ≡ with_along direction (wished to (along direction (natural_size direction items))) (natural_size direction items)
+    box.size ≡ with_along direction (target_size to (along direction (natural_size direction items))) (natural_size direction items)
 
 pub record IsNatural (direction : Direction) (items : List Item) (box : Packed) : Type 0 where
   pub size : box.size ≡ natural_size direction items
@@ -50,6 +50,11 @@ pub record NaturalBoxesAreUnset : Type 0 where
   pub additional : (direction : Direction) (items : List Item) (box : Packed) → packed direction (Additional (pos 0)) items ≡ Ok box → IsNatural direction items box
 
 -- ---- output
+
+-- One item more at the end, from any running total on.
+abbrev pub SetSizesGrow : Type 0
+SetSizesGrow = (size : Item → ℤ) (glue : GlueSet) (g : ℤ) (items : List Item) (item : Item) →
+    set_sizes size glue g (items ++ item ∷ []) ≡ set_sizes size glue g items ++ set_size glue (g +ℤ running glue items) (size item) item ∷ []
 
 -- Whatever sizes the items have of their own, in output they are together larger by the shortfall, if some glue makes up for it. A shortfall above
 -- 10 ^ 9, where rounded multiples are cut off, is not spoken of.
@@ -83,16 +88,13 @@ TotalsStayBounded = (glue : GlueSet) (items : List Item) (k : ℕ) → AreItemsI
 
 -- ---- heaps
 
-abbrev pub HeapsAreMeasured : Type 0
-HeapsAreMeasured = (heap : Heap) (fonts : List FontTables) (head : Option ℕ) (k : ListKind) (items : List Item) → IsLawful heap → items_answer heap fonts head k ≡ Ok items → All IsMeasured items
-
 -- The box stands in the new heap, as its list's items are packed and over that list, and the list has the items that it had.
 pub record HoldsItsList (direction : Direction) (fonts : List FontTables) (head : Option ℕ) (to : PackTo) (heap new : Heap) (n : ℕ) (badness : ℤ) : Type 0 where
   pub items : List Item
   pub box : Packed
   pub before : items_answer heap fonts head (list_kind direction) ≡ Ok items
   pub decided : packed direction to items ≡ Ok box
-  pub told : badness ≡ box.badness
+  pub badness_is : badness ≡ box.badness
   pub made : fin.get new.nodes n ≡ Some (box_node direction head box)
   pub after : items_answer new fonts head (list_kind direction) ≡ Ok items
 

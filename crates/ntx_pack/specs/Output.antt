@@ -2,14 +2,14 @@
 --     set_widths glue items    the widths of the items of an hlist whose glue is set so
 --     set_heights glue items   the heights and depths together of the items of a vlist
 -- The stretch or shrink of all glue up to a place is one rounded multiple of the ratio, and one glue has the difference: roundings do not add up.
-use Rattle.std.specs.Prelude.{◌≤◌, ◌^◌, ℤ, pos, ◌+ℤ◌, ◌-ℤ◌, neg_ℤ, ◌<ℤ◌, unsigned_abs, nat_eq, if◌then◌else◌, List, [], ◌∷◌, fold}
+use Rattle.std.specs.Prelude.{◌≤◌, ◌^◌, ℤ, pos, ◌+ℤ◌, ◌-ℤ◌, neg_ℤ, ◌<ℤ◌, unsigned_abs, nat_eq, if◌then◌else◌, List, [], ◌∷◌}
 use Rattle.ntx_num.specs.Ratio.{rounded_part}
 use Rattle.ntx_item.specs.declared.item.Item.{Item}
-use Rattle.ntx_item.specs.Items.{signed_sum}
-use Rattle.ntx_view.specs.Natural.{natural_width}
-use Rattle.ntx_pack.specs.declared.change.Change.TheVariants.{Stretch, Shrink}
+use Rattle.ntx_item.specs.Sums.{signed_sum}
+use Rattle.ntx_item.specs.Sums.{natural_width}
+use Rattle.ntx_item.specs.declared.glue_change.GlueChange.TheVariants.{Stretch, Shrink}
 use Rattle.ntx_pack.specs.declared.glue_set.GlueSet.{GlueSet}
-use Rattle.ntx_pack.specs.Totals.{amount_in}
+use Rattle.ntx_item.specs.Sums.{amount_in}
 use Rattle.ntx_pack.specs.Vertical.{extent}
 
 -- How an item moves the running total: a glue of the order that is set by its stretch, or by minus its shrink.
@@ -43,7 +43,7 @@ abbrev pub set_heights : GlueSet → List Item → List ℤ
 set_heights glue items = set_sizes extent glue (pos 0) items
 
 abbrev pub sum_of : List ℤ → ℤ
-sum_of sizes = fold (λ sum size. sum +ℤ size) (pos 0) sizes
+sum_of sizes = signed_sum (λ size. size) sizes
 
 -- a ratio in the range of rounding
 pub record IsRatio (glue : GlueSet) : Type 0 where

@@ -4,20 +4,19 @@
 --     dimensions_answer            the natural size of a list as an hlist
 -- A list is refused with Dimension where its natural width, height or depth, or the size that its box is to have, is beyond TeX's largest dimension
 -- in absolute value.
-use Rattle.std.specs.Prelude.{ℕ, ℤ, pos, neg_ℤ, ◌+ℤ◌, ◌-ℤ◌, int_le, Bool, ◌&&◌, if◌then◌else◌, List, Option, None, Result, Ok, Err}
+use Rattle.std.specs.Prelude.{ℕ, ℤ, pos, ◌+ℤ◌, ◌-ℤ◌, ◌&&◌, if◌then◌else◌, List, Option, None, Result, Ok, Err}
 use Rattle.std.specs.FinMap as map
 use Rattle.ntx_num.specs.Answer.{result_map, result_and_then}
-use Rattle.ntx_num.specs.Dimension.{max_dimension}
+use Rattle.ntx_num.specs.Dimension.{is_dimension}
 use Rattle.ntx_num.specs.declared.size.Size.{Size}
 use Rattle.ntx_nodes.specs.Heap.{Heap}
 use Rattle.ntx_nodes.specs.Steps.{making}
-use Rattle.ntx_nodes.specs.declared.kind.Kind.{Kind}
-use Rattle.ntx_nodes.specs.declared.kind.Kind.TheVariants as kind
 use Rattle.ntx_nodes.specs.declared.kind.ListKind.{ListKind}
 use Rattle.ntx_nodes.specs.declared.kind.ListKind.TheVariants.{H, V}
 use Rattle.ntx_nodes.specs.declared.contents.BoxFields.{BoxFields}
 use Rattle.ntx_nodes.specs.declared.fields.Contents.{Contents}
 use Rattle.ntx_nodes.specs.declared.fields.Contents.TheVariants.{Hlist, Vlist}
+use Rattle.ntx_nodes.specs.declared.fields.Fields.{Fields}
 use Rattle.ntx_nodes.specs.declared.node.Node.{Node}
 use Rattle.ntx_nodes.specs.declared.trouble.Trouble.{Trouble}
 use Rattle.ntx_nodes.specs.declared.trouble.Trouble.TheVariants.{Dimension}
@@ -35,12 +34,9 @@ use Rattle.ntx_pack.specs.GlueSet.{glue_set, badness_for}
 
 -- ---- sizes
 
-abbrev pub is_dimension : ℤ → Bool
-is_dimension x = int_le (neg_ℤ (pos max_dimension)) x && int_le x (pos max_dimension)
-
 -- this size, if no part of it is too great
-abbrev pub within : Size → Result Size Trouble
-within size = if (is_dimension size.w && is_dimension size.h) && is_dimension size.d then Ok size else Err Dimension
+abbrev pub checked_size : Size → Result Size Trouble
+checked_size size = if (is_dimension size.w && is_dimension size.h) && is_dimension size.d then Ok size else Err Dimension
 
 abbrev pub natural_size : Direction → List Item → Size
 natural_size Horizontal items = hlist_size items
@@ -56,9 +52,9 @@ with_along Horizontal x size = record size { w = x }
 with_along Vertical x size = record size { h = x }
 
 -- the size that a box is to have there
-abbrev pub wished : PackTo → ℤ → ℤ
-wished (Exactly size) natural = size
-wished (Additional more) natural = natural +ℤ more
+abbrev pub target_size : PackTo → ℤ → ℤ
+target_size (Exactly size) natural = size
+target_size (Additional more) natural = natural +ℤ more
 
 -- ---- boxes
 
@@ -70,8 +66,8 @@ packed_into direction items natural size =
 
 abbrev pub packed : Direction → PackTo → List Item → Result Packed Trouble
 packed direction to items =
-    result_and_then (within (natural_size direction items)) (λ natural.
-    result_map (packed_into direction items natural) (within (with_along direction (wished to (along direction natural)) natural)))
+    result_and_then (checked_size (natural_size direction items)) (λ natural.
+    result_map (packed_into direction items natural) (checked_size (with_along direction (target_size to (along direction natural)) natural)))
 
 abbrev pub box_fields : Option ℕ → Packed → BoxFields
 box_fields head box = record {
@@ -90,13 +86,12 @@ abbrev pub box_contents : Direction → BoxFields → Contents
 box_contents Horizontal b = Hlist b
 box_contents Vertical b = Vlist b
 
-abbrev pub box_kind : Direction → Kind
-box_kind Horizontal = kind.Hlist
-box_kind Vertical = kind.Vlist
-
 -- a box of subtype 0 over a list, without attributes
+abbrev pub node_fields : Direction → Option ℕ → Packed → Fields
+node_fields direction head box = record { subtype = 0; next = None; contents = box_contents direction (box_fields head box) }
+
 abbrev pub box_node : Direction → Option ℕ → Packed → Node
-box_node direction head box = record { fields = record { subtype = 0; next = None; contents = box_contents direction (box_fields head box) }; attributes = map.empty }
+box_node direction head box = record { fields = node_fields direction head box; attributes = map.empty }
 
 -- ---- steps
 
@@ -119,4 +114,4 @@ abbrev pub vpack_step : List FontTables → Option ℕ → PackTo → Heap → R
 vpack_step fonts head to heap = pack_step Vertical fonts head to heap
 
 abbrev pub dimensions_answer : Heap → List FontTables → Option ℕ → Result Size Trouble
-dimensions_answer heap fonts head = result_and_then (items_answer heap fonts head H) (λ items. within (hlist_size items))
+dimensions_answer heap fonts head = result_and_then (items_answer heap fonts head H) (λ items. checked_size (hlist_size items))

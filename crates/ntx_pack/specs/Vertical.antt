@@ -1,16 +1,18 @@
 -- The natural size of a vertical list of items ("TeX: The Program", sections 668 to 671).
 --     vlist_size items         that size
---     IsMeasured item          a box, rule, glue or kern of which no width, height, depth or shift is beyond TeX's largest dimension; any other item
+--     stacked size item        the size of a list of this size with one item more
+--     interline_glue ..        the glue between two boxes of a vertical list
 -- Its height and depth together are the heights and depths of its boxes and rules and the sizes of its glue and kerns. Its depth is that of the
 -- last box or rule, or 0 where there is none or where glue or a kern stands after it. It is as wide as its items reach to the right of its left edge, and no less than 0.
 -- Glyphs and discretionaries, which no vertical list holds, count as penalties do.
-use Rattle.std.specs.Prelude.{◌≤◌, ℤ, pos, ◌+ℤ◌, ◌-ℤ◌, unsigned_abs, List, fold}
+use Rattle.std.specs.Prelude.{ℤ, pos, ◌+ℤ◌, ◌-ℤ◌, int_lt, if◌then◌else◌, List, fold}
 use Rattle.std.specs.Int.{int_max}
-use Rattle.ntx_num.specs.Dimension.{max_dimension}
 use Rattle.ntx_num.specs.declared.size.Size.{Size}
+use Rattle.ntx_item.specs.Settings.{Settings}
+use Rattle.ntx_item.specs.declared.glue.GlueSpec.{GlueSpec}
 use Rattle.ntx_item.specs.declared.item.Item.{Item}
 use Rattle.ntx_item.specs.declared.item.Item.TheVariants.{Box, Rule, Glue, Kern}
-use Rattle.ntx_item.specs.Items.{signed_sum}
+use Rattle.ntx_item.specs.Sums.{signed_sum}
 use Rattle.ntx_view.specs.Natural.{greatest}
 
 -- how far an item reaches from its top to its bottom
@@ -50,17 +52,11 @@ stacked size (Glue spec) = record { w = size.w; h = (size.h +ℤ size.d) +ℤ sp
 stacked size (Kern w font) = record { w = size.w; h = (size.h +ℤ size.d) +ℤ w; d = pos 0 }
 stacked size _ = size
 
--- ---- bounds
+-- ---- between two boxes
 
-pub record IsMeasuredSize (size : Size) : Type 0 where
-  pub width : unsigned_abs size.w ≤ max_dimension
-  pub height : unsigned_abs size.h ≤ max_dimension
-  pub depth : unsigned_abs size.d ≤ max_dimension
-
--- of boxes, rules, glue and kerns; the other items may be of any size
-abbrev pub IsMeasured : Item → Type 0
-IsMeasured (Box size shift) = IsMeasuredSize size × (unsigned_abs shift ≤ max_dimension)
-IsMeasured (Rule size) = IsMeasuredSize size
-IsMeasured (Glue spec) = unsigned_abs spec.width ≤ max_dimension
-IsMeasured (Kern w font) = unsigned_abs w ≤ max_dimension
-IsMeasured _ = Unit {0}
+-- The glue between a box of this depth and one of this height below it ("TeX: The Program", section 679): as much as makes the distance of their
+-- baselines the width of baselineskip, or lineskip if that is less than lineskiplimit.
+abbrev pub interline_glue : Settings → ℤ → ℤ → GlueSpec
+interline_glue s depth height =
+    let distance = (s.baselineskip.width -ℤ depth) -ℤ height in
+    if int_lt distance s.lineskiplimit then s.lineskip else record s.baselineskip { width = distance }

@@ -1,14 +1,14 @@
 //! The two directions in which lists run.
 
 ghost use Rattle.std.specs.Prelude.{◌≡◌};
-ghost use Rattle.ntx_pack.specs.Pack.{along, with_along, list_kind, box_kind};
+ghost use Rattle.ntx_pack.specs.Pack.{along, with_along, list_kind, box_contents};
 
-use ntx_nodes::{Kind, ListKind};
+use ntx_nodes::{BoxFields, Contents, ListKind};
 use ntx_num::Size;
 
 /// The direction of a list.
 #[derive(Clone, Copy, Debug, PartialEq, Eq)]
-pub(crate) enum Direction {
+pub enum Direction {
     /// From the left to the right, as in an hlist.
     Horizontal,
     /// From the top down, as in a vlist.
@@ -26,13 +26,13 @@ impl Direction {
         }
     }
 
-    /// The kind of a box over a list in this direction.
-    pub(crate) fn kind(self) -> Kind
-        ensures { result ≡ box_kind self }
+    /// The fields of a box over a list in this direction.
+    pub(crate) fn contents(self, b: BoxFields) -> Contents
+        ensures { result ≡ box_contents self b }
     {
         match self {
-            Direction::Horizontal => Kind::Hlist,
-            Direction::Vertical => Kind::Vlist,
+            Direction::Horizontal => Contents::Hlist(b),
+            Direction::Vertical => Contents::Vlist(b),
         }
     }
 

@@ -1,20 +1,20 @@
 //! How the glue of a box is set ("TeX: The Program", sections 658 to 667 and 672 to 677).
 
-ghost use Rattle.std.specs.Prelude.{◌≡◌, ◌≤◌, ◌^◌, pos, unsigned_abs};
+ghost use Rattle.std.specs.Prelude.{◌≡◌, ◌≤◌, ◌^◌, pos, unsigned_abs, IfOk};
 ghost use Rattle.ntx_item.specs.Items.{AreItemsInRange, max_total};
 ghost use Rattle.ntx_pack.specs.Output.{IsRatio};
-ghost use Rattle.ntx_pack.specs.GlueSet.{order_for, total_for, glue_set, badness_for, shared, fully, is_overfull_by, glue_set_by, badness_by};
+ghost use Rattle.ntx_pack.specs.GlueSet.{sign_of, glue_set_in, box_glue, glue_set_answer, order_for, total_for, glue_set, badness_for, shared, fully, is_overfull_by, glue_set_by, badness_by};
 
-use crate::change::Change;
 use crate::totals::{Available, available_glue};
-use ntx_item::Item;
+use ntx_item::{GlueChange, Item};
+use ntx_nodes::{BoxFields, Contents, Nodes, Trouble};
 use ntx_num::badness;
 
 /// The badness of a box that is too small for what is in it.
 const OVERFULL: i64 = 1_000_000;
 
 /// How the glue of a box is set, as the box says it ("TeX: The Program", section 135). The size of all glue of the order
-/// changes by the ratio `num / den` of its stretch or shrink. [`set_glue`] gives numbers in the ranges that are told here.
+/// changes by the ratio `num / den` of its stretch or shrink. [`set_glue`] and [`GlueSet::read`] give numbers in the ranges that are stated here.
 #[derive(Clone, Copy, Debug, PartialEq, Eq)]
 pub struct GlueSet {
     /// 0 where the glue keeps its natural size, 1 where it stretches, 2 where it shrinks.
@@ -25,6 +25,16 @@ pub struct GlueSet {
     pub num: i64,
     /// The denominator of the ratio, at least 1.
     pub den: i64,
+}
+
+/// The number by which a box says how its glue changes.
+fn sign_of(change: GlueChange) -> u8
+    ensures { result ≡ sign_of change }
+{
+    match change {
+        GlueChange::Stretch => 1,
+        GlueChange::Shrink => 2,
+    }
 }
 
 /// Glue that keeps its natural size.
@@ -44,7 +54,7 @@ fn is_overfull(shortfall: i64, glue: Available) -> bool
 }
 
 /// Glue that changes by the ratio of a shortfall to its total.
-fn share(change: Change, shortfall: i64, glue: Available) -> GlueSet
+fn share(change: GlueChange, shortfall: i64, glue: Available) -> GlueSet
     requires shortfall { unsigned_abs shortfall ≤ 2 ^ 32 }
     requires order { glue.order ≤ 3 }
     requires total { unsigned_abs glue.total ≤ max_total }
@@ -56,7 +66,7 @@ fn share(change: Change, shortfall: i64, glue: Available) -> GlueSet
     }
     let size = shortfall.abs();
     GlueSet {
-        sign: change.sign(),
+        sign: sign_of(change),
         order: glue.order,
         num: if glue.total < 0 { -size } else { size },
         den: glue.total.abs(),
@@ -72,7 +82,7 @@ fn shrink_fully(total: i64) -> GlueSet
         return UNSET;
     }
     GlueSet {
-        sign: Change::Shrink.sign(),
+        sign: sign_of(GlueChange::Shrink),
         order: 0,
         num: 1,
         den: 1,
@@ -92,7 +102,7 @@ fn set_by(shortfall: i64, glue: Available) -> GlueSet
     } else if is_overfull(shortfall, glue) {
         shrink_fully(glue.total)
     } else {
-        share(Change::of(shortfall), shortfall, glue)
+        share(GlueChange::for_shortfall(shortfall), shortfall, glue)
     }
 }
 
@@ -118,7 +128,7 @@ fn glue_for(items: &[Item], shortfall: i64) -> Available
     ensures order_in_range { result.order ≤ 3 }
     ensures total_in_range { unsigned_abs result.total ≤ max_total }
 {
-    available_glue(Change::of(shortfall), items)
+    available_glue(GlueChange::for_shortfall(shortfall), items)
 }
 
 /// How bad it is that this glue makes up for the shortfall of these items.
@@ -140,7 +150,7 @@ fn badness_of(items: &[Item], shortfall: i64, glue: Available) -> i64
 /// 0; else that of the shortfall and the finite glue for it, from 0 to 10000, or 1000000 where that glue shrinks by less
 /// than is needed.
 ///
-/// The items have to be in range, as [`Item`] tells, and the shortfall within 2^32 in absolute value.
+/// The items have to be in range, as [`Item`] states, and the shortfall within 2^32 in absolute value.
 pub fn set_glue(items: &[Item], shortfall: i64) -> (GlueSet, i64)
     requires in_range { AreItemsInRange items.now }
     requires shortfall { unsigned_abs shortfall ≤ 2 ^ 32 }
@@ -152,4 +162,43 @@ pub fn set_glue(items: &[Item], shortfall: i64) -> (GlueSet, i64)
 {
     let glue = glue_for(items, shortfall);
     (set_by(shortfall, glue), badness_of(items, shortfall, glue))
+}
+
+impl GlueSet {
+    /// How the glue of a box is set, as its fields say it.
+    fn of_box(b: BoxFields) -> GlueSet
+        ensures { result ≡ glue_set_in b }
+    {
+        GlueSet {
+            sign: b.glue_sign,
+            order: b.glue_order,
+            num: b.glue_num,
+            den: b.glue_den,
+        }
+    }
+
+    /// How the glue of a box of a heap is set.
+    fn found<N: Nodes>(nodes: &N, n: u64) -> Result<GlueSet, Trouble>
+        ensures { result ≡ glue_set_answer n (N.heap nodes.now) }
+    {
+        match nodes.fields(n)?.contents {
+            Contents::Hlist(b) | Contents::Vlist(b) => Ok(GlueSet::of_box(b)),
+            _ => Err(Trouble::WrongKind(n)),
+        }
+    }
+
+    /// How the glue of the box `n` is set, with numbers in the ranges that are stated here.
+    ///
+    /// # Refusals
+    ///
+    /// `Stale` if `n` is dead, and `WrongKind` if it is no box.
+    pub fn read<N: Nodes>(nodes: &N, n: u64) -> Result<GlueSet, Trouble>
+        ensures value { result ≡ glue_set_answer n (N.heap nodes.now) }
+        ensures ratio { IfOk result IsRatio }
+        ensures sign { IfOk result (λ glue. glue.sign ≤ 2) }
+        ensures order { IfOk result (λ glue. glue.order ≤ 3) }
+    {
+        nodes.lawful();
+        GlueSet::found(nodes, n)
+    }
 }

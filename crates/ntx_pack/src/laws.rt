@@ -1,6 +1,6 @@
-//! Laws of packing, each told by a function that does nothing.
+//! Laws of packing, each the contract of a function that does nothing.
 
-ghost use Rattle.ntx_pack.specs.Laws.{VerticalListsStack, BoxesAreSized, NaturalBoxesAreUnset, SetSizesAddUp, BoxesAreFilled, OverfullBoxesShrinkFully, OtherSizesStay, TotalsStayBounded, HeapsAreMeasured, BoxesHoldTheirLists};
+ghost use Rattle.ntx_pack.specs.Laws.{VerticalListsStack, BoxesAreSized, NaturalBoxesAreUnset, SetSizesGrow, SetSizesAddUp, BoxesAreFilled, OverfullBoxesShrinkFully, OtherSizesStay, TotalsStayBounded, BoxesHoldTheirLists};
 
 /// The law that a vertical list grows as TeX builds it: a box or a rule adds the depth so far and its height to the height
 /// and has its own depth then, and glue and kerns add the depth so far and their size and leave no depth.
@@ -11,6 +11,11 @@ pub fn vertical_lists_stack()
 /// The law that a box of the natural size of its list leaves its glue alone and has badness 0.
 pub fn natural_boxes_are_unset()
     ensures { NaturalBoxesAreUnset }
+{}
+
+/// The law that in output an item more at the end has its size from the running total before it, and the other sizes stay.
+pub fn set_sizes_grow()
+    ensures { SetSizesGrow }
 {}
 
 /// The law that in output items are together larger by the shortfall, exactly, if some glue makes up for it, their box is
@@ -37,7 +42,7 @@ pub fn other_sizes_stay()
     ensures { OtherSizesStay }
 {}
 
-/// The law that a box has the size that was wished for, and its other two sizes from its list.
+/// The law that a box has the size that was asked for, and its other two sizes from its list.
 pub fn boxes_are_sized()
     ensures { BoxesAreSized }
 {}
@@ -45,12 +50,6 @@ pub fn boxes_are_sized()
 /// The law that running totals over items in range stay within 2^48 in absolute value.
 pub fn totals_stay_bounded()
     ensures { TotalsStayBounded }
-{}
-
-/// The law that boxes, rules, glue and kerns of a heap have no width, height, depth or shift beyond TeX's largest dimension,
-/// 2^30-1 scaled points, in absolute value.
-pub fn heaps_are_measured()
-    ensures { HeapsAreMeasured }
 {}
 
 /// The law that a packed box is as the items of its list are packed, and is over that list, which has the items that it

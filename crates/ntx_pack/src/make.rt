@@ -1,24 +1,41 @@
 //! Boxes as nodes of a heap.
 
-ghost use Rattle.std.specs.Prelude.{◌≡◌, Ok, IsOk};
+ghost use Rattle.std.specs.Prelude.{◌≡◌};
 ghost use Rattle.ntx_num.specs.Answer.{Steps};
-ghost use Rattle.ntx_nodes.specs.Steps.{making, set_step};
-ghost use Rattle.ntx_pack.specs.Pack.{box_node};
+ghost use Rattle.ntx_nodes.specs.Steps.{making};
+ghost use Rattle.ntx_pack.specs.Pack.{box_fields, node_fields, box_node};
 ghost use Rattle.ntx_pack.specs.Made.{IsMakable, IsLiveHead};
 
 use crate::direction::Direction;
 use crate::packed::Packed;
-use ntx_nodes::{Field, FieldValue, Nodes, Ratio, Trouble};
+use ntx_nodes::{BoxFields, Fields, Nodes, Trouble, make_filled};
 use ntx_num::Fail;
 
-/// Writes a value into a field that takes it.
-fn write<N: Nodes>(nodes: &mut N, n: u64, f: Field, v: FieldValue)
-    requires { IsOk (set_step n f v (N.heap nodes.old)) }
-    ensures { set_step n f v (N.heap nodes.old) ≡ Ok (tt, N.heap nodes.new) }
+/// The fields of a box over the list at a head.
+fn box_fields(head: Option<u64>, packed: &Packed) -> BoxFields
+    ensures { result ≡ box_fields head packed.now }
 {
-    match nodes.set(n, f, v) {
-        Ok(()) => {}
-        Err(_) => unreachable!(),
+    BoxFields {
+        width: packed.size.w,
+        height: packed.size.h,
+        depth: packed.size.d,
+        shift: 0,
+        list: head,
+        glue_sign: packed.glue.sign,
+        glue_order: packed.glue.order,
+        glue_num: packed.glue.num,
+        glue_den: packed.glue.den,
+    }
+}
+
+/// All the fields of its node.
+fn node_fields(direction: Direction, head: Option<u64>, packed: &Packed) -> Fields
+    ensures { result ≡ node_fields direction head packed.now }
+{
+    Fields {
+        subtype: 0,
+        next: None,
+        contents: direction.contents(box_fields(head, packed)),
     }
 }
 
@@ -33,17 +50,5 @@ pub(crate) fn make_box<N: Nodes>(
     requires live { IsLiveHead (N.heap nodes.old) head }
     ensures { Steps result (N.heap nodes.old) (N.heap nodes.new) (making (box_node direction head packed.now) (N.heap nodes.old)) }
 {
-    let n = nodes.make(direction.kind(), 0)?;
-    write(nodes, n, Field::Width, FieldValue::Number(packed.size.w));
-    write(nodes, n, Field::Height, FieldValue::Number(packed.size.h));
-    write(nodes, n, Field::Depth, FieldValue::Number(packed.size.d));
-    write(nodes, n, Field::List, FieldValue::Link(head));
-    let ratio = Ratio {
-        num: packed.glue.num,
-        den: packed.glue.den,
-    };
-    match nodes.set_ratio(n, packed.glue.sign, packed.glue.order, ratio) {
-        Ok(()) => Ok(n),
-        Err(_) => unreachable!(),
-    }
+    make_filled(nodes, node_fields(direction, head, packed))
 }

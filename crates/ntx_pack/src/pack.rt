@@ -5,9 +5,8 @@ ghost use Rattle.ntx_num.specs.Answer.{Steps, Answers};
 ghost use Rattle.ntx_pack.specs.Pack.{pack_step, hpack_step, vpack_step, dimensions_answer};
 
 use crate::direction::Direction;
-use crate::laws::heaps_are_measured;
 use crate::make::make_box;
-use crate::packed::{pack_items, within};
+use crate::packed::{checked_size, pack_items};
 use ntx_item::PackTo;
 use ntx_nodes::{ListKind, Nodes, Trouble};
 use ntx_num::{Fail, Size};
@@ -26,8 +25,6 @@ fn pack<N: Nodes>(
 ) -> Result<(u64, i64), Fail<Trouble>>
     ensures { Steps result (N.heap nodes.old) (N.heap nodes.new) (pack_step direction fonts.now head to (N.heap nodes.old)) }
 {
-    nodes.lawful();
-    heaps_are_measured();
     let list = items(alloc, nodes, fonts, head, direction.list_kind())?;
     match pack_items(direction, to, &list) {
         Ok(decided) => {
@@ -98,7 +95,7 @@ pub fn dimensions<N: Nodes>(
     ensures answer { Answers result (dimensions_answer (N.heap nodes.old) fonts.now head) }
 {
     let list = items(alloc, nodes, fonts, head, ListKind::H)?;
-    match within(hlist_size(&list)) {
+    match checked_size(hlist_size(&list)) {
         Ok(size) => Ok(size),
         Err(why) => Err(Fail::Is(why)),
     }

@@ -3,8 +3,10 @@
 ghost use Rattle.std.specs.Prelude.{◌≡◌, ◌≤◌, ◌^◌, ◌-ℤ◌, false, IfOk, IfSome, IfNone, All, unsigned_abs};
 ghost use Rattle.ntx_item.specs.Items.{AreItemsInRange};
 ghost use Rattle.ntx_view.specs.Natural.{IsReaching};
-ghost use Rattle.ntx_pack.specs.Vertical.{IsMeasured, IsMeasuredSize};
-ghost use Rattle.ntx_pack.specs.Pack.{is_dimension, within, natural_size, along, with_along, wished, packed_into, packed};
+ghost use Rattle.ntx_tfm.specs.Font.{IsSized};
+ghost use Rattle.ntx_num.specs.Dimension.{IsDimension, is_dimension};
+ghost use Rattle.ntx_view.specs.Measured.{IsMeasured};
+ghost use Rattle.ntx_pack.specs.Pack.{checked_size, natural_size, along, with_along, target_size, packed_into, packed};
 ghost use Rattle.ntx_pack.specs.Made.{IsMakable};
 
 use crate::direction::Direction;
@@ -12,31 +14,24 @@ use crate::glue_set::{GlueSet, set_glue};
 use crate::vertical::vlist_size;
 use ntx_item::{Item, PackTo};
 use ntx_nodes::Trouble;
-use ntx_num::{MAX_DIMENSION, Size, in_range};
+use ntx_num::{Size, is_dimension};
 use ntx_view::hlist_size;
 
-/// A box as it is to be made.
+/// What items are packed into: a box, and its badness.
 #[derive(Clone, Copy, Debug, PartialEq, Eq)]
-pub(crate) struct Packed {
+pub struct Packed {
     /// Its size in scaled points.
     pub size: Size,
     /// How its glue is set.
     pub glue: GlueSet,
-    /// Its badness.
+    /// The badness of the box, from 0 to 10000, or 1000000 where its glue cannot shrink enough.
     pub badness: i64,
 }
 
-/// Whether it is a dimension of TeX.
-fn is_dimension(x: i64) -> bool
-    ensures { result ≡ is_dimension x }
-{
-    in_range(x, -MAX_DIMENSION, MAX_DIMENSION)
-}
-
 /// A size, where no part of it is beyond TeX's largest dimension; else it refuses with Dimension.
-pub(crate) fn within(size: Size) -> Result<Size, Trouble>
-    ensures value { result ≡ within size }
-    ensures measured { IfOk result IsMeasuredSize }
+pub(crate) fn checked_size(size: Size) -> Result<Size, Trouble>
+    ensures value { result ≡ checked_size size }
+    ensures measured { IfOk result IsSized }
 {
     if is_dimension(size.w) && is_dimension(size.h) && is_dimension(size.d) {
         Ok(size)
@@ -59,9 +54,9 @@ fn natural_size(direction: Direction, items: &[Item]) -> Size
 }
 
 /// The size that a list of this natural size is packed to; none where it does not fit a number of 64 bits.
-fn wished(to: PackTo, natural: i64) -> Option<i64>
-    ensures found { IfSome result (λ x. x ≡ wished to natural) }
-    ensures none { IfNone result (is_dimension (wished to natural) ≡ false) }
+fn target_size(to: PackTo, natural: i64) -> Option<i64>
+    ensures found { IfSome result (λ x. x ≡ target_size to natural) }
+    ensures none { IfNone result (is_dimension (target_size to natural) ≡ false) }
 {
     match to {
         PackTo::Exactly(size) => Some(size),
@@ -71,30 +66,54 @@ fn wished(to: PackTo, natural: i64) -> Option<i64>
 
 /// The size of a box over a list of this natural size.
 fn box_size(direction: Direction, to: PackTo, natural: Size) -> Result<Size, Trouble>
-    ensures value { result ≡ within (with_along direction (wished to (along direction natural)) natural) }
-    ensures measured { IfOk result IsMeasuredSize }
+    ensures value { result ≡ checked_size (with_along direction (target_size to (along direction natural)) natural) }
+    ensures measured { IfOk result IsSized }
 {
-    match wished(to, direction.along(natural)) {
-        Some(x) => within(direction.with_along(x, natural)),
+    match target_size(to, direction.along(natural)) {
+        Some(x) => checked_size(direction.with_along(x, natural)),
         None => Err(Trouble::Dimension),
     }
 }
 
+/// The part of a size within TeX's largest dimension that lies in the direction of its list.
+fn dimension_along(direction: Direction, size: Size) -> i64
+    requires { IsSized size }
+    ensures value { result ≡ along direction size }
+    ensures dimension { IsDimension result }
+{
+    match direction {
+        Direction::Horizontal => size.w,
+        Direction::Vertical => size.h,
+    }
+}
+
+/// How much larger one dimension is than another.
+#[tactic(auto, using(crate::proofs::CodeNumbers::difference_le))]
+fn difference(a: i64, b: i64) -> i64
+    requires first { IsDimension a }
+    requires second { IsDimension b }
+    ensures value { result ≡ a -ℤ b }
+    ensures bound { unsigned_abs result ≤ 2 ^ 32 }
+{
+    a - b
+}
+
 /// How much larger a box is than its list.
 fn shortfall(direction: Direction, size: Size, natural: Size) -> i64
-    requires size { IsMeasuredSize size }
-    requires natural { IsMeasuredSize natural }
+    requires size { IsSized size }
+    requires natural { IsSized natural }
     ensures value { result ≡ along direction size -ℤ along direction natural }
     ensures bound { unsigned_abs result ≤ 2 ^ 32 }
 {
-    direction.along(size) - direction.along(natural)
+    let wanted = dimension_along(direction, size);
+    difference(wanted, dimension_along(direction, natural))
 }
 
 /// Items packed into a box of this size, where their natural size is this.
 fn pack_into(direction: Direction, items: &[Item], natural: Size, size: Size) -> Packed
     requires in_range { AreItemsInRange items.now }
-    requires natural { IsMeasuredSize natural }
-    requires size { IsMeasuredSize size }
+    requires natural { IsSized natural }
+    requires size { IsSized size }
     ensures value { result ≡ packed_into direction items.now natural size }
     ensures makable { IsMakable result }
 {
@@ -119,7 +138,7 @@ pub(crate) fn pack_items(
     ensures value { result ≡ packed direction to items.now }
     ensures makable { IfOk result IsMakable }
 {
-    let natural = within(natural_size(direction, items))?;
+    let natural = checked_size(natural_size(direction, items))?;
     let size = box_size(direction, to, natural)?;
     Ok(pack_into(direction, items, natural, size))
 }

@@ -10,7 +10,7 @@ use ntx_item::GlueSpec;
 use ntx_num::round_ratio;
 
 /// Gives the sizes of the glue in a box, one after another in the order of the list.
-#[derive(Clone, Copy, Debug, PartialEq, Eq)]
+#[derive(Debug, PartialEq, Eq, Drop)]
 pub struct GlueSetter {
     /// How the glue of the box is set.
     pub glue: GlueSet,
@@ -69,7 +69,7 @@ impl GlueSetter {
     ///
     /// The natural width, the shrink and the total with this glue have to be within 2^48 in absolute value. They are where
     /// the items of the box are in range.
-    pub fn size_of(&mut self, spec: &GlueSpec) -> i64
+    pub fn next_size(&mut self, spec: &GlueSpec) -> i64
         requires width { unsigned_abs spec.now.width ≤ max_total }
         requires shrink { unsigned_abs spec.now.shrink ≤ max_total }
         requires total { unsigned_abs (self.old.total +ℤ move self.old.glue (Glue spec.now)) ≤ max_total }

@@ -2,14 +2,14 @@
 
 ghost use Rattle.std.specs.Prelude.{◌≡◌, ◌≤◌, ◌+ℤ◌, unsigned_abs};
 ghost use Rattle.ntx_item.specs.Items.{AreItemsInRange, max_total};
-ghost use Rattle.ntx_pack.specs.Totals.{amount_of, order_of, amount_in, total, highest, totals_of, totals_with, AreTotalsInRange};
+ghost use Rattle.ntx_item.specs.Sums.{amount_in, glue_total};
+ghost use Rattle.ntx_pack.specs.Totals.{highest_order, totals_of, totals_with, AreTotalsInRange};
 
-use crate::change::Change;
-use ntx_item::{GlueSpec, Item};
+use ntx_item::{GlueChange, Item};
 
 /// The totals of a list's stretch or shrink, one for each order.
 #[derive(Clone, Copy, Debug, PartialEq, Eq)]
-pub(crate) struct Totals {
+pub(crate) struct GlueTotals {
     /// Of order 0, in scaled points.
     pub normal: i64,
     /// Of order 1.
@@ -29,48 +29,24 @@ pub(crate) struct Available {
     pub total: i64,
 }
 
-/// How far glue can change in one way, and of which order that is.
-fn amount(change: Change, spec: &GlueSpec) -> (i64, u8)
-    ensures amount { result.0 ≡ amount_of change spec.now }
-    ensures order { result.1 ≡ order_of change spec.now }
-{
-    match change {
-        Change::Stretch => (spec.stretch, spec.stretch_order),
-        Change::Shrink => (spec.shrink, spec.shrink_order),
-    }
-}
-
-/// How far an item can change in one way with glue of one order.
-fn amount_in(change: Change, order: u8, item: &Item) -> i64
-    ensures { result ≡ amount_in change order item.now }
-{
-    match item {
-        Item::Glue { spec } => {
-            let (amount, its_order) = amount(change, spec);
-            if its_order == order { amount } else { 0 }
-        }
-        _ => 0,
-    }
-}
-
 /// The total of one order with one item more.
-fn more(total: i64, change: Change, order: u8, item: &Item) -> i64
+fn more(total: i64, change: GlueChange, order: u8, item: &Item) -> i64
     requires { unsigned_abs (total +ℤ amount_in change order item.now) ≤ max_total }
     ensures { result ≡ total +ℤ amount_in change order item.now }
 {
-    total + amount_in(change, order, item)
+    total + item.amount_in(change, order)
 }
 
-impl Totals {
+impl GlueTotals {
     /// The totals of a list with one item more.
-    fn with(self, change: Change, item: &Item) -> Totals
+    fn with(self, change: GlueChange, item: &Item) -> GlueTotals
         requires normal { unsigned_abs (self.normal +ℤ amount_in change 0 item.now) ≤ max_total }
         requires fil { unsigned_abs (self.fil +ℤ amount_in change 1 item.now) ≤ max_total }
         requires fill { unsigned_abs (self.fill +ℤ amount_in change 2 item.now) ≤ max_total }
         requires filll { unsigned_abs (self.filll +ℤ amount_in change 3 item.now) ≤ max_total }
         ensures { result ≡ totals_with change self item.now }
     {
-        Totals {
+        GlueTotals {
             normal: more(self.normal, change, 0, item),
             fil: more(self.fil, change, 1, item),
             fill: more(self.fill, change, 2, item),
@@ -80,12 +56,12 @@ impl Totals {
 }
 
 /// How far the glue of these items can change in one way, in each order.
-fn totals_of(change: Change, items: &[Item]) -> Totals
+fn totals_of(change: GlueChange, items: &[Item]) -> GlueTotals
     requires { AreItemsInRange items.now }
     ensures value { result ≡ totals_of change items.now }
     ensures in_range { AreTotalsInRange result }
 {
-    let mut totals = Totals {
+    let mut totals = GlueTotals {
         normal: 0,
         fil: 0,
         fill: 0,
@@ -98,10 +74,10 @@ fn totals_of(change: Change, items: &[Item]) -> Totals
 }
 
 /// The glue that can change in one way: that of the highest order in which the total is not 0, or else that of order 0.
-pub(crate) fn available_glue(change: Change, items: &[Item]) -> Available
+pub(crate) fn available_glue(change: GlueChange, items: &[Item]) -> Available
     requires { AreItemsInRange items.now }
-    ensures order { result.order ≡ highest change items.now }
-    ensures total { result.total ≡ total change result.order items.now }
+    ensures order { result.order ≡ highest_order change items.now }
+    ensures total { result.total ≡ glue_total change result.order items.now }
     ensures order_in_range { result.order ≤ 3 }
     ensures total_in_range { unsigned_abs result.total ≤ max_total }
 {

@@ -1,11 +1,13 @@
 //! The natural size of a vertical list ("TeX: The Program", sections 668 to 671).
 
-ghost use Rattle.std.specs.Prelude.{◌≡◌, ◌≤◌, ◌^◌, ◌+ℤ◌, All, length, unsigned_abs};
+ghost use Rattle.std.specs.Prelude.{◌≡◌, ◌≤◌, ◌^◌, ◌*◌, ◌+ℤ◌, ◌-ℤ◌, All, length, unsigned_abs};
 ghost use Rattle.std.specs.Int.{int_max};
 ghost use Rattle.ntx_item.specs.Items.{max_items};
-ghost use Rattle.ntx_pack.specs.Vertical.{vlist_size, stacked, IsMeasured};
+ghost use Rattle.ntx_pack.specs.Vertical.{vlist_size, stacked, interline_glue};
+ghost use Rattle.ntx_view.specs.Measured.{IsMeasured};
+ghost use Rattle.ntx_num.specs.Dimension.{max_dimension, IsDimension};
 
-use ntx_item::Item;
+use ntx_item::{GlueParam, GlueSpec, Item, Param, Params};
 use ntx_num::Size;
 
 /// The greater of two widths.
@@ -36,8 +38,13 @@ fn with_part(size: Size, width: i64, height: i64, depth: i64) -> Size
     }
 }
 
-/// The size of a list with one item more.
-fn with_item(size: Size, item: &Item) -> Size
+/// The size of a vertical list of this size with one item more at its end, all in scaled points: a box or a rule adds the
+/// depth so far and its height to the height, and its depth is the depth then; glue and kerns add the depth so far and their
+/// size, and leave no depth; the width is the greater one of that so far and that of a rule, or of a box with its shift.
+///
+/// The height and depth so far have to be within 2^52 together, in absolute value, and a box, rule, glue or kern measured as
+/// the items of a heap are.
+pub fn stacked(size: Size, item: &Item) -> Size
     requires stacked { unsigned_abs (size.h +ℤ size.d) ≤ 2 ^ 52 }
     requires measured { IsMeasured item.now }
     ensures { result ≡ stacked size item.now }
@@ -59,7 +66,7 @@ fn size_of_all(items: &[Item]) -> Size
 {
     let mut size = Size { w: 0, h: 0, d: 0 };
     for item in items {
-        size = with_item(size, item);
+        size = stacked(size, item);
     }
     size
 }
@@ -81,4 +88,41 @@ pub fn vlist_size(items: &[Item]) -> Size
     ensures depth { unsigned_abs result.d ≤ 2 ^ 31 }
 {
     size_of_all(items)
+}
+
+/// How far it is from the bottom of a box to the top of the box below it, where their baselines are this far apart.
+fn gap(baselines: i64, depth: i64, height: i64) -> i64
+    requires baselines { IsDimension baselines }
+    requires depth { IsDimension depth }
+    requires height { IsDimension height }
+    ensures { result ≡ (baselines -ℤ depth) -ℤ height }
+{
+    baselines - depth - height
+}
+
+/// A glue with another width.
+fn with_width(glue: GlueSpec, width: i64) -> GlueSpec
+    ensures { result ≡ record glue { width = width } }
+{
+    GlueSpec { width, ..glue }
+}
+
+/// The glue between a box of this depth and a box of this height below it, in scaled points ("TeX: The Program", section
+/// 679): that of `baselineskip`, with the width that makes the distance of the baselines that of `baselineskip`; or that of
+/// `lineskip`, if this width is below `lineskiplimit`.
+///
+/// The depth and the height have to be within 2^30-1 in absolute value, as those of all boxes of a heap are.
+pub fn interline_glue(params: &Params, depth: i64, height: i64) -> GlueSpec
+    requires depth { IsDimension depth }
+    requires height { IsDimension height }
+    ensures value { result ≡ interline_glue params.now depth height }
+    ensures width { unsigned_abs result.width ≤ 3 * max_dimension }
+{
+    let baselineskip = params.get_glue(GlueParam::Baselineskip);
+    let gap = gap(baselineskip.width, depth, height);
+    if gap < params.get(Param::Lineskiplimit) {
+        params.get_glue(GlueParam::Lineskip)
+    } else {
+        with_width(baselineskip, gap)
+    }
 }

@@ -2,13 +2,11 @@
 use Rattle.std.proofs.Common.{◌≡◌, ℕ, zero, suc, ◌+◌, ◌<◌, ◌≤◌, true, false, nat_lt, ◌⊎◌, inl, inr, List, [], ◌∷◌, length, Option, Some, None, slice_get, refl, sym, ap, ◌∙◌, subst, arith}
 use Rattle.std.proofs.lemmas.Bool.{cases_lt, cases_Bool}
 use Rattle.std.proofs.lemmas.Option.{slice_get_past, slice_get_cases}
+use Rattle.ntx_num.proofs.Answers.{same_Some}
 use Rattle.ntx_tfm.specs.declared.step.LigStep.{LigStep}
 use Rattle.ntx_tfm.specs.Font.{FontTables, start_at}
 use Rattle.ntx_pairs.specs.Pairs.{applies, Reaches, here, later, AppliesAt, Decides, deciding, command_in, IsPairFrom, IsPair}
 use Rattle.ntx_pairs.specs.declared.command.Pair.{Pair}
-
-same_step : (a b : LigStep) → Some a ≡ Some b → a ≡ b
-same_step a b e = cc
 
 pub deciding_end : (right place : ℕ) (steps : List LigStep) → slice_get steps place ≡ None → deciding right place steps ≡ None
 deciding_end right place [] none = refl
@@ -18,7 +16,7 @@ deciding_end right (suc place) (first ∷ steps) none = deciding_end right place
 pub deciding_found : (right place : ℕ) (steps : List LigStep) (step : LigStep) → slice_get steps place ≡ Some step → applies step right ≡ true → deciding right place steps ≡ Some step
 deciding_found right place [] step found applied = absurd cc
 deciding_found right zero (first ∷ steps) step found applied =
-    let e : first ≡ step = same_step first step found in
+    let e : first ≡ step = same_Some first step found in
     rw (e, applied) refl
 deciding_found right (suc place) (first ∷ steps) step found applied = deciding_found right place steps step found applied
 
@@ -26,7 +24,7 @@ pub deciding_on : (right place : ℕ) (steps : List LigStep) (step : LigStep) �
     → deciding right place steps ≡ deciding right (place + step.skip + 1) steps
 deciding_on right place [] step found fails on = absurd cc
 deciding_on right zero (first ∷ steps) step found fails on =
-    let e : first ≡ step = same_step first step found in
+    let e : first ≡ step = same_Some first step found in
     let next : 0 + step.skip + 1 ≡ suc step.skip = omega arith in
     let goes : nat_lt step.skip 128 ≡ true = grind arith in
     rw (e, fails, goes, next) refl
@@ -37,7 +35,7 @@ deciding_on right (suc place) (first ∷ steps) step found fails on =
 pub deciding_stop : (right place : ℕ) (steps : List LigStep) (step : LigStep) → slice_get steps place ≡ Some step → applies step right ≡ false → 128 ≤ step.skip → deciding right place steps ≡ None
 deciding_stop right place [] step found fails stop = refl
 deciding_stop right zero (first ∷ steps) step found fails stop =
-    let e : first ≡ step = same_step first step found in
+    let e : first ≡ step = same_Some first step found in
     let ends : nat_lt step.skip 128 ≡ false = grind arith in
     rw (e, fails, ends) refl
 deciding_stop right (suc place) (first ∷ steps) step found fails stop = deciding_stop right place steps step found fails stop
@@ -54,7 +52,7 @@ first_or_later steps i j (later k m step found on rest) = inr (step, found, on, 
 -- no step applies at a place without a step, or whose step does not apply
 none_here : (steps : List LigStep) (right i : ℕ) (step other : LigStep) → slice_get steps i ≡ Some step → applies step right ≡ false → AppliesAt steps right i other → ⊥
 none_here steps right i step other found fails at =
-    let e : step ≡ other = same_step step other (sym found ∙ at.found) in
+    let e : step ≡ other = same_Some step other (sym found ∙ at.found) in
     let passes : applies step right ≡ true = subst (λ (s : LigStep). applies s right ≡ true) (sym e) at.applied in
     let clash : true ≡ false = sym passes ∙ fails in
     cc
@@ -69,7 +67,7 @@ decides_stop : (steps : List LigStep) (right i : ℕ) (step : LigStep) → slice
 decides_stop steps right i step found fails stop = λ j other reach at. elim (first_or_later steps i j reach) [
   | inl e ↦ none_here steps right i step other found fails (subst (λ (k : ℕ). AppliesAt steps right k other) (sym e) at)
   | inr r ↦
-      let same : r.0 ≡ step = same_step r.0 step (sym r.1 ∙ found) in
+      let same : r.0 ≡ step = same_Some r.0 step (sym r.1 ∙ found) in
       let on : step.skip < 128 = subst (λ (s : LigStep). s.skip < 128) same r.2 in
       omega arith
 ]
@@ -83,14 +81,14 @@ decides_on : (steps : List LigStep) (right i : ℕ) (step : LigStep) (decided : 
 decides_on steps right i step None found fails on after = λ j other reach at. elim (first_or_later steps i j reach) [
   | inl e ↦ none_here steps right i step other found fails (subst (λ (k : ℕ). AppliesAt steps right k other) (sym e) at)
   | inr r ↦
-      let same : r.0 ≡ step = same_step r.0 step (sym r.1 ∙ found) in
+      let same : r.0 ≡ step = same_Some r.0 step (sym r.1 ∙ found) in
       after j other (subst (λ (s : LigStep). Reaches steps (i + s.skip + 1) j) same r.3) at
 ]
 decides_on steps right i step (Some decided) found fails on after =
     let least : (j : ℕ) (other : LigStep) → Reaches steps i j → AppliesAt steps right j other → after.0 ≤ j = λ j other reach at. elim (first_or_later steps i j reach) [
       | inl e ↦ absurd (none_here steps right i step other found fails (subst (λ (k : ℕ). AppliesAt steps right k other) (sym e) at))
       | inr r ↦
-          let same : r.0 ≡ step = same_step r.0 step (sym r.1 ∙ found) in
+          let same : r.0 ≡ step = same_Some r.0 step (sym r.1 ∙ found) in
           after.1.least j other (subst (λ (s : LigStep). Reaches steps (i + s.skip + 1) j) same r.3) at
     ] in
     (after.0, record { reached = later i after.0 step found on after.1.reached; applied = after.1.applied; least = least })

@@ -1,9 +1,10 @@
 -- What happens between two characters of a font: the first step of the left one's program that applies to the right one ("TeX: The
 -- Program", sections 545, 741 and 1039).
 use Rattle.std.specs.Prelude.{◌≡◌, ◌<◌, ◌≤◌, ℕ, zero, suc, ◌+◌, ◌-◌, ◌*◌, pos, Bool, ◌&&◌, nat_le, nat_lt, nat_eq, if◌then◌else◌, List, [], ◌∷◌, slice_get, slice_index_or, Option, Some, None, IsTrue, IsSome}
+use Rattle.ntx_num.specs.Dimension.{IsDimension}
 use Rattle.ntx_tfm.specs.declared.step.LigStep.{LigStep}
 use Rattle.ntx_tfm.specs.Faults.{is_ligature}
-use Rattle.ntx_tfm.specs.Font.{FontTables, IsDimension, character_at, start_at}
+use Rattle.ntx_tfm.specs.Font.{FontTables, character_at, start_at}
 use Rattle.ntx_pairs.specs.declared.command.Pair.{Pair}
 use Rattle.ntx_pairs.specs.declared.command.Pair.TheVariants as pairs
 

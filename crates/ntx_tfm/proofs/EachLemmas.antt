@@ -2,7 +2,7 @@
 use Rattle.std.proofs.Common.{◌≡◌, ℕ, zero, suc, ◌+◌, ◌<◌, Bool, true, false, ◌&&◌, [], ◌∷◌, ◌++◌, length, get_or, refl, sym, ap, ◌∙◌, subst, inl, inr, add-one, arith, length-append}
 use Rattle.std.proofs.Math.ListN.{get_or-append}
 use Rattle.std.proofs.lemmas.List.{get_or_push}
-use Rattle.std.proofs.lemmas.Bool.{cases_lt, cases_Bool}
+use Rattle.std.proofs.lemmas.Bool.{cases_lt, cases_Bool, and_right}
 use Rattle.ntx_tfm.specs.Each.{each, table}
 
 pub each_none : (test : ℕ → Bool) → each 0 test ≡ true
@@ -13,16 +13,12 @@ pub each_more : (test : ℕ → Bool) (n : ℕ) → each n test ≡ true → tes
 unfolding each
 each_more test n before here = rw (add-one, before, here) refl
 
-and-false : (b : Bool) → (b && false) ≡ false
-and-false true = refl
-and-false false = refl
-
 pub each_fails : (test : ℕ → Bool) (n i : ℕ) → i < n → test i ≡ false → each n test ≡ false
 unfolding each
 each_fails test zero i lt fails = absurd (omega arith)
 each_fails test (suc n) i lt fails = elim (cases_lt i n) [
   | inl below ↦ rw (each_fails test n i below fails) refl
-  | inr here ↦ let e : i ≡ n = omega arith in let last : test n ≡ false = subst (λ (k : ℕ). test k ≡ false) e fails in rw last (and-false (each n test))
+  | inr here ↦ let e : i ≡ n = omega arith in let last : test n ≡ false = subst (λ (k : ℕ). test k ≡ false) e fails in and_right (each n test) (test n) last
 ]
 
 pub each_passes : (test : ℕ → Bool) (n i : ℕ) → i < n → each n test ≡ true → test i ≡ true

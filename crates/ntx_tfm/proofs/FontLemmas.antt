@@ -1,18 +1,24 @@
 -- The tables of a file without fault make a font.
-use Rattle.std.proofs.Common.{◌≡◌, ℕ, zero, suc, ◌+◌, ◌-◌, ◌*◌, ◌/◌, ◌<◌, ◌≤◌, ◌^◌, ℤ, pos, true, false, cond, nat_eq, nat_lt, List, length, Option, Some, None, slice_index, slice_index_or, lit<, All, refl, sym, ap, ◌∙◌, subst, arith}
+use Rattle.std.proofs.Common.{◌≡◌, ℕ, zero, suc, ◌+◌, ◌-◌, ◌*◌, ◌/◌, ◌<◌, ◌≤◌, ◌^◌, ℤ, pos, ◌-ℤ◌, Bool, true, false, cond, nat_eq, nat_lt, List, length, Option, Some, None, slice_index, slice_index_or, get_or, drop, All, refl, sym, ap, ◌∙◌, subst, arith}
 use Rattle.std.proofs.lemmas.List.Elements.{All-nil, All-push}
+use Rattle.std.specs.Prelude.{FitsSigned}
+use Rattle.std.specs.Int.{w32}
+use Rattle.std.proofs.lemmas.List.{get_or-drop}
+use Rattle.std.proofs.lemmas.Bool.{cond_both}
 use Rattle.std.proofs.lemmas.Int.{ints}
+use Rattle.byteorder.specs.Endian.{twos_complement}
+use Rattle.ntx_num.specs.Dimension.{IsDimension}
 use Rattle.ntx_tfm.specs.declared.def.FontDef.{FontDef}
 use Rattle.ntx_tfm.specs.declared.layout.Lengths.{Lengths}
 use Rattle.ntx_tfm.specs.declared.words.CharInfo.{CharInfo}
 use Rattle.ntx_tfm.specs.declared.step.LigStep.{LigStep}
 use Rattle.ntx_tfm.specs.declared.tables.Character.{Character}
 use Rattle.ntx_tfm.specs.Each.{table}
-use Rattle.ntx_tfm.specs.Words.{word_at, quad_at, info_at, step_at}
+use Rattle.ntx_tfm.specs.Words.{word_at, signed_at, quad_at, info_at, step_at}
 use Rattle.ntx_tfm.specs.Layout.{lengths_of, infos_at, steps_at, kerns_at, parameters_at}
 use Rattle.ntx_tfm.specs.Scaling.{scaled}
 use Rattle.ntx_tfm.specs.Faults.{is_there, has_size, IsSound}
-use Rattle.ntx_tfm.specs.Font.{described, character_of, parameter_of, seven, design_of, definition_of, tables_of, IsDimension, IsSized, IsMeasured, IsDefinition, IsFont}
+use Rattle.ntx_tfm.specs.Font.{described, character_of, parameter_of, seven, design_of, definition_of, tables_of, IsSized, IsSizedCharacter, IsDefinition, IsFont}
 use Rattle.ntx_tfm.proofs.EachLemmas.{length-table}
 use Rattle.ntx_tfm.proofs.StepLemmas.{good_step, start_good}
 use Rattle.ntx_tfm.proofs.ScalingLemmas.{scaled_small}
@@ -30,19 +36,37 @@ number_small : (bytes : List ℕ) (z i : ℕ) → IsBytes bytes → z < 2 ^ 26 �
 unfolding quad_at
 number_small bytes z i are-bytes small = scaled_small z _ small (are-bytes (4 * i + 1)) (are-bytes (4 * i + 2)) (are-bytes (4 * i + 3))
 
-character_small : (bytes : List ℕ) (l : Lengths) (z code : ℕ) → IsBytes bytes → z < 2 ^ 26 → IsMeasured (character_of bytes l z code)
+character_small : (bytes : List ℕ) (l : Lengths) (z code : ℕ) → IsBytes bytes → z < 2 ^ 26 → IsSizedCharacter (character_of bytes l z code)
 unfolding character_of
 character_small bytes l z code are-bytes small =
     let info : CharInfo = info_at bytes (infos_at l + (code - l.bc)) in
     let sized : IsSized (described bytes l z info).size = record { width = number_small bytes z _ are-bytes small; height = number_small bytes z _ are-bytes small; depth = number_small bytes z _ are-bytes small } in
-    elim (is_there bytes l code) as (λ b. IsMeasured (cond b (Some (described bytes l z info)) None)) [ true ↦ sized | false ↦ tt ]
+    elim (is_there bytes l code) as (λ b. IsSizedCharacter (cond b (Some (described bytes l z info)) None)) [ true ↦ sized | false ↦ tt ]
 
 parameter_small : (bytes : List ℕ) (l : Lengths) (z k : ℕ) → IsBytes bytes → z < 2 ^ 26 → 2 ≤ k → IsDimension (parameter_of bytes l z k)
 unfolding parameter_of
 parameter_small bytes l z k are-bytes small from-two =
     let number : IsDimension (scaled z (quad_at bytes (parameters_at l + (k - 1)))) = number_small bytes z _ are-bytes small in
     let later : nat_eq k 1 ≡ false = grind arith in
-    rw later (elim (nat_lt l.np k) as (λ b. IsDimension (cond b (pos 0) (scaled z (quad_at bytes (parameters_at l + (k - 1)))))) [ true ↦ lit< tt | false ↦ number ])
+    rw later (elim (nat_lt l.np k) as (λ b. IsDimension (cond b (pos 0) (scaled z (quad_at bytes (parameters_at l + (k - 1)))))) [ true ↦ (omega (arith, ints), omega (arith, ints)) | false ↦ number ])
+
+-- a word of four bytes is a number of 32 bits
+word_small : (bytes : List ℕ) (i : ℕ) → IsBytes bytes → word_at bytes i < 2 ^ 32
+unfolding word_at
+word_small bytes i are-bytes =
+    let byte : (k : ℕ) → slice_index (drop (4 * i) bytes) k < 256 = λ k. rw (get_or-drop (4 * i) bytes k 0) (are-bytes (4 * i + k)) in
+    omega (arith, byte 0, byte 1, byte 2, byte 3)
+
+-- read as two's complement, it fits a signed number of 32 bits
+signed_fits : (x : ℕ) → x < 2 ^ 32 → FitsSigned w32 (twos_complement 4 x)
+signed_fits x fits = cond_both (nat_lt x (2 ^ 31)) (pos x) (pos x -ℤ pos (2 ^ 32)) (λ z. FitsSigned w32 z)
+    (λ low. let below : x < 2 ^ 31 = grind arith in omega (arith, ints))
+    (λ high. let above : 2 ^ 31 ≤ x = grind arith in omega (arith, ints))
+
+slant_fits : (bytes : List ℕ) (l : Lengths) (z : ℕ) → IsBytes bytes → FitsSigned w32 (parameter_of bytes l z 1)
+unfolding parameter_of signed_at
+slant_fits bytes l z are-bytes =
+    cond_both (nat_lt l.np 1) (pos 0) (signed_at bytes (parameters_at l)) (λ z. FitsSigned w32 z) (λ _. omega (arith, ints)) (λ _. signed_fits _ (word_small bytes (parameters_at l) are-bytes))
 
 seven_from_two : (f : ℕ → ℤ) (j : ℕ) → j ≤ 5 → slice_index_or (seven f) (j + 1) (pos 0) ≡ f (j + 2)
 seven_from_two f zero high = refl
@@ -89,11 +113,12 @@ is_font bytes name z are-bytes sound given short least most =
     record {
       definition = definition_good bytes name z sound.size given short least most;
       codes = length-table (character_of bytes l z) 256;
-      characters = All-table IsMeasured (character_of bytes l z) 256 (λ code lt. character_small bytes l z code are-bytes most);
+      characters = All-table IsSizedCharacter (character_of bytes l z) 256 (λ code lt. character_small bytes l z code are-bytes most);
       steps = subst (λ (n : ℕ). n < 32768) (sym (length-table (λ i. step_at bytes (steps_at l + i)) l.nl)) sound.laid_out.steps;
       kerns = All-table IsDimension (λ k. scaled z (quad_at bytes (kerns_at l + k))) l.nk (λ k lt. number_small bytes z (kerns_at l + k) are-bytes most);
       good_steps = good_step bytes name z sound;
       starts = start_good bytes name z sound;
+      slant = slant_fits bytes l z are-bytes;
       parameters = λ k low high. subst IsDimension (sym (seven_at (parameter_of bytes l z) k low high)) (parameter_small bytes l z k are-bytes most low);
     }
 

@@ -1,8 +1,9 @@
 -- How large a scaled number is.
-use Rattle.std.proofs.Common.{◌≡◌, ℕ, ◌+◌, ◌*◌, ◌/◌, ◌<◌, ◌≤◌, ◌^◌, Bool, true, false, cond, nat_eq, pos, ◌-ℤ◌, unsigned_abs, ap, ◌∙◌, refl, arith}
+use Rattle.std.proofs.Common.{◌≡◌, ℕ, ◌+◌, ◌*◌, ◌/◌, ◌<◌, ◌≤◌, ◌^◌, Bool, true, false, cond, nat_eq, pos, ◌-ℤ◌, ap, ◌∙◌, refl, arith}
 use Rattle.std.proofs.lemmas.Int.{ints}
 use Rattle.std.proofs.Math.Nat.{div-le_of_le-mul, div-mul-le_self}
 use Rattle.std.proofs.lemmas.Nat.{mul-le}
+use Rattle.ntx_num.specs.Dimension.{IsDimension}
 use Rattle.ntx_tfm.specs.declared.words.Quad.{Quad}
 use Rattle.ntx_tfm.specs.Scaling.{divisor_of, reduced, magnitude, scaled, fraction_of, whole_size}
 
@@ -30,12 +31,12 @@ magnitude_below z q b-fits c-fits d-fits =
     part_below _ (reduced z) (divisor_of z) (16 / divisor_of z) (three_bytes q.b q.c q.d (reduced z) b-fits c-fits d-fits) (beta_of z)
 
 -- less a where it is negative, a number up to a stays as near to 0
-signed_small : (b : Bool) (m a : ℕ) → m ≤ a → a < 1073741824 → unsigned_abs (cond b (pos m -ℤ pos a) (pos m)) < 1073741824
-signed_small true m a le small = omega (arith, ints)
-signed_small false m a le small = omega (arith, ints)
+signed_small : (b : Bool) (m a : ℕ) → m ≤ a → a < 1073741824 → IsDimension (cond b (pos m -ℤ pos a) (pos m))
+signed_small true m a le small = (omega (arith, ints), omega (arith, ints))
+signed_small false m a le small = (omega (arith, ints), omega (arith, ints))
 
--- Scaled by a size below 2 ^ 26, a fix_word is below 2 ^ 30.
-pub scaled_small : (z : ℕ) (q : Quad) → z < 2 ^ 26 → q.b < 256 → q.c < 256 → q.d < 256 → unsigned_abs (scaled z q) < 1073741824
+-- Scaled by a size below 2 ^ 26, a fix_word is a dimension.
+pub scaled_small : (z : ℕ) (q : Quad) → z < 2 ^ 26 → q.b < 256 → q.c < 256 → q.d < 256 → IsDimension (scaled z q)
 unfolding scaled
 scaled_small z q z-fits b-fits c-fits d-fits =
     let below : reduced z * divisor_of z ≤ z = div-mul-le_self z (divisor_of z) in

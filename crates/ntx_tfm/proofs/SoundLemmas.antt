@@ -1,5 +1,6 @@
 -- What a file without fault keeps.
 use Rattle.std.proofs.Common.{◌≡◌, ℕ, ◌+◌, ◌-◌, ◌*◌, ◌<◌, ◌≤◌, Bool, true, false, ◌&&◌, not, cond, nat_lt, nat_eq, List, length, Option, Some, None, refl, arith}
+use Rattle.std.proofs.lemmas.Bool.{and_parts, not-false}
 use Rattle.ntx_tfm.specs.declared.fault.FontFault.{FontFault}
 use Rattle.ntx_tfm.specs.declared.fault.FontFault.TheVariants.{Short, Range, Header, Size, Index, FirstNotZero, FixWord, LigProgram}
 use Rattle.ntx_tfm.specs.declared.fault.FontFault.TheVariants as fault
@@ -37,14 +38,6 @@ passed : (b : Bool) (f : FontFault) (r : Option FontFault) → cond b (Some f) r
 passed true f r e = absurd cc
 passed false f r e = (refl, e)
 
-holds : (b : Bool) → not b ≡ false → b ≡ true
-holds true e = refl
-holds false e = absurd cc
-
-both : (a b : Bool) → (a && b) ≡ true → (a ≡ true) × (b ≡ true)
-both true b e = (refl, e)
-both false b e = absurd cc
-
 lf_small : (l : Lengths) → are_short l ≡ true → l.lf < 32768
 unfolding are_short
 lf_small l short = grind arith
@@ -77,8 +70,8 @@ sound_tables bytes l laid none =
     let first = passed (not (begin_with_zero bytes l)) FirstNotZero _ entries.1 in
     let words = passed (not (have_fix_words bytes l)) FixWord _ first.1 in
     let programs = passed (not (begin_at_steps bytes l && are_good_steps bytes l)) LigProgram None words.1 in
-    let steps = both (begin_at_steps bytes l) (are_good_steps bytes l) (holds _ programs.0) in
-    record { laid_out = laid; size = holds _ size.0; entries = holds _ entries.0; begins = steps.0; steps = steps.1 }
+    let steps = and_parts (begin_at_steps bytes l) (are_good_steps bytes l) (not-false _ programs.0) in
+    record { laid_out = laid; size = not-false _ size.0; entries = not-false _ entries.0; begins = steps.0; steps = steps.1 }
 
 -- a file without fault is sound
 pub sound_of : (bytes : List ℕ) → first_fault bytes ≡ None → IsSound bytes (lengths_of bytes)
@@ -87,13 +80,8 @@ sound_of bytes none =
     let l : Lengths = lengths_of bytes in
     let enough = passed (nat_lt (length bytes) 24) Short (fault_of_lengths bytes l) none in
     let range = passed (not (are_short l && are_usable l)) Range _ enough.1 in
-    let usable = both (are_short l) (are_usable l) (holds _ range.0) in
+    let usable = and_parts (are_short l) (are_usable l) (not-false _ range.0) in
     let header = passed (nat_lt l.lh 2) Header _ range.1 in
     let sum = passed (not (nat_eq l.lf (word_count l))) fault.Lengths _ header.1 in
     let long = passed (nat_lt (length bytes) (4 * l.lf)) Short _ sum.1 in
-    sound_tables bytes l (laid_out_of bytes l usable.0 usable.1 header.0 (holds _ sum.0) long.0) long.1
-
--- and long enough for its lengths
-pub long_of : (bytes : List ℕ) → first_fault bytes ≡ None → 24 ≤ length bytes
-unfolding first_fault
-long_of bytes none = let enough = passed (nat_lt (length bytes) 24) Short (fault_of_lengths bytes (lengths_of bytes)) none in grind arith
+    sound_tables bytes l (laid_out_of bytes l usable.0 usable.1 header.0 (not-false _ sum.0) long.0) long.1

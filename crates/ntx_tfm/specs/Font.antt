@@ -1,5 +1,7 @@
 -- A font: what a TFM file, a name and a size give ("TeX: The Program", sections 539 to 546 and 560 to 576). Every size is in scaled points.
-use Rattle.std.specs.Prelude.{◌≡◌, ◌<◌, ◌≤◌, ℕ, ◌+◌, ◌-◌, ◌*◌, ◌/◌, ℤ, pos, unsigned_abs, nat_lt, nat_eq, if◌then◌else◌, List, [], ◌∷◌, length, slice_get, slice_index_or, Option, Some, None, Result, Ok, Err, All, IsTrue, IsSome, ◌≤ℤ◌}
+use Rattle.std.specs.Prelude.{◌≡◌, ◌<◌, ◌≤◌, ℕ, ◌+◌, ◌-◌, ◌*◌, ◌/◌, ℤ, pos, unsigned_abs, nat_lt, nat_eq, if◌then◌else◌, List, [], ◌∷◌, length, slice_get, slice_index_or, Option, Some, None, Result, Ok, Err, All, IsTrue, IsSome, IfSome, ◌≤ℤ◌, FitsSigned}
+use Rattle.std.specs.Int.{w32}
+use Rattle.ntx_num.specs.Dimension.{IsDimension}
 use Rattle.ntx_num.specs.declared.size.Size.{Size}
 use Rattle.ntx_tfm.specs.declared.def.FontDef.{FontDef}
 use Rattle.ntx_tfm.specs.declared.fault.FontFault.{FontFault}
@@ -92,19 +94,15 @@ font_of bytes name size = found (first_fault bytes)
     found None = Ok (tables_of bytes name (size_or_design size (design_of bytes)))
     found (Some fault) = Err fault
 
--- Within TeX's dimensions.
-abbrev pub IsDimension : ℤ → Type 0
-IsDimension z = unsigned_abs z < 1073741824
-
+-- A size within TeX's dimensions.
 pub record IsSized (size : Size) : Type 0 where
   pub width : IsDimension size.w
   pub height : IsDimension size.h
   pub depth : IsDimension size.d
 
--- The character, if there is one, has a size within TeX's dimensions.
-abbrev pub IsMeasured : Option Character → Type 0
-IsMeasured None = Unit {0}
-IsMeasured (Some character) = IsSized character.size
+-- The character, if there is one, has such a size.
+abbrev pub IsSizedCharacter : Option Character → Type 0
+IsSizedCharacter found = IfSome found (λ character. IsSized character.size)
 
 -- The sizes are below 2 ^ 26, and the name has 1 to 255 bytes.
 pub record IsDefinition (def : FontDef) : Type 0 where
@@ -150,9 +148,10 @@ pub record IsGoodStep (t : FontTables) (i : ℕ) (step : LigStep) : Type 0 where
 pub record IsFont (t : FontTables) : Type 0 where
   pub definition : IsDefinition t.def
   pub codes : length t.characters ≡ 256
-  pub characters : All IsMeasured t.characters
+  pub characters : All IsSizedCharacter t.characters
   pub steps : length t.steps < 32768
   pub kerns : All IsDimension t.kerns
+  pub slant : FitsSigned w32 (parameter_at t 1)
   pub parameters : (k : ℕ) → 2 ≤ k → k ≤ 7 → IsDimension (parameter_at t k)
   pub good_steps : (i : ℕ) (step : LigStep) → slice_get t.steps i ≡ Some step → IsGoodStep t i step
   pub starts : (c place : ℕ) → start_at t c ≡ Some place → place < length t.steps

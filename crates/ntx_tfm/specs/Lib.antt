@@ -1,7 +1,14 @@
+-- tests and tables over the numbers below a bound
 pub mod Each
-pub mod FaultNames
-pub mod Faults
-pub mod Font
-pub mod Layout
-pub mod Scaling
+-- a file as numbers and words
 pub mod Words
+-- the lengths at its front, and where each table begins
+pub mod Layout
+-- a fix_word times a size
+pub mod Scaling
+-- what can be wrong with a file
+pub mod Faults
+-- the printed names of the faults
+pub mod FaultNames
+-- the font of a file, and what every font keeps
+pub mod Font

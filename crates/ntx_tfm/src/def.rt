@@ -1,6 +1,7 @@
 //! What identifies a font.
 
-ghost use Rattle.std.specs.Prelude.{◌≡◌, IfOk};
+ghost use Rattle.std.specs.Prelude.{◌≡◌};
+ghost use Rattle.ntx_num.specs.Answer.{Gives};
 
 use ntx_num::NoMemory;
 use std::alloc::Global;
@@ -23,11 +24,18 @@ impl Model for FontName {
 impl FontName {
     /// The name with these bytes.
     pub fn new(alloc: Global, bytes: &[u8]) -> Result<FontName, NoMemory>
-        ensures { IfOk result (λ name. name ≡ bytes.now) }
+        ensures { Gives result bytes.now }
     {
         Ok(FontName {
             bytes: Vec::from_slice(alloc, bytes)?,
         })
+    }
+
+    /// A copy of the name.
+    pub fn try_clone(&self, alloc: Global) -> Result<FontName, NoMemory>
+        ensures { Gives result self.now }
+    {
+        FontName::new(alloc, self.as_bytes())
     }
 
     /// The bytes of the name.
@@ -49,4 +57,18 @@ pub struct FontDef {
     pub design: i64,
     /// The font's name, in a font of 1 to 255 bytes.
     pub name: FontName,
+}
+
+impl FontDef {
+    /// A copy of the definition.
+    pub fn try_clone(&self, alloc: Global) -> Result<FontDef, NoMemory>
+        ensures { Gives result self.now }
+    {
+        Ok(FontDef {
+            checksum: self.checksum,
+            size: self.size,
+            design: self.design,
+            name: self.name.try_clone(alloc)?,
+        })
+    }
 }

@@ -1,6 +1,7 @@
 //! Fonts.
 
-ghost use Rattle.std.specs.Prelude.{◌≡◌, ◌<◌, ◌≤◌, ◌^◌, IfOk, IfSome, length, slice_get};
+ghost use Rattle.std.specs.Prelude.{◌≡◌, ◌<◌, ◌≤◌, ◌^◌, IfOk, IfSome, length, slice_get, FitsSigned};
+ghost use Rattle.std.specs.Int.{w32};
 ghost use Rattle.std.specs.Option.{ForSome};
 ghost use Rattle.ntx_num.specs.Answer.{Answers};
 ghost use Rattle.ntx_tfm.specs.Faults.{IsSound, IsFaultless};
@@ -50,7 +51,8 @@ impl Model for Font {
 }
 
 impl Font {
-    ghost use Rattle.ntx_tfm.specs.Font.{IsDefinition, IsDimension, IsGoodStep, IsSized, size_at, start_at, parameter_at};
+    ghost use Rattle.ntx_num.specs.Dimension.{IsDimension};
+    ghost use Rattle.ntx_tfm.specs.Font.{IsDefinition, IsGoodStep, IsSized, size_at, start_at, parameter_at};
 
     /// What identifies the font, and its sizes.
     pub fn def(&self) -> &FontDef
@@ -97,11 +99,12 @@ impl Font {
 
     /// Parameter `k`, from 1 to 7 ("TeX: The Program", section 547): the slant as a signed multiple of 2^-20, and then
     /// space, stretch, shrink, x-height, quad and extra space in scaled points, each within 2^30 - 1 in absolute value.
-    /// A parameter that the file has not is 0.
+    /// The slant is a signed number of 32 bits. A parameter that the file does not have is 0.
     pub fn param(&self, k: u8) -> i64
         requires from_one { 1 ≤ k }
         requires to_seven { k ≤ 7 }
         ensures value { result ≡ parameter_at self.now k }
+        ensures slant { k ≡ 1 → FitsSigned w32 result }
         ensures dimension { 2 ≤ k → IsDimension result }
     {
         self.parameters[usize::from(k - 1)]
@@ -166,9 +169,12 @@ fn size_or_design(bytes: &[u8], lengths: Lengths, size: Option<i64>) -> u32
 }
 
 /// The font of a TFM file's bytes at a size in scaled points, or at its design size ("TeX: The Program", sections 539 to
-/// 546 and 560 to 576). The answer is the first fault of the bytes, in the order of `FontFault`, where they have one.
-/// Further bytes after those that the file's own length names are ignored. `name` has 1 to 255 bytes, and a `size` that is
-/// given is from 1 to 2^26 - 1.
+/// 546 and 560 to 576). Bytes after those that the file's own length names are ignored. `name` has 1 to 255 bytes, and a
+/// `size` that is given is from 1 to 2^26 - 1.
+///
+/// # Refusals
+///
+/// The first fault of the bytes, in the order of [`FontFault`], if they have one.
 #[tactic(auto, unfolding(crate::specs::Font::font_of))]
 pub fn read_font(
     alloc: Global,

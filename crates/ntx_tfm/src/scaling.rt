@@ -25,7 +25,7 @@ fn divisor(size: u32) -> u32
 
 /// The last three bytes of a fix_word times a size.
 #[tactic(auto, unfolding(crate::specs::Scaling::magnitude))]
-fn part(size: u32, word: Quad) -> u64
+fn magnitude(size: u32, word: Quad) -> u64
     requires { size < 2 ^ 26 }
     ensures value { result ≡ magnitude size word }
     ensures below { result ≤ 16 * divisor_of size * reduced size }
@@ -42,12 +42,12 @@ pub fn scaled(size: u32, word: Quad) -> i64
     requires { size < 2 ^ 26 }
     ensures { result ≡ scaled size word }
 {
-    let part = part(size, word) as i64;
+    let magnitude = magnitude(size, word) as i64;
     let divisor = divisor(size);
     if word.a == 255 {
-        part - i64::from(16 * divisor * (size / divisor))
+        magnitude - i64::from(16 * divisor * (size / divisor))
     } else {
-        part
+        magnitude
     }
 }
 

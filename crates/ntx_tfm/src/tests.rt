@@ -53,7 +53,7 @@ fn fault_of(alloc: Global, bytes: &[u8]) -> &'static str {
 }
 
 #[test]
-fn a_font_has_its_sizes_parameters_and_programs(rt: HostRuntime) -> Result<(), test::Fail> {
+fn a_font_has_its_sizes_and_programs(rt: HostRuntime) -> Result<(), test::Fail> {
     let bytes = small_font(rt.alloc())?;
     assert_eq!(rt; bytes.len(), 404);
     let font = read_font(rt.alloc(), &bytes, "T", None)?;
@@ -65,17 +65,6 @@ fn a_font_has_its_sizes_parameters_and_programs(rt: HostRuntime) -> Result<(), t
     assert_eq!(rt; font.char_size(b'a'), Some(letter));
     assert_eq!(rt; font.char_size(b'A'), None);
     assert_eq!(rt; font.char_size(200), None);
-    let wanted = [0, 163_840, 81_920, 40_960, 0, 0, 0];
-    let found = [
-        font.param(1),
-        font.param(2),
-        font.param(3),
-        font.param(4),
-        font.param(5),
-        font.param(6),
-        font.param(7),
-    ];
-    assert_eq!(rt; found, wanted);
     assert_eq!(rt; font.start(b'f'), Some(0));
     assert_eq!(rt; font.start(b'a'), Some(3));
     assert_eq!(rt; font.start(b'b'), None);
@@ -91,9 +80,20 @@ fn a_font_has_its_sizes_parameters_and_programs(rt: HostRuntime) -> Result<(), t
     assert_eq!(rt; font.lig_step(4), None);
     assert_eq!(rt; font.kern_of(0), Some(-40_960));
     assert_eq!(rt; font.kern_of(1), None);
-    let def = font.def();
+    Ok(())
+}
+
+#[test]
+fn a_font_has_its_parameters_and_definition(rt: HostRuntime) -> Result<(), test::Fail> {
+    let bytes = small_font(rt.alloc())?;
+    let font = read_font(rt.alloc(), &bytes, "T", Some(65_536))?;
+    assert_eq!(rt; [font.param(1), font.param(2)], [0, 16_384]);
+    assert_eq!(rt; [font.param(3), font.param(4)], [8_192, 4_096]);
+    assert_eq!(rt; [font.param(5), font.param(6)], [0, 0]);
+    assert_eq!(rt; font.param(7), 0);
+    let def = font.def().try_clone(rt.alloc())?;
     assert_eq!(rt; def.checksum, 0);
-    assert_eq!(rt; def.size, 655_360);
+    assert_eq!(rt; def.size, 65_536);
     assert_eq!(rt; def.design, 655_360);
     assert_eq!(rt; def.name.as_bytes(), b"T".as_slice());
     scaling_rounds_down();

@@ -3,12 +3,14 @@ use Rattle.std.proofs.Common.{◌≡◌, ℕ, zero, suc, ◌+◌, ◌≤◌, ◌
 use Rattle.std.specs.Prelude.{Option, Result, ◌||◌, sum_by, is_some}
 use Rattle.std.specs.List.{All, AllByRecursion}
 use Rattle.std.specs.FinMap as map
-use Rattle.std.proofs.lemmas.List.Elements.{All-from_recursion}
+use Rattle.std.proofs.lemmas.List.Elements.{All-from_recursion, All-nil, All-cons}
 use Rattle.std.proofs.lemmas.List.Sums.{sum_by-cons}
 use Rattle.ntx_num.specs.Answer.{result_and_then}
-use Rattle.ntx_nodes.specs.Heap.{Heap, IsLawful, max_nodes}
-use Rattle.ntx_nodes.specs.Walk.{is_reached, node_reached, turns_of, flat_walk, checked_walk}
-use Rattle.ntx_nodes.specs.Walker.{inner_links, links_of, whole_walk}
+use Rattle.ntx_num.specs.Dimension.{max_nodes}
+use Rattle.ntx_nodes.specs.Heap.{Heap, IsLawful}
+use Rattle.ntx_nodes.specs.Walk.{is_reached, inner_lists, entered, node_reached, turns_of, flat_walk, checked_walk}
+use Rattle.ntx_nodes.specs.Walker.{whole_walk}
+use Rattle.ntx_nodes.specs.declared.inner.InnerLists.{InnerLists}
 use Rattle.ntx_nodes.specs.WalkLaws.{AreFresh, Sound}
 use Rattle.ntx_nodes.specs.declared.kind.ListKind.{ListKind}
 use Rattle.ntx_nodes.specs.declared.kind.ListKind.TheVariants.{H}
@@ -18,19 +20,13 @@ use Rattle.ntx_nodes.specs.declared.fields.Contents.{Contents}
 use Rattle.ntx_nodes.specs.declared.fields.Contents.TheVariants as contents
 use Rattle.ntx_nodes.specs.declared.node.Node.{Node}
 use Rattle.ntx_nodes.specs.declared.trouble.Trouble.{Trouble}
-use Rattle.ntx_nodes.proofs.Oks.{went_Ok}
+use Rattle.std.proofs.lemmas.Bool.{or_left, or_right}
+use Rattle.ntx_num.proofs.Answers.{same_Ok, went_Ok}
 use Rattle.ntx_nodes.proofs.Turns.{passes, unreached, unreached_less, unreached_falls, unreached_most, Extends, extends_on, walk_extends}
 use Rattle.ntx_nodes.proofs.Walks.{is_reached-append, node_reached_Ok}
-use Rattle.ntx_nodes.proofs.WalkSteps.{whole_None, whole_at, whole_refused, links_next}
-use Rattle.ntx_view.specs.View.{names_in, PartsEnd, PartsEndAt}
+use Rattle.ntx_nodes.proofs.WalkSteps.{whole_None, whole_at, whole_refused}
+use Rattle.ntx_view.specs.View.{names_in, IsLiveAt, PartsEnd, PartsEndAt}
 use Rattle.ntx_view.specs.Bounds.{list_length, parts_weight, weight_at}
-
-same_Ok : {A E : Type 0} (a b : A) → ◌≡◌ {A = Result A E} (Ok a) (Ok b) → a ≡ b
-same_Ok a b e = cc
-
-or_true_right : (a b : Bool) → (a || b) ≡ true → a ≡ false → b ≡ true
-or_true_right true b e f = cc
-or_true_right false b e f = e
 
 -- each name of the first list is among those of the second
 abbrev IsPart : List ℕ → List ℕ → Type 0
@@ -52,14 +48,6 @@ part_or : (a c x : Bool) → (a ≡ true → x ≡ true) → (c ≡ true → x �
 part_or true c x f g e = f refl
 part_or false c x f g e = g e
 
-or_left : (a b : Bool) → a ≡ true → (a || b) ≡ true
-or_left true b e = refl
-or_left false b e = cc
-
-or_right : (a b : Bool) → b ≡ true → (a || b) ≡ true
-or_right true b e = refl
-or_right false b e = e
-
 grown : (a b : List ℕ) (m : ℕ) → is_reached a m ≡ true → is_reached (a ++ b) m ≡ true
 grown a b m h = is_reached-append a b m ∙ or_left (is_reached a m) (is_reached b m) h
 
@@ -80,30 +68,30 @@ flat_at heap b n node is =
     ∙ ap (λ x. result_and_then x (λ c. whole_walk heap Flat c node.fields.next 0 H)) (whole_None heap Flat (b ++ n ∷ []) (0 + 1) H)
 
 -- the parts of a node are among its inner lists
-parts_le : (heap : Heap) (c : Contents) (next : Option ℕ) →
-    parts_weight heap c ≤ list_length heap (inner_links c next).first + list_length heap (inner_links c next).second + list_length heap (inner_links c next).third
-parts_le heap (contents.Disc d) next = omega arith
-parts_le heap (contents.Hlist b) next = omega arith
-parts_le heap (contents.Vlist b) next = omega arith
-parts_le heap (contents.Rule x) next = omega arith
-parts_le heap (contents.Glue x) next = omega arith
-parts_le heap (contents.Kern x) next = omega arith
-parts_le heap (contents.Penalty x) next = omega arith
-parts_le heap (contents.Glyph x) next = omega arith
+parts_le : (heap : Heap) (c : Contents) →
+    parts_weight heap c ≤ list_length heap (inner_lists c).first + list_length heap (inner_lists c).second + list_length heap (inner_lists c).third
+parts_le heap (contents.Disc d) = omega arith
+parts_le heap (contents.Hlist b) = omega arith
+parts_le heap (contents.Vlist b) = omega arith
+parts_le heap (contents.Rule x) = omega arith
+parts_le heap (contents.Glue x) = omega arith
+parts_le heap (contents.Kern x) = omega arith
+parts_le heap (contents.Penalty x) = omega arith
+parts_le heap (contents.Glyph x) = omega arith
 
 ends : (heap : Heap) (to : Option ℕ) (fs : List ℕ) → whole_walk heap Flat [] to 0 H ≡ Ok ([] ++ fs) → IsOk (flat_walk heap to)
 ends heap to fs e = subst IsOk (sym e) refl
 
 -- the walks along the parts of a node end well
-parts_end : (heap : Heap) (c : Contents) (next : Option ℕ) → IsOk (flat_walk heap (inner_links c next).first) → IsOk (flat_walk heap (inner_links c next).second) → IsOk (flat_walk heap (inner_links c next).third) → PartsEnd heap c
-parts_end heap (contents.Disc d) next a b c = (a, b, c)
-parts_end heap (contents.Hlist x) next a b c = tt
-parts_end heap (contents.Vlist x) next a b c = tt
-parts_end heap (contents.Rule x) next a b c = tt
-parts_end heap (contents.Glue x) next a b c = tt
-parts_end heap (contents.Kern x) next a b c = tt
-parts_end heap (contents.Penalty x) next a b c = tt
-parts_end heap (contents.Glyph x) next a b c = tt
+parts_end : (heap : Heap) (c : Contents) → IsOk (flat_walk heap (inner_lists c).first) → IsOk (flat_walk heap (inner_lists c).second) → IsOk (flat_walk heap (inner_lists c).third) → PartsEnd heap c
+parts_end heap (contents.Disc d) a b c = (a, b, c)
+parts_end heap (contents.Hlist x) a b c = tt
+parts_end heap (contents.Vlist x) a b c = tt
+parts_end heap (contents.Rule x) a b c = tt
+parts_end heap (contents.Glue x) a b c = tt
+parts_end heap (contents.Kern x) a b c = tt
+parts_end heap (contents.Penalty x) a b c = tt
+parts_end heap (contents.Glyph x) a b c = tt
 
 end_at : (heap : Heap) (n : ℕ) (node : Node) → map.get heap.nodes n ≡ Some node → PartsEnd heap node.fields.contents → PartsEndAt heap n
 end_at heap n node live end other is = let same : node ≡ other = cc in subst (λ (x : Node). PartsEnd heap x.fields.contents) same end
@@ -125,10 +113,10 @@ flattens_at : (heap : Heap) (u : ℕ) → Below heap u → (r : List ℕ) (n d :
 flattens_at heap u below r n d k names (Err why) lt e is b within = let refused = whole_refused heap Checked r n d k why is in cc
 flattens_at heap u below r n d k names (Ok node) lt e is b within =
     let p = passes heap Checked r n d k node is in
-    let l = links_of Checked node.fields in
+    let l : InnerLists = entered Checked node.fields.contents in
     let f : List ℕ → Option ℕ → ListKind → Result (List ℕ) Trouble = λ b to i. whole_walk heap Checked b to (d + 1) i in
     let r0 : List ℕ = r ++ n ∷ [] in
-    let goes = went_Ok (λ c. whole_walk heap Checked c l.next d k) (result_and_then (f r0 l.first l.kind) (λ a. result_and_then (f a l.second l.kind) (λ b. f b l.third l.kind))) names (sym (whole_at heap Checked r n d k node is) ∙ e) in
+    let goes = went_Ok (λ c. whole_walk heap Checked c node.fields.next d k) (result_and_then (f r0 l.first l.kind) (λ a. result_and_then (f a l.second l.kind) (λ b. f b l.third l.kind))) names (sym (whole_at heap Checked r n d k node is) ∙ e) in
     let first = went_Ok (λ a. result_and_then (f a l.second l.kind) (λ b. f b l.third l.kind)) (f r0 l.first l.kind) goes.value goes.is in
     let second = went_Ok (λ b. f b l.third l.kind) (f first.value l.second l.kind) goes.value first.gives in
     let x1 : Extends r0 first.value = walk_extends heap Checked (turns_of heap) r0 l.first (d + 1) l.kind first.value first.is in
@@ -142,9 +130,9 @@ flattens_at heap u below r n d k names (Ok node) lt e is b within =
     let f1 : Flattens heap r0 l.first first.value [] = below r0 l.first (d + 1) l.kind first.value (omega arith) first.is [] (none_part r0) in
     let f2 : Flattens heap first.value l.second second.value [] = below first.value l.second (d + 1) l.kind second.value (omega arith) second.is [] (none_part first.value) in
     let f3 : Flattens heap second.value l.third goes.value [] = below second.value l.third (d + 1) l.kind goes.value (omega arith) second.gives [] (none_part second.value) in
-    let f4 : Flattens heap goes.value l.next names (b ++ n ∷ []) = below goes.value l.next d k names (omega arith) goes.gives (b ++ n ∷ []) (part_more b r goes.value n within x) in
-    let reached : node_reached heap Flat b n 0 H ≡ Ok node = node_reached_Ok heap Flat b n 0 H node p.live (not_in b r n within p.new (is_reached b n) refl) (omega arith) refl in
-    let on : whole_walk heap Flat (b ++ n ∷ []) node.fields.next 0 H ≡ Ok ((b ++ n ∷ []) ++ f4.fs) = subst (λ x. whole_walk heap Flat (b ++ n ∷ []) x 0 H ≡ Ok ((b ++ n ∷ []) ++ f4.fs)) (links_next Checked node.fields) f4.walks in
+    let f4 : Flattens heap goes.value node.fields.next names (b ++ n ∷ []) = below goes.value node.fields.next d k names (omega arith) goes.gives (b ++ n ∷ []) (part_more b r goes.value n within x) in
+    let reached : node_reached heap Flat b n 0 H ≡ Ok node = node_reached_Ok heap Flat b n 0 H node p.live (not_in b r n within p.new (is_reached b n) refl) refl refl in
+    let on : whole_walk heap Flat (b ++ n ∷ []) node.fields.next 0 H ≡ Ok ((b ++ n ∷ []) ++ f4.fs) = f4.walks in
     let one_more : length r0 ≡ length r + 1 = length-append r (n ∷ []) in
     let l1 : list_length heap l.first ≡ length f1.fs = list_length_is heap l.first f1.fs f1.walks in
     let l2 : list_length heap l.second ≡ length f2.fs = list_length_is heap l.second f2.fs f2.walks in
@@ -154,7 +142,7 @@ flattens_at heap u below r n d k names (Ok node) lt e is b within =
     let c3 : length f3.fs + length second.value ≤ length goes.value = f3.counts in
     let c4 : length f4.fs + length goes.value ≤ length names = f4.counts in
     let w4 : sum_by (weight_at heap) f4.fs + length goes.value ≤ length names = f4.weighs in
-    let parts : parts_weight heap node.fields.contents ≤ list_length heap l.first + list_length heap l.second + list_length heap l.third = parts_le heap node.fields.contents node.fields.next in
+    let parts : parts_weight heap node.fields.contents ≤ list_length heap l.first + list_length heap l.second + list_length heap l.third = parts_le heap node.fields.contents in
     let own : weight_at heap n ≡ 1 + parts_weight heap node.fields.contents = weight_is heap n node p.live in
     let all : sum_by (weight_at heap) (n ∷ f4.fs) ≡ weight_at heap n + sum_by (weight_at heap) f4.fs = sum_by-cons (weight_at heap) n f4.fs in
     record {
@@ -162,7 +150,7 @@ flattens_at heap u below r n d k names (Ok node) lt e is b within =
       walks = flat_at heap b n node reached ∙ on ∙ ap Ok (append_assoc b (n ∷ []) f4.fs);
       counts = omega arith;
       weighs = omega arith;
-      parts = (end_at heap n node p.live (parts_end heap node.fields.contents node.fields.next (ends heap l.first f1.fs f1.walks) (ends heap l.second f2.fs f2.walks) (ends heap l.third f3.fs f3.walks)), f4.parts);
+      parts = (end_at heap n node p.live (parts_end heap node.fields.contents (ends heap l.first f1.fs f1.walks) (ends heap l.second f2.fs f2.walks) (ends heap l.third f3.fs f3.walks)), f4.parts);
     }
 
 flattens_below : (heap : Heap) (u : ℕ) → Below heap u
@@ -215,3 +203,10 @@ sound_few heap way head names lawful s =
     let few : map.len heap.nodes ≤ max_nodes = lawful.few in
     let same : length names ≡ length s.more = ap length s.added in
     omega arith
+
+pub all_live : (heap : Heap) (before names : List ℕ) → AreFresh heap before names → All (IsLiveAt heap) names
+all_live heap before [] fresh = All-nil (IsLiveAt heap)
+all_live heap before (n ∷ ns) fresh = All-cons (IsLiveAt heap) n ns fresh.0 (all_live heap (before ++ n ∷ []) ns fresh.2)
+
+pub sound_live : (heap : Heap) (way : Way) (head : Option ℕ) (names : List ℕ) → Sound heap way [] head names → All (IsLiveAt heap) names
+sound_live heap way head names s = subst (All (IsLiveAt heap)) (sym s.added) (all_live heap [] s.more s.fresh)

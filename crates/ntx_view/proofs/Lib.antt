@@ -1,4 +1,4 @@
 pub mod Counts
 pub mod Lists
-pub mod Read
+pub mod Measures
 pub mod Sizes

@@ -6,11 +6,12 @@ use Rattle.std.specs.Int.RustNames.{unsigned_abs}
 use Rattle.std.proofs.lemmas.Int.{ints, clamps}
 use Rattle.std.proofs.lemmas.List.Elements.{All-head, All-tail, All-weaker}
 use Rattle.std.proofs.lemmas.List.Sums.{fold_more, sum_by-take-le}
-use Rattle.ntx_item.proofs.ItemsLemmas.{sums_are_bounded}
+use Rattle.ntx_item.proofs.SumLemmas.{sums_are_bounded}
 use Rattle.ntx_item.specs.declared.item.Item.{Item}
 use Rattle.ntx_item.specs.declared.item.Item.TheVariants.{Box, Glyph, Rule, Glue, Kern, Penalty, Disc}
-use Rattle.ntx_item.specs.Items.{absolute_width, AreItemsInRange, signed_sum, max_total}
-use Rattle.ntx_view.specs.Natural.{natural_width, reach_above, reach_below, greatest, hlist_size, size_with, max_reach, IsReaching}
+use Rattle.ntx_item.specs.Items.{absolute_width, AreItemsInRange, max_total}
+use Rattle.ntx_item.specs.Sums.{signed_sum, natural_width}
+use Rattle.ntx_view.specs.Natural.{reach_above, reach_below, greatest, hlist_size, size_with, max_reach, IsReaching}
 
 pub natural-le-absolute : (item : Item) → unsigned_abs (natural_width item) ≤ absolute_width item
 natural-le-absolute (Box size shift) = omega arith

@@ -1,8 +1,8 @@
 -- How large the sizes of a list are: TeX's dimensions, added over its nodes.
 --     list_length heap to     how many nodes a list has
 --     weight_at heap n        from how many nodes an item is measured: its own, and of a discretionary those of its parts
---     IsModest weight item    an item in range, no wider than as many nodes can make it, that reaches no farther than `max_reach`
---     AreModest               items that are together no larger than the nodes of these names can make them
+--     IsBoundedBy weight item an item in range, no wider than as many nodes can make it, that reaches no farther than `max_reach`
+--     AreBoundedBy            items that are together no larger than the nodes of these names can make them
 use Rattle.std.specs.Prelude.{ℕ, ◌+◌, ◌*◌, ◌≤◌, List, length, Option, None, Some, All, sum_by}
 use Rattle.std.specs.FinMap as fin
 use Rattle.ntx_num.specs.Dimension.{max_dimension}
@@ -23,10 +23,6 @@ abbrev pub parts_weight : Heap → Contents → ℕ
 parts_weight heap (contents.Disc d) = list_length heap d.pre + list_length heap d.post + list_length heap d.replace
 parts_weight heap _ = 0
 
--- of these parts
-abbrev pub answered_weight : Heap → Option ℕ × Option ℕ × Option ℕ → ℕ
-answered_weight heap parts = list_length heap parts.0 + list_length heap parts.1 + list_length heap parts.2
-
 abbrev pub node_weight : Heap → Option Node → ℕ
 node_weight heap None = 0
 node_weight heap (Some node) = 1 + parts_weight heap node.fields.contents
@@ -34,14 +30,14 @@ node_weight heap (Some node) = 1 + parts_weight heap node.fields.contents
 abbrev pub weight_at : Heap → ℕ → ℕ
 weight_at heap n = node_weight heap (fin.get heap.nodes n)
 
-pub record IsModest (weight : ℕ) (item : Item) : Type 0 where
+pub record IsBoundedBy (weight : ℕ) (item : Item) : Type 0 where
   pub in_range : IsItemInRange item
   pub width : absolute_width item ≤ weight * max_dimension
   pub stretch : absolute_stretch item ≤ max_dimension
   pub shrink : absolute_shrink item ≤ max_dimension
   pub reaching : IsReaching item
 
-pub record AreModest (heap : Heap) (names : List ℕ) (items : List Item) : Type 0 where
+pub record AreBoundedBy (heap : Heap) (names : List ℕ) (items : List Item) : Type 0 where
   pub count : length items ≤ length names
   pub each : All IsItemInRange items
   pub widths : sum_by absolute_width items ≤ sum_by (weight_at heap) names * max_dimension

@@ -6,18 +6,8 @@ use Rattle.std.specs.Prelude.{ℕ, ◌^◌, ◌≤◌, ℤ, pos, ◌+ℤ◌, ◌
 use Rattle.std.specs.Int.{int_max}
 use Rattle.ntx_num.specs.declared.size.Size.{Size}
 use Rattle.ntx_item.specs.declared.item.Item.{Item}
-use Rattle.ntx_item.specs.declared.item.Item.TheVariants.{Box, Glyph, Rule, Glue, Kern, Penalty, Disc}
-use Rattle.ntx_item.specs.Items.{signed_sum}
-
--- the natural width of an item, of a discretionary that of what stands there without a break
-abbrev pub natural_width : Item → ℤ
-natural_width (Box size shift) = size.w
-natural_width (Glyph size) = size.w
-natural_width (Rule size) = size.w
-natural_width (Glue spec) = spec.width
-natural_width (Kern w font) = w
-natural_width (Penalty p) = pos 0
-natural_width (Disc pre post replace pre_empty post_empty regular) = replace.w
+use Rattle.ntx_item.specs.declared.item.Item.TheVariants.{Box, Glyph, Rule, Disc}
+use Rattle.ntx_item.specs.Sums.{signed_sum, natural_width}
 
 -- how far an item reaches above the baseline; a box is moved down by its shift
 abbrev pub reach_above : Item → ℤ

@@ -1,15 +1,17 @@
 -- A list of nodes as items: what packing and line breaking look at ("TeX: The Program", sections 651 and 866).
 --     items_answer heap fonts head k     the items of the list at a head, one for each node of it, or the first trouble
 --     list_items heap fonts head         the items, where the walk along the list ends well
---     IsOneEach heap head items          one item for each node of a list
+--     item_at heap fonts n               the item of a live node
+--     IsOneEach heap fonts head items    one item for each node of a list
 --     bare_items heap fonts to           the same, but with no size for the parts of discretionaries: within a part there are
 --                                        no discretionaries
-use Rattle.std.specs.Prelude.{◌≡◌, ℕ, nat_eq, pos, Bool, false, List, [], length, map, slice_get, Option, None, Some, is_none, unwrap_or, Result, Ok, Err, IsOk, All}
+use Rattle.std.specs.Prelude.{◌≡◌, ℕ, nat_eq, pos, Bool, false, List, [], length, map, slice_get, Option, None, Some, is_none, unwrap_or, Result, Ok, Err, IsOk, IsTrue, All}
 use Rattle.std.specs.List.{find, filter_map}
+use Rattle.std.specs.Option.{option_map}
 use Rattle.std.specs.FinMap as fin
 use Rattle.ntx_num.specs.Answer.{result_and_then}
 use Rattle.ntx_num.specs.declared.size.Size.{Size}
-use Rattle.ntx_nodes.specs.Heap.{Heap}
+use Rattle.ntx_nodes.specs.Heap.{Heap, is_live}
 use Rattle.ntx_nodes.specs.Walk.{checked_walk, flat_walk}
 use Rattle.ntx_nodes.specs.declared.kind.ListKind.{ListKind}
 use Rattle.ntx_nodes.specs.declared.contents.BoxFields.{BoxFields}
@@ -38,17 +40,17 @@ abbrev pub char_size : List FontTables → GlyphFields → Option Size
 char_size fonts g = size_in_font g.char (slice_get fonts g.font)
 
 -- a glyph whose font or character is not there
-abbrev pub lacks_character : List FontTables → Contents → Bool
-lacks_character fonts (contents.Glyph g) = is_none (char_size fonts g)
-lacks_character fonts _ = false
+abbrev pub is_missing_char : List FontTables → Contents → Bool
+is_missing_char fonts (contents.Glyph g) = is_none (char_size fonts g)
+is_missing_char fonts _ = false
 
-abbrev pub is_lacking : List FontTables → Option Node → Bool
-is_lacking fonts None = false
-is_lacking fonts (Some node) = lacks_character fonts node.fields.contents
+abbrev pub is_missing_char_at : List FontTables → Option Node → Bool
+is_missing_char_at fonts None = false
+is_missing_char_at fonts (Some node) = is_missing_char fonts node.fields.contents
 
 -- the first name of such a glyph
-abbrev pub first_lacking : Heap → List FontTables → List ℕ → Option ℕ
-first_lacking heap fonts names = find (λ n. is_lacking fonts (fin.get heap.nodes n)) names
+abbrev pub first_missing_char : Heap → List FontTables → List ℕ → Option ℕ
+first_missing_char heap fonts names = find (λ n. is_missing_char_at fonts (fin.get heap.nodes n)) names
 
 -- ---- one node
 
@@ -61,8 +63,8 @@ box_size b = record { w = b.width; h = b.height; d = b.depth }
 abbrev pub rule_size : RuleFields → Size
 rule_size r = record { w = r.width; h = r.height; d = r.depth }
 
-abbrev pub glue_spec : GlueFields → GlueSpec
-glue_spec g = record { width = g.width; stretch = g.stretch; stretch_order = g.stretch_order; shrink = g.shrink; shrink_order = g.shrink_order }
+abbrev pub glue_of : GlueFields → GlueSpec
+glue_of g = record { width = g.width; stretch = g.stretch; stretch_order = g.stretch_order; shrink = g.shrink; shrink_order = g.shrink_order }
 
 -- A node as an item, where a part of a discretionary has this size. A kern of subtype 0 comes from a font, and a discretionary of subtype 3 is
 -- regular.
@@ -71,7 +73,7 @@ item_with part fonts subtype (contents.Hlist b) = Box (box_size b) b.shift
 item_with part fonts subtype (contents.Vlist b) = Box (box_size b) b.shift
 item_with part fonts subtype (contents.Rule r) = Rule (rule_size r)
 item_with part fonts subtype (contents.Glyph g) = Glyph (unwrap_or (char_size fonts g) no_size)
-item_with part fonts subtype (contents.Glue g) = Glue (glue_spec g)
+item_with part fonts subtype (contents.Glue g) = Glue (glue_of g)
 item_with part fonts subtype (contents.Kern w) = Kern w (nat_eq subtype 0)
 item_with part fonts subtype (contents.Penalty p) = Penalty p
 item_with part fonts subtype (contents.Disc d) = Disc (part d.pre) (part d.post) (part d.replace) (is_none d.pre) (is_none d.post) (nat_eq subtype 3)
@@ -103,19 +105,27 @@ part_size heap fonts to = hlist_size (bare_items heap fonts to)
 abbrev pub item_of : Heap → List FontTables → Node → Item
 item_of heap fonts node = item_with (part_size heap fonts) fonts node.fields.subtype node.fields.contents
 
+-- the item of the node of a name, if it is live
+abbrev pub item_at : Heap → List FontTables → ℕ → Option Item
+item_at heap fonts n = option_map (item_of heap fonts) (fin.get heap.nodes n)
+
 abbrev pub list_items : Heap → List FontTables → Option ℕ → List Item
 list_items heap fonts head = map (item_of heap fonts) (list_nodes heap head)
 
 -- these items, unless there is a glyph without a character
-abbrev pub unless_lacking : Option ℕ → List Item → Result (List Item) Trouble
-unless_lacking None items = Ok items
-unless_lacking (Some n) items = Err (NoChar n)
+abbrev pub unless_missing_char : Option ℕ → List Item → Result (List Item) Trouble
+unless_missing_char None items = Ok items
+unless_missing_char (Some n) items = Err (NoChar n)
 
 -- The walk through all lists comes first, and then its glyphs, those of inner lists included.
 abbrev pub items_answer : Heap → List FontTables → Option ℕ → ListKind → Result (List Item) Trouble
-items_answer heap fonts head k = result_and_then (checked_walk heap head k) (λ names. unless_lacking (first_lacking heap fonts names) (list_items heap fonts head))
+items_answer heap fonts head k = result_and_then (checked_walk heap head k) (λ names. unless_missing_char (first_missing_char heap fonts names) (list_items heap fonts head))
 
 -- ---- no list is cut short
+
+-- the node is live
+abbrev pub IsLiveAt : Heap → ℕ → Type 0
+IsLiveAt heap n = IsTrue (is_live heap n)
 
 -- the walks along the parts of a discretionary end well
 abbrev pub PartsEnd : Heap → Contents → Type 0
@@ -125,9 +135,11 @@ PartsEnd heap _ = Unit {0}
 abbrev pub PartsEndAt : Heap → ℕ → Type 0
 PartsEndAt heap n = (node : Node) → fin.get heap.nodes n ≡ Some node → PartsEnd heap node.fields.contents
 
--- The walk along the list ends well, and so do those along the parts of its discretionaries; there is one item for each node of it.
-pub record IsOneEach (heap : Heap) (head : Option ℕ) (items : List Item) : Type 0 where
+-- The walk along the list ends well, and so do those along the parts of its discretionaries; there is one item for each node of it, and item k is that
+-- of the k-th node.
+pub record IsOneEach (heap : Heap) (fonts : List FontTables) (head : Option ℕ) (items : List Item) : Type 0 where
   pub names : List ℕ
   pub walk : flat_walk heap head ≡ Ok names
   pub parts : All (PartsEndAt heap) names
   pub count : length items ≡ length names
+  pub each : (k n : ℕ) → slice_get names k ≡ Some n → slice_get items k ≡ item_at heap fonts n

@@ -1,84 +1,24 @@
-//! What the fields of a node hold, and the node as an item.
+//! What the fields of a node say of its item.
 
-ghost use Rattle.std.specs.Prelude.{◌≡◌, ◌≤◌, pos, unsigned_abs, slice_get, IfSome};
-ghost use Rattle.std.specs.Option.{option_map};
+ghost use Rattle.std.specs.Prelude.{◌≡◌, slice_get, IfSome};
 ghost use Rattle.std.specs.FinMap as fin;
-ghost use Rattle.ntx_nodes.specs.Steps.{get_answer};
-ghost use Rattle.ntx_view.specs.Answered.{number_in, IsMeasure, IsByteField, most_in, link_in, size_answered, parts_answered};
-ghost use Rattle.ntx_view.specs.Bounds.{IsModest};
-ghost use Rattle.ntx_view.specs.View.{size_in_font, is_lacking, bare_item};
+ghost use Rattle.ntx_view.specs.Bounds.{IsBoundedBy};
+ghost use Rattle.ntx_view.specs.Measured.{HasMeasures};
+ghost use Rattle.ntx_view.specs.View.{size_in_font, is_missing_char, is_missing_char_at, box_size, rule_size, glue_of, no_size, item_with};
 ghost use Rattle.ntx_tfm.specs.Font.{IsSized};
 
 use ntx_item::{GlueSpec, Item};
-use ntx_nodes::{Field, FieldValue, Kind, Nodes};
+use ntx_nodes::{BoxFields, Contents, Fields, GlueFields, GlyphFields, Nodes, RuleFields};
 use ntx_num::Size;
 use ntx_tfm::Font;
 
 /// No size at all.
 const NO_SIZE: Size = Size { w: 0, h: 0, d: 0 };
 
-/// The number in a field, or 0 where there is none.
-fn number<N: Nodes>(nodes: &N, n: u64, f: Field) -> i64
-    requires { IsMeasure f }
-    ensures value { result ≡ number_in (get_answer n f (N.heap nodes.now)) }
-    ensures bound { unsigned_abs result ≤ most_in f }
-{
-    nodes.lawful();
-    match nodes.get(n, f) {
-        Ok(FieldValue::Number(x)) => x,
-        _ => 0,
-    }
-}
-
-/// The byte in a field, or 0 where there is none.
-fn byte<N: Nodes>(nodes: &N, n: u64, f: Field) -> u8
-    requires { IsByteField f }
-    ensures value { pos result ≡ number_in (get_answer n f (N.heap nodes.now)) }
-    ensures bound { result ≤ most_in f }
-{
-    nodes.lawful();
-    match nodes.get(n, f) {
-        Ok(FieldValue::Number(x)) => x as u8,
-        _ => 0,
-    }
-}
-
-/// The link in a field, or nothing where there is none.
-fn link<N: Nodes>(nodes: &N, n: u64, f: Field) -> Option<u64>
-    ensures { result ≡ link_in (get_answer n f (N.heap nodes.now)) }
-{
-    match nodes.get(n, f) {
-        Ok(FieldValue::Link(to)) => to,
-        _ => None,
-    }
-}
-
-/// The parts of a discretionary: what stands before and after a break, and what stands there without one.
-pub fn parts<N: Nodes>(nodes: &N, n: u64) -> (Option<u64>, Option<u64>, Option<u64>)
-    ensures { result ≡ parts_answered (N.heap nodes.now) n }
-{
-    (
-        link(nodes, n, Field::Pre),
-        link(nodes, n, Field::Post),
-        link(nodes, n, Field::Replace),
-    )
-}
-
-/// The sizes of a box or a rule.
-fn size<N: Nodes>(nodes: &N, n: u64) -> Size
-    ensures value { result ≡ size_answered (N.heap nodes.now) n }
-    ensures sized { IsSized result }
-{
-    Size {
-        w: number(nodes, n, Field::Width),
-        h: number(nodes, n, Field::Height),
-        d: number(nodes, n, Field::Depth),
-    }
-}
-
-/// The size of a character of a font, where both are there.
-fn char_size(fonts: &[Font], font: u8, char: u8) -> Option<Size>
-    ensures size { result ≡ size_in_font char (slice_get fonts.now font) }
+/// The size of a character of a font in scaled points, each part within 2^30 - 1 in absolute value; `None` where the font
+/// or the character is not there. The number of a font is its place in `fonts`, counted from 0.
+pub fn char_size(fonts: &[Font], font: u8, char: u8) -> Option<Size>
+    ensures value { result ≡ size_in_font char (slice_get fonts.now font) }
     ensures sized { IfSome result IsSized }
 {
     match fonts.get(usize::from(font)) {
@@ -87,67 +27,97 @@ fn char_size(fonts: &[Font], font: u8, char: u8) -> Option<Size>
     }
 }
 
-/// Whether a node is a glyph whose font or character is not there.
-pub fn lacks_character<N: Nodes>(nodes: &N, fonts: &[Font], n: u64) -> bool
-    ensures { result ≡ is_lacking fonts.now (fin.get (N.heap nodes.now).nodes n) }
+/// The glue of a node.
+pub fn glue_of(fields: GlueFields) -> GlueSpec
+    ensures { result ≡ glue_of fields }
 {
-    match nodes.kind_of(n) {
-        Ok((Kind::Glyph, _)) => {
-            let font = byte(nodes, n, Field::Font);
-            let char = byte(nodes, n, Field::Char);
-            char_size(fonts, font, char).is_none()
-        }
+    GlueSpec {
+        width: fields.width,
+        stretch: fields.stretch,
+        stretch_order: fields.stretch_order,
+        shrink: fields.shrink,
+        shrink_order: fields.shrink_order,
+    }
+}
+
+/// Whether these are the fields of a glyph whose font or character is not there.
+fn is_missing_char(fonts: &[Font], contents: Contents) -> bool
+    ensures { result ≡ is_missing_char fonts.now contents }
+{
+    match contents {
+        Contents::Glyph(g) => char_size(fonts, g.font, g.char).is_none(),
         _ => false,
     }
 }
 
-/// A live node as an item, with no size for the parts of a discretionary.
-pub fn bare_item<N: Nodes>(nodes: &N, fonts: &[Font], n: u64) -> Option<Item>
-    ensures item { result ≡ option_map (bare_item fonts.now) (fin.get (N.heap nodes.now).nodes n) }
-    ensures modest { IfSome result (IsModest 1) }
+/// Whether a node is a glyph whose font or character is not there.
+pub(crate) fn is_missing_char_at<N: Nodes>(nodes: &N, fonts: &[Font], n: u64) -> bool
+    ensures { result ≡ is_missing_char_at fonts.now (fin.get (N.heap nodes.now).nodes n) }
 {
-    let (kind, subtype) = match nodes.kind_of(n) {
-        Ok(found) => found,
-        Err(_) => return None,
-    };
-    Some(match kind {
-        Kind::Hlist | Kind::Vlist => Item::Box {
-            size: size(nodes, n),
-            shift: number(nodes, n, Field::Shift),
+    match nodes.fields(n) {
+        Ok(fields) => is_missing_char(fonts, fields.contents),
+        Err(_) => false,
+    }
+}
+
+/// The size of a box.
+fn box_size(b: BoxFields) -> Size
+    ensures { result ≡ box_size b }
+{
+    Size {
+        w: b.width,
+        h: b.height,
+        d: b.depth,
+    }
+}
+
+/// The size of a rule.
+fn rule_size(r: RuleFields) -> Size
+    ensures { result ≡ rule_size r }
+{
+    Size {
+        w: r.width,
+        h: r.height,
+        d: r.depth,
+    }
+}
+
+/// The size of a glyph, and no size where its character is not there.
+fn glyph_size(fonts: &[Font], g: GlyphFields) -> Size
+    ensures value { Item.Glyph result ≡ item_with (λ _. no_size) fonts.now 0 (Contents.Glyph g) }
+    ensures sized { IsSized result }
+{
+    char_size(fonts, g.font, g.char).unwrap_or(NO_SIZE)
+}
+
+/// A node as an item, with no size for the parts of a discretionary.
+pub(crate) fn bare_item(fonts: &[Font], fields: Fields) -> Item
+    requires { HasMeasures fields.contents }
+    ensures item { result ≡ item_with (λ _. no_size) fonts.now fields.subtype fields.contents }
+    ensures bounded { IsBoundedBy 1 result }
+{
+    match fields.contents {
+        Contents::Hlist(b) | Contents::Vlist(b) => Item::Box {
+            size: box_size(b),
+            shift: b.shift,
         },
-        Kind::Rule => Item::Rule {
-            size: size(nodes, n),
+        Contents::Rule(r) => Item::Rule { size: rule_size(r) },
+        Contents::Glyph(g) => Item::Glyph {
+            size: glyph_size(fonts, g),
         },
-        Kind::Glyph => {
-            let font = byte(nodes, n, Field::Font);
-            let char = byte(nodes, n, Field::Char);
-            Item::Glyph {
-                size: char_size(fonts, font, char).unwrap_or(NO_SIZE),
-            }
-        }
-        Kind::Glue => Item::Glue {
-            spec: GlueSpec {
-                width: number(nodes, n, Field::Width),
-                stretch: number(nodes, n, Field::Stretch),
-                stretch_order: byte(nodes, n, Field::StretchOrder),
-                shrink: number(nodes, n, Field::Shrink),
-                shrink_order: byte(nodes, n, Field::ShrinkOrder),
-            },
+        Contents::Glue(g) => Item::Glue { spec: glue_of(g) },
+        Contents::Kern(w) => Item::Kern {
+            w,
+            font: fields.subtype == 0,
         },
-        Kind::Kern => Item::Kern {
-            w: number(nodes, n, Field::Kern),
-            font: subtype == 0,
-        },
-        Kind::Penalty => Item::Penalty {
-            p: number(nodes, n, Field::Penalty),
-        },
-        Kind::Disc => Item::Disc {
+        Contents::Penalty(p) => Item::Penalty { p },
+        Contents::Disc(d) => Item::Disc {
             pre: NO_SIZE,
             post: NO_SIZE,
             replace: NO_SIZE,
-            pre_empty: link(nodes, n, Field::Pre).is_none(),
-            post_empty: link(nodes, n, Field::Post).is_none(),
-            regular: subtype == 3,
+            pre_empty: d.pre.is_none(),
+            post_empty: d.post.is_none(),
+            regular: fields.subtype == 3,
         },
-    })
+    }
 }

@@ -8,8 +8,9 @@ mod fields;
 mod natural;
 mod view;
 
+pub use fields::{char_size, glue_of};
 pub use natural::hlist_size;
-pub use view::items;
+pub use view::{heaps_are_measured, item_at, items};
 
 #[cfg(test)]
 mod tests;

@@ -3,23 +3,11 @@
 ghost use Rattle.std.specs.Prelude.{◌≡◌, ◌≤◌, ◌+ℤ◌, All, sum_by, unsigned_abs};
 ghost use Rattle.std.specs.Int.{int_max};
 ghost use Rattle.ntx_item.specs.Items.{AreItemsInRange, absolute_width, max_total};
-ghost use Rattle.ntx_view.specs.Natural.{hlist_size, size_with, natural_width, reach_above, reach_below, max_reach, IsReaching};
+ghost use Rattle.ntx_item.specs.Sums.{natural_width};
+ghost use Rattle.ntx_view.specs.Natural.{hlist_size, size_with, reach_above, reach_below, max_reach, IsReaching};
 
 use ntx_item::Item;
 use ntx_num::Size;
-
-/// The natural width of an item in scaled points.
-fn natural_width(item: &Item) -> i64
-    ensures { result ≡ natural_width item.now }
-{
-    match item {
-        Item::Box { size, .. } | Item::Glyph { size } | Item::Rule { size } => size.w,
-        Item::Glue { spec } => spec.width,
-        Item::Kern { w, .. } => *w,
-        Item::Penalty { .. } => 0,
-        Item::Disc { replace, .. } => replace.w,
-    }
-}
 
 /// How far an item reaches above the baseline in scaled points.
 fn reach_above(item: &Item) -> i64
@@ -69,7 +57,7 @@ fn with_item(size: Size, item: &Item) -> Size
     ensures { result ≡ size_with size item.now }
 {
     Size {
-        w: sum(size.w, natural_width(item)),
+        w: sum(size.w, item.natural_width()),
         h: greater(size.h, reach_above(item)),
         d: greater(size.d, reach_below(item)),
     }

@@ -2,8 +2,8 @@
 
 use super::lists::{shrink, stretch, vertical};
 use crate::*;
-use ntx_item::GlueSpec;
-use ntx_nodes::{ListKind, Nodes, PlainHeap};
+use ntx_item::{GlueSpec, Item, Params};
+use ntx_nodes::{ListKind, PlainHeap};
 use ntx_num::Size;
 use ntx_tfm::Font;
 use ntx_view::items;
@@ -16,7 +16,7 @@ fn next_size(rt: &impl Abort, setter: &mut GlueSetter, spec: GlueSpec) -> i64 {
     assert!(rt; spec.stretch.unsigned_abs() < 1000);
     assert!(rt; spec.shrink.unsigned_abs() < 1000);
     assert!(rt; setter.total.unsigned_abs() < 1000);
-    setter.size_of(&spec)
+    setter.next_size(&spec)
 }
 
 #[test]
@@ -46,11 +46,22 @@ fn glue_of_an_overfull_box(rt: HostRuntime) {
 }
 
 #[test]
+fn glue_between_boxes_keeps_baselines_apart(rt: HostRuntime) {
+    let params = Params::plain();
+    let far = interline_glue(&params, 131_072, 458_752);
+    assert!(rt; far.width == 196_608);
+    assert!(rt; far.stretch == 0 && far.shrink == 0);
+    assert!(rt; interline_glue(&params, 327_680, 458_752).width == 0);
+    assert!(rt; interline_glue(&params, 327_681, 458_752).width == 65_536);
+}
+
+#[test]
 fn items_are_measured_alone(rt: HostRuntime) -> Result<(), test::Fail> {
     vertical_lists_stack();
     boxes_are_sized();
     natural_boxes_are_unset();
     set_sizes_add_up();
+    set_sizes_grow();
     boxes_are_filled();
     overfull_boxes_shrink_fully();
     other_sizes_stay();
@@ -58,11 +69,12 @@ fn items_are_measured_alone(rt: HostRuntime) -> Result<(), test::Fail> {
     boxes_hold_their_lists();
     let mut nodes = PlainHeap::new(rt.alloc(), 1)?;
     let list = vertical(&mut nodes)?;
-    nodes.lawful();
-    heaps_are_measured();
     let fonts: [Font; 0] = [];
     let seen = items(rt.alloc(), &mut nodes, &fonts, list.head, ListKind::V)?;
     assert!(rt; vlist_size(&seen) == Size { w: 27, h: 36, d: 5 });
+    let top = Size { w: 1, h: 2, d: 3 };
+    let below = Item::Kern { w: 4, font: false };
+    assert!(rt; stacked(top, &below) == Size { w: 1, h: 9, d: 0 });
     let (glue, badness) = set_glue(&seen, 10);
     assert!(rt;
         glue == GlueSet {

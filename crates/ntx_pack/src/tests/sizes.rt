@@ -1,7 +1,7 @@
 //! Sizes of boxes and lists, and refusals.
 
 use super::lists::{EMPTY, horizontal, number, set_of, size_of, small_font, vertical};
-use crate::{dimensions, hpack, vpack};
+use crate::{GlueSet, dimensions, hpack, vpack};
 use ntx_item::PackTo;
 use ntx_nodes::{Field, FieldValue, Kind, Nodes, PlainHeap, Trouble};
 use ntx_num::{Fail, MAX_DIMENSION, Size};
@@ -46,6 +46,13 @@ fn vlist_of_every_kind(rt: HostRuntime) -> Result<(), test::Fail> {
     assert!(rt; nodes.get(n, Field::List) == Ok(FieldValue::Link(list.head)));
     assert!(rt; size_of(&nodes, n) == Size { w: 27, h: 41, d: 5 });
     assert!(rt; set_of(&nodes, n) == (1, 0, 5, 5));
+    let set = GlueSet {
+        sign: 1,
+        order: 0,
+        num: 5,
+        den: 5,
+    };
+    assert!(rt; GlueSet::read(&nodes, n) == Ok(set));
     assert!(rt; badness == 100);
     list.kern(&mut nodes, -8)?;
     let (m, _none) = vpack(

@@ -7,10 +7,10 @@ use Rattle.ntx_view.proofs.Sizes.{past_end}
 use Rattle.ntx_pack.proofs.StackLemmas.{vlist_size-more, stack_le}
 use Rattle.ntx_pack.proofs.vertical.size_of_all.Goals as goal
 
-pub with_item-size-requires-clause-stacked : goal.with_item-size-requires-clause-stacked
-with_item-size-requires-clause-stacked c =
+pub stacked-size-requires-clause-stacked : goal.stacked-size-requires-clause-stacked
+stacked-size-requires-clause-stacked c =
     subst (λ (s : Size). unsigned_abs (s.h +ℤ s.d) ≤ 2 ^ 52) (sym c.loop-item.invariant) (stack_le c.args.items.now c.loop-item.item-index c.requires.few c.requires.measured)
 
 pub loop-item-preserved : goal.loop-item-preserved
 loop-item-preserved c =
-    c.with_item-size.ensures ∙ ap (λ s. stacked s (get_or c.args.items.now c.loop-item.item-index past_end)) c.loop-item.invariant ∙ sym (vlist_size-more c.args.items.now c.loop-item.item-index past_end c.loop-item-test.true)
+    c.stacked-size.ensures ∙ ap (λ s. stacked s (get_or c.args.items.now c.loop-item.item-index past_end)) c.loop-item.invariant ∙ sym (vlist_size-more c.args.items.now c.loop-item.item-index past_end c.loop-item-test.true)

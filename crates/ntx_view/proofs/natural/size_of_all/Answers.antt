@@ -3,7 +3,8 @@ use Rattle.std.proofs.Common.{◌≤◌, ◌+ℤ◌, get_or, subst, sym, ap, ◌
 use Rattle.std.specs.Int.RustNames.{unsigned_abs}
 use Rattle.ntx_num.specs.declared.size.Size.{Size}
 use Rattle.ntx_item.specs.Items.{max_total}
-use Rattle.ntx_view.specs.Natural.{natural_width, size_with}
+use Rattle.ntx_item.specs.Sums.{natural_width}
+use Rattle.ntx_view.specs.Natural.{size_with}
 use Rattle.ntx_view.proofs.Sizes.{hlist_size-more, width_more, past_end}
 use Rattle.ntx_view.proofs.natural.size_of_all.Goals as goal
 

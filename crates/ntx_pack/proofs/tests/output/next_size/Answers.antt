@@ -6,8 +6,8 @@ use Rattle.ntx_item.specs.declared.item.Item.TheVariants.{Glue}
 use Rattle.ntx_pack.proofs.OutputLemmas.{small_total}
 use Rattle.ntx_pack.proofs.tests.output.next_size.Goals as goal
 
-pub size_of-requires-clause-total : goal.size_of-requires-clause-total
-size_of-requires-clause-total g c =
+pub next_size-requires-clause-total : goal.next_size-requires-clause-total
+next_size-requires-clause-total g c =
     let total : unsigned_abs c.args.setter.now.total < 1000 = omega (arith, ints) in
     let stretch : unsigned_abs c.args.spec.stretch < 1000 = omega (arith, ints) in
     let shrink : unsigned_abs c.args.spec.shrink < 1000 = omega (arith, ints) in
