@@ -21,9 +21,13 @@ use std::marker::Model;
 /// A DVI file in the making. Its operations come in the order of the file: [`Dvi::begin`], then pages, then [`Dvi::end`]; a page is
 /// [`Dvi::page_start`], any of [`Dvi::push`], [`Dvi::pop`], [`Dvi::right`], [`Dvi::down`] and [`Dvi::rule`], and [`Dvi::page_end`].
 ///
-/// Each operation is refused with [`DviFull`] exactly where its bytes would end past the limit on the file's length. Then, and where
-/// memory runs out, nothing has changed. An operation out of order is not refused: that it is in order is a condition of its call.
-/// *Between pages* is behind the preamble or a page that has ended, and before [`Dvi::end`].
+/// An operation out of order is not refused: that it is in order is a condition of its call. *Between pages* is after the preamble or a page
+/// that has ended, and before [`Dvi::end`].
+///
+/// # Refusals
+///
+/// [`DviFull`], of each operation: its bytes would end past the limit on the file's length. Then, and if memory runs out, nothing has
+/// changed.
 #[derive(Drop)]
 pub struct Dvi {
     output: Output,

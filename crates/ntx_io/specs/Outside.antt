@@ -4,7 +4,7 @@ use Rattle.std.specs.Prelude.{◌≡◌, ◌≢◌, ℕ, ◌+◌, ◌-◌, ◌^�
 
 -- ---- what is seen
 
--- a source: the bytes not yet given, where it exposes them, and how often a read has failed
+-- a source: the bytes not yet given, if it exposes them, and how often a read has failed
 pub record Input : Type 0 where
   pub left : Option (List ℕ)
   pub faults : ℕ
@@ -14,7 +14,7 @@ pub record NamedInput : Type 0 where
   pub name : List ℕ
   pub input : Input
 
--- a sink: the bytes taken so far, where it exposes them, and how often a write has failed
+-- a sink: the bytes taken so far, if it exposes them, and how often a write has failed
 pub record Output : Type 0 where
   pub taken : Option (List ℕ)
   pub faults : ℕ

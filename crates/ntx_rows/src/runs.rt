@@ -59,7 +59,7 @@ fn an_empty_box_is_a_page_without_marks(rt: HostRuntime) -> Result<(), Fail> {
 }
 
 #[test]
-fn a_mark_stands_behind_the_rules_before_it(rt: HostRuntime) -> Result<(), Fail> {
+fn a_mark_stands_after_the_rules_before_it(rt: HostRuntime) -> Result<(), Fail> {
     let document = b"hbox\nrule 10 0 0\nrule 20 1000000 0\nrule 0 5 5\nrule 300 4 2\nend\n";
     let given = of_document(document).run(rt.alloc())?;
     assert_eq!(rt; given.outcome.status, Status::Done);

@@ -31,7 +31,7 @@ natural_size rules = fold beside (record { width = 0; height = 0; depth = 0 }) r
 
 -- ---- placing
 
--- A rule is drawn where it has a width and a height plus depth.
+-- A rule is drawn if it has a width and a height plus depth.
 abbrev pub is_drawn : RuleSize → Bool
 is_drawn rule = nat_lt 0 rule.width && nat_lt 0 (rule.height + rule.depth)
 

@@ -67,7 +67,7 @@ fn draw_marks(dvi: &mut Dvi, marks: &[Mark]) -> Result<(), Fail<DviFull>>
     Ok(())
 }
 
-/// Draws the box of a page, between push and pop where it has a mark.
+/// Draws the box of a page, between push and pop if it has a mark.
 fn draw_box(dvi: &mut Dvi, marks: &[Mark]) -> Result<(), Fail<DviFull>>
     requires in_page { IsInPage dvi.old }
     requires no_push { HasNoOpenPush dvi.old }

@@ -77,7 +77,7 @@ fn is_drawn(rule: &RuleSize) -> bool
     0 < rule.width && 0 < rule.height + rule.depth
 }
 
-/// Puts the mark of a rule that begins at `h` behind the others, if it is drawn.
+/// Adds the mark of a rule that begins at `h` after the others, if it is drawn.
 fn push_mark(marks: &mut Vec<Mark>, rule: &RuleSize, h: u64, baseline: u64) -> Result<(), NoMemory>
     requires small { IsSmall rule.now }
     requires h { h ≤ 2 ^ 29 }
