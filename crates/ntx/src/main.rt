@@ -2,24 +2,28 @@
 //!
 //! It stands on `ntx_io` and `ntx_run`. Of `main` nothing is proved: neither which files are opened, nor that [`ntx_run::run`] is called,
 //! nor that the process ends with the number of the run's status. Of its parts it is proved that `number` gives each status its number,
-//! that `words` stops for want of memory alone, and that in `typeset` words that are not four paths end with `Words`, `WriteFault` or
-//! `Memory`, and no others with `Words`. Files and standard output tell no bytes, so that over them the contract of `run` speaks of the
-//! status, the place, the order of reading and the counts of faults, and not of what is read or written.
+//! that `words` stops only if memory runs out, and that in `typeset` words that are not four paths end with `Words`, `WriteFault` or
+//! `Memory`, and no others with `Words`. Files and standard output expose no bytes, so that over them the contract of `run` speaks of the
+//! status, the place, the order of reading and the counts of faults, and not of what is read or written. What the built program does over
+//! files is tested by `checks/program.sh`, at the top of the repository.
 #![tactic(auto)]
 
 ghost use Rattle.std.specs.Prelude.{◌≡◌, ◌⊎◌, false, map, string_bytes, IfErr};
 ghost use Rattle.ntx_run.specs.Run.{are_paths};
 ghost use Rattle.ntx.specs.Number.{number_of};
 
+#[cfg(test)]
+mod tests;
+
 use ntx_io::{Feed, FileSink, FileSource, MemSource, NullSink, StdoutSink};
 use ntx_run::{Outcome, Status, are_paths, run};
 use std::alloc::Global;
-use std::env;
-use std::io::ErrorKind;
+use std::io::{self, ErrorKind};
 use std::process::ExitCode;
 use std::rt::{Env, Files};
+use std::{env, fs};
 
-/// The words of the command line after the program's own name. Where the system gives none, or gives words that are no text, there are no
+/// The words of the command line after the program's own name. If the system gives none, or gives words that are no text, there are no
 /// words.
 fn words<R: Env + Alloc<A = Global>>(rt: &R) -> Result<Vec<String>, Status>
     ensures { IfErr result (λ status. status ≡ Status.Memory) }
@@ -39,7 +43,28 @@ fn words<R: Env + Alloc<A = Global>>(rt: &R) -> Result<Vec<String>, Status>
     }
 }
 
-/// Typesets the document that the words name. Where they name none no file is opened.
+/// Three files that are open for reading, so that each standard descriptor, 0, 1 and 2, is taken. Where one was closed, reading gives nothing
+/// and writing fails, and no file of the run takes its place: a fault line cannot get into a DVI file.
+#[derive(Drop)]
+struct Standard<F> {
+    input: F,
+    output: F,
+    error: F,
+}
+
+impl<F: Drop> Standard<F> {
+    /// Takes the standard descriptors that are free. A system gives a file the lowest descriptor that is free, and has `/dev/null`.
+    fn taken<R: Files<File = F>>(rt: &R) -> io::Result<Standard<F>> {
+        Ok(Standard {
+            input: fs::open(rt, "/dev/null")?,
+            output: fs::open(rt, "/dev/null")?,
+            error: fs::open(rt, "/dev/null")?,
+        })
+    }
+}
+
+/// Typesets the document that the words name. If they name none, no file is opened. If the standard descriptors cannot be taken, no
+/// document is typeset, and the status is that of a write fault.
 fn typeset<R: Files + Print + Alloc<A = Global>>(rt: &R, words: &[String]) -> Outcome
     ensures refused { are_paths (map string_bytes words.now) ≡ false →
         (result.status ≡ Status.Words) ⊎ ((result.status ≡ Status.WriteFault) ⊎ (result.status ≡ Status.Memory)) }
@@ -49,16 +74,24 @@ fn typeset<R: Files + Print + Alloc<A = Global>>(rt: &R, words: &[String]) -> Ou
     let mut fonts: Vec<Box<dyn Feed>> = Vec::new(alloc);
     let mut lines = StdoutSink::new(rt);
     match words {
-        [doc, script, patterns, dvi] if are_paths(words) => run(
-            alloc,
-            words,
-            &mut FileSource::open(rt, doc.as_str()),
-            &mut FileSource::open(rt, script.as_str()),
-            &mut FileSource::open(rt, patterns.as_str()),
-            &mut fonts,
-            &mut FileSink::create(rt, dvi.as_str()),
-            &mut lines,
-        ),
+        [doc, script, patterns, dvi] if are_paths(words) => {
+            let Ok(_standard) = Standard::taken(rt) else {
+                return Outcome {
+                    status: Status::WriteFault,
+                    place: None,
+                };
+            };
+            run(
+                alloc,
+                words,
+                &mut FileSource::open(rt, doc.as_str()),
+                &mut FileSource::open(rt, script.as_str()),
+                &mut FileSource::open(rt, patterns.as_str()),
+                &mut fonts,
+                &mut FileSink::create(rt, dvi.as_str()),
+                &mut lines,
+            )
+        }
         _ => run(
             alloc,
             words,

@@ -24,10 +24,14 @@ pub step-appended : (operation : Operation) (w : Writer) (new : Room) (unit : Un
 unfolding step
 step-appended operation w new unit h = grind arith
 
+-- an operation was refused, or memory ran out
+pub Steps-refused : (e : Fail DviFull) (operation : Operation) (w : Writer) (new : Room) → Steps (Err e) (room_of w) new (append_step (operation_bytes w.progress operation) (room_of w)) → Steps (Err e) w (with_room w.progress new) (step operation w)
+unfolding step
+Steps-refused (Is e) operation w new h = grind arith
+Steps-refused NoMemory operation w new h = grind arith
+
 -- an operation that changes no more than the file's length and bytes
 pub Steps-appended : (r : Result (Unit {0}) (Fail DviFull)) (operation : Operation) (w : Writer) (new : Room) → apart_from_place w.progress operation ≡ w.progress → Steps r (room_of w) new (append_step (operation_bytes w.progress operation) (room_of w)) → Steps r w (with_room w.progress new) (step operation w)
-unfolding step
 Steps-appended (Ok a) operation w new same h =
     step-appended operation w new a h ∙ ap (λ (p : Progress). Ok (tt, with_room p new)) same
-Steps-appended (Err (Is e)) operation w new same h = grind arith
-Steps-appended (Err NoMemory) operation w new same h = grind arith
+Steps-appended (Err e) operation w new same h = Steps-refused e operation w new h

@@ -9,11 +9,6 @@ use Rattle.ntx_dvi.specs.Bytes.{operation_bytes}
 abbrev pub after : Progress → Operation → Progress
 after p operation = record (apart_from_place p operation) { place = p.place + length (operation_bytes p operation) }
 
--- what several operations leave
-abbrev pub after_all : Progress → List Operation → Progress
-after_all p [] = p
-after_all p (operation ∷ operations) = after_all (after p operation) operations
-
 -- the bytes of several operations
 abbrev pub file_bytes : Progress → List Operation → List ℕ
 file_bytes p [] = []

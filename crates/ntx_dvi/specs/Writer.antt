@@ -1,6 +1,6 @@
 -- What a writer of a DVI file is, to its caller: how far the file has come, how long it may become, and the bytes that were not taken
--- yet. A step writes one operation, where there is room for all of it.
-use Rattle.std.specs.Prelude.{◌≡◌, ℕ, ◌-◌, ◌<◌, ◌^◌, if◌then◌else◌, List, [], ◌∷◌, ◌++◌, Result, Ok, Err}
+-- yet. A step writes one operation, if there is room for all of it.
+use Rattle.std.specs.Prelude.{◌≡◌, ℕ, ◌-◌, ◌<◌, ◌^◌, if◌then◌else◌, List, [], ◌++◌, Result, Ok, Err}
 use Rattle.ntx_dvi.specs.declared.full.DviFull.{DviFull}
 use Rattle.ntx_dvi.specs.Operation.{Operation}
 use Rattle.ntx_dvi.specs.Progress as progress
@@ -24,12 +24,7 @@ abbrev pub with_operation : Writer → Operation → Writer
 with_operation w operation =
     record w { progress = after w.progress operation; waiting = w.waiting ++ operation_bytes w.progress operation }
 
--- the writer once it has written the operations, one after another, whatever the limit
-abbrev pub with_operations : Writer → List Operation → Writer
-with_operations w [] = w
-with_operations w (operation ∷ operations) = with_operations (with_operation w operation) operations
-
--- An operation is written where it ends within the limit, and is refused where it does not.
+-- An operation is written if it ends within the limit, and is refused otherwise.
 unfoldable pub step : Operation → Writer → Result (Unit {0} × Writer) DviFull
 step operation w =
     if ends_within w.limit w.progress.place (operation_bytes w.progress operation) then Ok (tt, with_operation w operation)

@@ -1,10 +1,11 @@
 //! The writer of DVI files.
 
-ghost use Rattle.std.specs.Prelude.{◌≡◌, ◌<◌, ◌^◌, ◌%◌, ◌++◌, [], pos, IsOk, OnOk, replicate};
+ghost use Rattle.std.specs.Prelude.{◌≡◌, ◌<◌, ◌^◌, ◌%◌, ◌+◌, ◌-◌, ◌∷◌, ◌++◌, [], pos, IsOk, OnOk, replicate};
 ghost use Rattle.ntx_num.specs.Answer.{Gives, Steps};
 ghost use Rattle.ntx_dvi.specs.Operation.{Begin, PageStart, Push, Pop, Right, Down, Rule, PageEnd, End};
 ghost use Rattle.ntx_dvi.specs.Bytes.{postamble, ending};
-ghost use Rattle.ntx_dvi.specs.Writer.{new_writer, step, with_operation, IsNew, IsBetweenPages, IsInPage, HasOpenPush, MayPush, HasNoOpenPush};
+ghost use Rattle.ntx_dvi.specs.Writer.{new_writer, step, IsNew, IsBetweenPages, IsInPage, HasOpenPush, MayPush, HasNoOpenPush};
+ghost use Rattle.ntx_dvi.specs.Written.{Writes};
 
 use crate::encode;
 use crate::full::DviFull;
@@ -20,9 +21,13 @@ use std::marker::Model;
 /// A DVI file in the making. Its operations come in the order of the file: [`Dvi::begin`], then pages, then [`Dvi::end`]; a page is
 /// [`Dvi::page_start`], any of [`Dvi::push`], [`Dvi::pop`], [`Dvi::right`], [`Dvi::down`] and [`Dvi::rule`], and [`Dvi::page_end`].
 ///
-/// Each operation is refused with [`DviFull`] exactly where its bytes would end past the limit on the file's length. Then, and where
-/// memory runs out, nothing has changed. An operation out of order is not refused: that it is in order is a condition of its call.
-/// *Between pages* is behind the preamble or a page that has ended, and before [`Dvi::end`].
+/// An operation out of order is not refused: that it is in order is a condition of its call. *Between pages* is after the preamble or a page
+/// that has ended, and before [`Dvi::end`].
+///
+/// # Refusals
+///
+/// [`DviFull`], of each operation: its bytes would end past the limit on the file's length. Then, and if memory runs out, nothing has
+/// changed.
 #[derive(Drop)]
 pub struct Dvi {
     output: Output,
@@ -60,7 +65,7 @@ impl Model for Dvi {
     ghost invariant = { λ d. (d.output.place ≤ d.output.limit) × (d.output.limit < 2 ^ 31) × (d.pages ≤ d.output.place) };
 }
 
-#[tactic(auto, unfolding(crate::specs::Bytes::operation_bytes, crate::specs::Writer::step))]
+#[tactic(auto, using(crate::proofs::Writing::writes_step), unfolding(crate::specs::Bytes::operation_bytes, crate::specs::Writer::step))]
 impl Dvi {
     /// A file of at most `limit` bytes, with nothing in it. `limit` is below 2^31.
     pub fn new(alloc: Global, limit: u64) -> Result<Dvi, NoMemory>
@@ -83,7 +88,8 @@ impl Dvi {
     pub fn begin(&mut self) -> Result<(), Fail<DviFull>>
         requires { IsNew self.old }
         ensures steps { Steps result self.old self.new (step Begin self.old) }
-        ensures written { OnOk result (self.new ≡ with_operation self.old Begin) }
+        ensures writes { Writes result self.old self.new (Begin ∷ []) }
+        ensures between { OnOk result (IsBetweenPages self.new) }
     {
         self.output.append(&encode::preamble())?;
         self.part = Part::BetweenPages;
@@ -94,7 +100,9 @@ impl Dvi {
     pub fn page_start(&mut self, number: i32) -> Result<(), Fail<DviFull>>
         requires { IsBetweenPages self.old }
         ensures steps { Steps result self.old self.new (step (PageStart number) self.old) }
-        ensures written { OnOk result (self.new ≡ with_operation self.old (PageStart number)) }
+        ensures writes { Writes result self.old self.new (PageStart number ∷ []) }
+        ensures in_page { OnOk result (IsInPage self.new) }
+        ensures no_push { OnOk result (HasNoOpenPush self.new) }
     {
         let place = self.output.place() as i32;
         self.output
@@ -111,7 +119,9 @@ impl Dvi {
         requires in_page { IsInPage self.old }
         requires may_push { MayPush self.old }
         ensures steps { Steps result self.old self.new (step Push self.old) }
-        ensures written { OnOk result (self.new ≡ with_operation self.old Push) }
+        ensures writes { Writes result self.old self.new (Push ∷ []) }
+        ensures in_page { OnOk result (IsInPage self.new) }
+        ensures pushes { OnOk result (self.new.progress.open_pushes ≡ self.old.progress.open_pushes + 1) }
     {
         self.output.append(&[PUSH])?;
         self.open_pushes += 1;
@@ -124,7 +134,9 @@ impl Dvi {
         requires in_page { IsInPage self.old }
         requires has_push { HasOpenPush self.old }
         ensures steps { Steps result self.old self.new (step Pop self.old) }
-        ensures written { OnOk result (self.new ≡ with_operation self.old Pop) }
+        ensures writes { Writes result self.old self.new (Pop ∷ []) }
+        ensures in_page { OnOk result (IsInPage self.new) }
+        ensures pushes { OnOk result (self.new.progress.open_pushes ≡ self.old.progress.open_pushes - 1) }
     {
         self.output.append(&[POP])?;
         self.open_pushes -= 1;
@@ -136,7 +148,9 @@ impl Dvi {
     pub fn right(&mut self, x: i32) -> Result<(), Fail<DviFull>>
         requires { IsInPage self.old }
         ensures steps { Steps result self.old self.new (step (Right x) self.old) }
-        ensures written { OnOk result (self.new ≡ with_operation self.old (Right x)) }
+        ensures writes { Writes result self.old self.new (Right x ∷ []) }
+        ensures in_page { OnOk result (IsInPage self.new) }
+        ensures pushes { OnOk result (self.new.progress.open_pushes ≡ self.old.progress.open_pushes) }
         ensures nothing { x ≡ pos 0 → IsOk result }
     {
         append_movement(&mut self.output, RIGHT, x)
@@ -146,7 +160,9 @@ impl Dvi {
     pub fn down(&mut self, y: i32) -> Result<(), Fail<DviFull>>
         requires { IsInPage self.old }
         ensures steps { Steps result self.old self.new (step (Down y) self.old) }
-        ensures written { OnOk result (self.new ≡ with_operation self.old (Down y)) }
+        ensures writes { Writes result self.old self.new (Down y ∷ []) }
+        ensures in_page { OnOk result (IsInPage self.new) }
+        ensures pushes { OnOk result (self.new.progress.open_pushes ≡ self.old.progress.open_pushes) }
         ensures nothing { y ≡ pos 0 → IsOk result }
     {
         append_movement(&mut self.output, DOWN, y)
@@ -157,7 +173,9 @@ impl Dvi {
     pub fn rule(&mut self, height: i32, width: i32) -> Result<(), Fail<DviFull>>
         requires { IsInPage self.old }
         ensures steps { Steps result self.old self.new (step (Rule height width) self.old) }
-        ensures written { OnOk result (self.new ≡ with_operation self.old (Rule height width)) }
+        ensures writes { Writes result self.old self.new (Rule height width ∷ []) }
+        ensures in_page { OnOk result (IsInPage self.new) }
+        ensures pushes { OnOk result (self.new.progress.open_pushes ≡ self.old.progress.open_pushes) }
     {
         self.output.append(&encode::rule(height, width))
     }
@@ -168,7 +186,8 @@ impl Dvi {
         requires in_page { IsInPage self.old }
         requires no_push { HasNoOpenPush self.old }
         ensures steps { Steps result self.old self.new (step (PageEnd total width) self.old) }
-        ensures written { OnOk result (self.new ≡ with_operation self.old (PageEnd total width)) }
+        ensures writes { Writes result self.old self.new (PageEnd total width ∷ []) }
+        ensures between { OnOk result (IsBetweenPages self.new) }
     {
         self.output.append(&[EOP])?;
         self.part = Part::BetweenPages;
@@ -182,7 +201,7 @@ impl Dvi {
     pub fn end(&mut self) -> Result<(), Fail<DviFull>>
         requires { IsBetweenPages self.old }
         ensures steps { Steps result self.old self.new (step End self.old) }
-        ensures written { OnOk result (self.new ≡ with_operation self.old End) }
+        ensures writes { Writes result self.old self.new (End ∷ []) }
         ensures multiple_of_four { OnOk result (self.new.progress.place % 4 ≡ 0) }
     {
         let bytes = self.ending();

@@ -21,7 +21,7 @@ fn big_endian(number: i32) -> [u8; 4]
     bytes
 }
 
-/// Appends a movement by this distance, or nothing where it is 0. `code` is the one before that of a movement of one byte.
+/// Appends a movement by this distance, or nothing if it is 0. `code` is the one before that of a movement of one byte.
 pub fn append_movement(output: &mut Output, code: u8, distance: i32) -> Result<(), Fail<DviFull>>
     requires code_fits { code < 252 }
     requires was_within { output.old.place ≤ output.old.limit }

@@ -1,9 +1,9 @@
-//! Sources and sinks over memory. [`MemSource`] and [`MemSink`] tell everything and fail at the calls that they are told to fail at;
+//! Sources and sinks over memory. [`MemSource`] and [`MemSink`] expose everything and fail at the calls that their maker names;
 //! [`NullSink`] keeps nothing.
 
 ghost use Rattle.std.specs.Prelude.{◌≡◌, ◌+◌, ◌-◌, ◌<◌, ◌≤◌, ◌↔◌, ◌⊎◌, Some, None, Ok, [], IsErr, IfOk, min, length, vec_len};
 ghost use Rattle.ntx_num.specs.Answer.{Gives};
-ghost use Rattle.ntx_io.specs.Outside.{HasCause, Reads, Takes, TakesSome, next_count};
+ghost use Rattle.ntx_io.specs.Outside.{HasCause, ReadsBytes, TakesBytes, TakesSome, next_count};
 ghost use Rattle.ntx_io.specs.Memory.{FailsNext, IsFullFor};
 
 use crate::outside::{Failed, Sink, Source};
@@ -11,7 +11,7 @@ use ntx_num::NoMemory;
 use std::alloc::Global;
 use std::marker::Model;
 
-/// A source over bytes in memory. It tells its bytes. A read fails at the calls that it was told to fail at and at no others; any other
+/// A source over bytes in memory. It exposes its bytes. A read fails at the calls that its maker named and at no others; any other
 /// gives all bytes that are left, as far as the buffer has room for them.
 #[derive(Drop)]
 pub struct MemSource {
@@ -49,13 +49,11 @@ impl MemSource {
 }
 
 impl Source for MemSource {
-    ghost left = { λ s. Some s.left };
-
-    ghost faults = { λ s. s.faults };
+    ghost input = { λ s. record { left = Some s.left; faults = s.faults } };
 
     fn read(&mut self, buf: &mut [u8]) -> Result<usize, Failed>
         ensures bound { IfOk result (λ k. k ≤ length buf.new) }
-        ensures bytes { Reads (Some self.old.left) (Some self.new.left) buf.new result }
+        ensures bytes { ReadsBytes (Some self.old.left) (Some self.new.left) buf.new result }
         ensures cause { HasCause self.old.faults self.new.faults result }
 
         ensures fails { IsErr result ↔ FailsNext self.old.fails self.old.calls }
@@ -75,7 +73,7 @@ impl Source for MemSource {
     }
 }
 
-/// A sink over memory that was taken beforehand. It tells what it took. A write fails at the calls that it was told to fail at and where
+/// A sink over memory that was taken beforehand. It exposes what it took. A write fails at the calls that its maker named and if
 /// there is no room for a byte of a nonempty piece, and at no others; any other takes the whole piece, as far as there is room for it.
 #[derive(Drop)]
 pub struct MemSink {
@@ -122,13 +120,11 @@ impl MemSink {
 }
 
 impl Sink for MemSink {
-    ghost taken = { λ s. Some s.taken };
-
-    ghost faults = { λ s. s.faults };
+    ghost output = { λ s. record { taken = Some s.taken; faults = s.faults } };
 
     fn write(&mut self, bytes: &[u8]) -> Result<usize, Failed>
         ensures some { TakesSome bytes.now result }
-        ensures bytes { Takes (Some self.old.taken) (Some self.new.taken) bytes.now result }
+        ensures bytes { TakesBytes (Some self.old.taken) (Some self.new.taken) bytes.now result }
         ensures cause { HasCause self.old.faults self.new.faults result }
 
         ensures fails { IsErr result ↔ (FailsNext self.old.fails self.old.calls ⊎ IsFullFor self.old bytes.now) }
@@ -149,7 +145,7 @@ impl Sink for MemSink {
     }
 }
 
-/// A sink that takes every piece whole and keeps nothing. It tells nothing and never fails.
+/// A sink that takes every piece whole and keeps nothing. It exposes nothing and never fails.
 #[derive(Clone, Copy, Debug, PartialEq, Eq)]
 pub struct NullSink;
 
@@ -161,13 +157,11 @@ impl NullSink {
 }
 
 impl Sink for NullSink {
-    ghost taken = { λ _. None };
-
-    ghost faults = { λ _. 0 };
+    ghost output = { λ _. record { taken = None; faults = 0 } };
 
     fn write(&mut self, bytes: &[u8]) -> Result<usize, Failed>
         ensures some { TakesSome bytes.now result }
-        ensures bytes { Takes None None bytes.now result }
+        ensures bytes { TakesBytes None None bytes.now result }
         ensures cause { HasCause 0 0 result }
         ensures whole { result ≡ Ok (length bytes.now) }
     {

@@ -1,8 +1,8 @@
 //! What the adapters do where no clause speaks, and one call of each that takes memory.
 
 use crate::{
-    FileSink, FileSource, MemSink, MemSource, NullSink, ReadWhy, Sink, Source, StdoutSink,
-    WriteFault, read_all, write_all,
+    Feed, FileFeed, FileSink, FileSource, MemFeed, MemSink, MemSource, NullSink, ReadWhy, Sink,
+    Source, StdoutSink, WriteFault, read_all, read_feed, write_all,
 };
 use ntx_num::Fail;
 use std::alloc::Global;
@@ -22,6 +22,52 @@ fn reading_to_the_end_stops_past_the_limit(rt: HostRuntime) -> Result<(), TestFa
     assert_eq!(rt; over.err(), Some(Fail::Is(ReadWhy::TooLarge)));
     let second_fails = read_all(alloc, &mut three_bytes(alloc, &[2])?, 3);
     assert_eq!(rt; second_fails.err(), Some(Fail::Is(ReadWhy::ReadFault)));
+    Ok(())
+}
+
+fn three_bytes_named_ntx(alloc: Global) -> Result<Box<dyn Feed>, TestFail> {
+    let name = String::from_str(alloc, "ntx")?;
+    let bytes = [7, 8, 9].to_vec(alloc)?;
+    Ok(Box::new(alloc, MemFeed::new(name, bytes, Vec::new(alloc)))?)
+}
+
+#[test]
+fn a_feed_is_read_as_a_source_is(rt: HostRuntime) -> Result<(), TestFail> {
+    let alloc = rt.alloc();
+    let mut feed = three_bytes_named_ntx(alloc)?;
+    assert_eq!(rt; feed.name(), "ntx");
+    assert_eq!(rt;
+        read_feed(alloc, &mut *feed, 3)?.as_slice(),
+        [7, 8, 9].as_slice()
+    );
+    assert_eq!(rt; read_feed(alloc, &mut *feed, 3)?.len(), 0);
+    let over = read_feed(alloc, &mut *three_bytes_named_ntx(alloc)?, 2);
+    assert_eq!(rt; over.err(), Some(Fail::Is(ReadWhy::TooLarge)));
+    Ok(())
+}
+
+#[test]
+fn a_feed_over_a_file_is_named_after_it(rt: HostRuntime) -> Result<(), TestFail> {
+    let alloc = rt.alloc();
+    for (path, name) in [
+        ("x/cmr10.tfm", "cmr10"),
+        ("cmr10", "cmr10"),
+        ("a.tfm/b", "b"),
+        ("a/b.tfm.tfm", "b.tfm"),
+        ("a/.tfm", ""),
+        ("a/", ""),
+        ("", ""),
+    ] {
+        let mut feed = FileFeed::open(&rt, alloc, path)?;
+        assert_eq!(rt; feed.name(), name, "{path}");
+        assert!(rt; feed.read(&mut [0u8; 4]).is_err());
+    }
+    let path = "ntx_io_font.tfm";
+    assert_eq!(rt; write_all(&mut FileSink::create(&rt, path), b"tfm"), Ok(()));
+    let mut feed = FileFeed::open(&rt, alloc, path)?;
+    let read = read_feed(alloc, &mut feed, 3);
+    fs::remove_file(&rt, path)?;
+    assert_eq!(rt; read?.as_slice(), b"tfm".as_slice());
     Ok(())
 }
 

@@ -65,10 +65,10 @@ fn a_source_that_fails_ends_the_run_with_its_line(rt: HostRuntime) -> Result<(),
 #[test]
 fn a_sink_that_fails_has_taken_the_first_bytes(rt: HostRuntime) -> Result<(), Fail> {
     let alloc = rt.alloc();
-    // The page is one piece and the postamble another.
+    // The file is one piece.
     for (k, status, taken) in [
         (1, Status::WriteFault, 0),
-        (2, Status::WriteFault, 79),
+        (2, Status::Done, 120),
         (3, Status::Done, 120),
         (4, Status::Done, 120),
         (5, Status::Done, 120),

@@ -3,6 +3,7 @@
 use crate::job::{BOX, BOX_FILE, FILES, Job, of_document};
 use ntx_doc::{DocFault, DocWhy};
 use ntx_run::{Place, Status};
+use ntx_syntax::{SyntaxFault, SyntaxWhy};
 use std::test::Fail;
 
 /// The preamble.
@@ -58,7 +59,7 @@ fn an_empty_box_is_a_page_without_marks(rt: HostRuntime) -> Result<(), Fail> {
 }
 
 #[test]
-fn a_mark_stands_behind_the_rules_before_it(rt: HostRuntime) -> Result<(), Fail> {
+fn a_mark_stands_after_the_rules_before_it(rt: HostRuntime) -> Result<(), Fail> {
     let document = b"hbox\nrule 10 0 0\nrule 20 1000000 0\nrule 0 5 5\nrule 300 4 2\nend\n";
     let given = of_document(document).run(rt.alloc())?;
     assert_eq!(rt; given.outcome.status, Status::Done);
@@ -181,6 +182,21 @@ fn the_place_of_a_refused_document_is_its_line(rt: HostRuntime) -> Result<(), Fa
         why: DocWhy::Fields,
     };
     assert_eq!(rt; given.outcome.place, Some(Place::Doc(fault)));
+    Ok(())
+}
+
+#[test]
+fn the_place_of_a_script_that_is_not_empty_is_line_0(rt: HostRuntime) -> Result<(), Fail> {
+    let given = Job {
+        script: b"x",
+        ..of_document(BOX)
+    }
+    .run(rt.alloc())?;
+    let fault = SyntaxFault {
+        line: 0,
+        why: SyntaxWhy::Size,
+    };
+    assert_eq!(rt; given.outcome.place, Some(Place::Syntax(fault)));
     Ok(())
 }
 

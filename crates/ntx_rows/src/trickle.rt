@@ -12,9 +12,7 @@ use std::test::Fail;
 struct Dripping(MemSource);
 
 impl Source for Dripping {
-    ghost left = { λ s. Some s.0.left };
-
-    ghost faults = { λ s. s.0.faults };
+    ghost input = { λ s. record { left = Some s.0.left; faults = s.0.faults } };
 
     fn read(&mut self, buf: &mut [u8]) -> Result<usize, Failed> {
         let count = buf.len().min(1);
@@ -27,9 +25,7 @@ impl Source for Dripping {
 struct Sipping(MemSink);
 
 impl Sink for Sipping {
-    ghost taken = { λ s. Some s.0.taken };
-
-    ghost faults = { λ s. s.0.faults };
+    ghost output = { λ s. record { taken = Some s.0.taken; faults = s.0.faults } };
 
     fn write(&mut self, bytes: &[u8]) -> Result<usize, Failed> {
         let count = bytes.len().min(1);

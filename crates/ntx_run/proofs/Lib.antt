@@ -1,6 +1,16 @@
-pub mod Endings
-pub mod Marks
-pub mod Reading
+-- the rules of an accepted document
 pub mod Rules
-pub mod Typesetting
-pub mod Writing
+-- sizes and marks of rules, one rule more
+pub mod Marks
+-- the operations that draw marks
+pub mod Drawing
+-- what sinks take
+pub mod Sinks
+-- the DVI file of commands, written whole or not
+pub mod Files
+-- what was read of the inputs
+pub mod Reading
+-- how a run ends, from what stands before its last line
+pub mod Endings
+-- the ways in which a run ends
+pub mod Cases

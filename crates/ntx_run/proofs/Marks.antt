@@ -11,7 +11,7 @@ pub natural_size-more : (rules : List RuleSize) (i : ℕ) (d : RuleSize) → i <
 natural_size-more rules i d h =
     ap natural_size (take_more rules i d h) ∙ fold-append beside (record { width = 0; height = 0; depth = 0 }) (take i rules) (get_or rules i d ∷ [])
 
--- The marks from a rule on: its own, if it is drawn, and those behind it.
+-- The marks from a rule on: its own, if it is drawn, and those after it.
 pub marks_on-drop : (baseline h : ℕ) (rules : List RuleSize) (i : ℕ) (d : RuleSize) → i < length rules → marks_on baseline h (drop i rules) ≡ marks_of_rule baseline h (get_or rules i d) ++ marks_on baseline (h + (get_or rules i d).width) (drop (i + 1) rules)
 marks_on-drop baseline h rules i d within =
     rw (drop-cons rules i d within, add-one)

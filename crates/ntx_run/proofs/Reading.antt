@@ -1,15 +1,17 @@
 -- What was read of the inputs: in what order, and what the definition of a run makes of their bytes.
-use Rattle.std.proofs.Common.{◌≡◌, ℕ, Bool, List, [], ◌∷◌, map, Some, Result, Ok, Err, is_ok, inl, inr, refl, ap, sym, ◌∙◌}
-use Rattle.std.specs.Prelude.{IsTrue, ◌≢◌, ◌==◌, ◌&&◌, length}
+use Rattle.std.proofs.Common.{◌≡◌, ℕ, Bool, List, [], ◌∷◌, map, Some, Result, Ok, Err, is_ok, ◌⊎◌, inl, inr, refl, ap, sym, ◌∙◌}
+use Rattle.std.specs.Prelude.{IsTrue, ◌==◌, ◌&&◌, length}
 use Rattle.std.proofs.lemmas.List.{length-map}
 use Rattle.ntx_num.specs.Answer.{result_and_then}
+use Rattle.ntx_io.specs.Outside.{Input, NamedInput}
 use Rattle.ntx_doc.specs.declared.command.Command.{Command}
-use Rattle.ntx_doc.specs.declared.fault.DocFault.{DocFault}
-use Rattle.ntx_run.specs.declared.stop.Stop.{Stop}
-use Rattle.ntx_run.specs.declared.stop.Stop.TheVariants as stop
-use Rattle.ntx_run.specs.Run.{Told, read_document, read_empty, read_told, are_paths, fits_form}
-use Rattle.ntx_run.specs.Outside.{Input, FontInput, Inputs, names_of, Tells, AreAtEnd, InputsKept, InOrder, DocumentAccepted, EmptyAccepted}
-use Rattle.ntx_run.specs.Parts.{Sources, ReadsDocument, IsFilled, Reads, AllRead, AtDocument, AtScript, AtPatterns}
+use Rattle.ntx_run.specs.declared.stop.StopReason.{StopReason}
+use Rattle.ntx_run.specs.declared.stop.StopReason.TheVariants as stop
+use Rattle.ntx_run.specs.declared.outcome.Which.{Which}
+use Rattle.ntx_run.specs.declared.outcome.Which.TheVariants as which
+use Rattle.ntx_run.specs.Run.{InputBytes, read_document, read_empty, read_script, read_patterns, read_inputs, are_paths, fits_form}
+use Rattle.ntx_run.specs.Outside.{Inputs, names_of, in_turn, input_counts, Exposes, AreAtEnd, Accepts, IsAccepted, AreReadInTurn, AreReadInOrder, FailsAt}
+use Rattle.ntx_run.specs.inner.Parts.{IsRefusalOf, IsRead, Sources, ReadsInputs, AllRead, AtDocument, AtScript, AtPatterns}
 
 abbrev pub sources_of : Inputs → Sources
 sources_of inputs = record { document = inputs.document; script = inputs.script; patterns = inputs.patterns }
@@ -20,88 +22,148 @@ firsts : {X B : Type 0} (name : X → List ℕ) (other : X → B) (xs : List X) 
 firsts name other [] = refl
 firsts name other (x ∷ xs) = ap (λ rest. name x ∷ rest) (firsts name other xs)
 
--- The feeds' names are those of the fonts that are told.
-pub names_told : (inputs : Inputs) (told : Told) → Tells inputs told → names_of inputs ≡ map (λ font. font.name) told.fonts
-names_told inputs told tells =
-    sym (firsts (λ font. font.name) (λ font. font.left) inputs.fonts)
-    ∙ ap (map (λ p. p.0)) tells.fonts
-    ∙ firsts (λ font. font.name) (λ font. Some font.bytes) told.fonts
+-- The feeds' names are those of the fonts whose bytes they expose.
+pub same_names : (inputs : Inputs) (bytes : InputBytes) → Exposes inputs bytes → names_of inputs ≡ map (λ font. font.name) bytes.fonts
+same_names inputs bytes exposes =
+    sym (firsts (λ font. font.name) (λ font. font.input.left) inputs.fonts)
+    ∙ ap (map (λ p. p.0)) exposes.fonts
+    ∙ firsts (λ font. font.name) (λ font. Some font.bytes) bytes.fonts
 
 -- The test of the words, and of the number of feeds, is the one of the words and the fonts' names.
-pub words_fit : {F : Type 0} (words : List (List ℕ)) (feeds : List F) (font : F → FontInput) (count : ℕ) (result expected : Bool) → result ≡ (are_paths words && count == 0) → count ≡ length feeds → result ≡ expected → fits_form words (map (λ f. f.name) (map font feeds)) ≡ expected
+pub words_fit : {F : Type 0} (words : List (List ℕ)) (feeds : List F) (font : F → NamedInput) (count : ℕ) (result expected : Bool) → result ≡ (are_paths words && count == 0) → count ≡ length feeds → result ≡ expected → fits_form words (map (λ f. f.name) (map font feeds)) ≡ expected
 unfolding fits_form
 words_fit words feeds font count result expected is counts e =
     simp (length-map) (sym (ap (λ n. are_paths words && n == 0) counts) ∙ sym is ∙ e)
 
 -- ---- what is accepted
 
-pub document_accepted : (before after : Input) (commands : List Command) → ReadsDocument before after (Ok commands) → DocumentAccepted before after
+empty_accepted : (refusal : StopReason) (bytes : List ℕ) → read_empty refusal bytes ≡ Ok tt → bytes ≡ []
+empty_accepted refusal [] e = refl
+empty_accepted refusal (byte ∷ bytes) e = cc
+
+document_accepted : (before after : Input) (commands : List Command) → IsRead read_document commands before after → IsAccepted (Accepts which.Document) before after
 document_accepted before after commands reads = record {
-  kept = reads.count;
-  whole = λ bytes tells. (ap is_ok (reads.told bytes tells).0, (reads.told bytes tells).1);
+  kept = reads.kept;
+  whole = λ bytes e. (ap is_ok (reads.gives bytes e).0, (reads.gives bytes e).1);
+}
+
+script_accepted : (before after : Input) → IsRead read_script tt before after → IsAccepted (Accepts which.Script) before after
+script_accepted before after reads = record {
+  kept = reads.kept;
+  whole = λ bytes e. (empty_accepted _ bytes (reads.gives bytes e).0, (reads.gives bytes e).1);
+}
+
+patterns_accepted : (before after : Input) → IsRead read_patterns tt before after → IsAccepted (Accepts which.Patterns) before after
+patterns_accepted before after reads = record {
+  kept = reads.kept;
+  whole = λ bytes e. (empty_accepted _ bytes (reads.gives bytes e).0, (reads.gives bytes e).1);
 }
 
 -- ---- the order
 
-pub in_order : (words : List (List ℕ)) (before after : Inputs) (result : Result (List Command) Stop) → IsTrue (fits_form words (names_of before)) → after.fonts ≡ before.fonts → Reads (sources_of before) (sources_of after) result → InOrder words before after
-in_order words before after result accepted fonts (AllRead commands document script patterns) =
-    let first : DocumentAccepted before.document after.document = document_accepted before.document after.document commands document in
-    record { document = inr accepted; script = inr (accepted, first); patterns = inr (accepted, first, script); fonts = fonts }
-in_order words before after result accepted fonts (AtDocument why document script patterns) =
-    record { document = inr accepted; script = inl script; patterns = inl patterns; fonts = fonts }
-in_order words before after result accepted fonts (AtScript commands why document script patterns) =
-    let first : DocumentAccepted before.document after.document = document_accepted before.document after.document commands document in
-    record { document = inr accepted; script = inr (accepted, first); patterns = inl patterns; fonts = fonts }
-in_order words before after result accepted fonts (AtPatterns commands why document script patterns) =
-    let first : DocumentAccepted before.document after.document = document_accepted before.document after.document commands document in
-    record { document = inr accepted; script = inr (accepted, first); patterns = inr (accepted, first, script); fonts = fonts }
+abbrev from_patterns : Input → List (Which × Input)
+from_patterns patterns = (which.Patterns, patterns) ∷ []
 
--- ---- what the definition makes of it
+abbrev from_script : Input → Input → List (Which × Input)
+from_script script patterns = (which.Script, script) ∷ from_patterns patterns
 
-empty_refused : (why : Stop) (bytes : List ℕ) → bytes ≢ [] → read_empty why bytes ≡ Err why
-empty_refused why [] filled = absurd (filled refl)
-empty_refused why (byte ∷ bytes) filled = refl
+same_from_script : (before after : Inputs) → after.script ≡ before.script → after.patterns ≡ before.patterns → from_script after.script after.patterns ≡ from_script before.script before.patterns
+same_from_script before after script patterns =
+    ap (λ (s : Input). from_script s after.patterns) script ∙ ap (from_script before.script) patterns
 
-abbrev after_script : Told → List Command → Result (List Command) Stop
-after_script told commands = result_and_then (read_empty stop.Patterns told.patterns) (λ _. Ok commands)
+read_in_turn : (before after : Inputs) (result : Result (List Command) StopReason) → ReadsInputs (sources_of before) (sources_of after) result → AreReadInTurn (in_turn before) (in_turn after)
+read_in_turn before after result (AllRead commands document script patterns) =
+    inr (document_accepted before.document after.document commands document, inr (script_accepted before.script after.script script, inr (patterns_accepted before.patterns after.patterns patterns, tt)))
+read_in_turn before after result (AtDocument why document script patterns) =
+    inl (same_from_script before after script patterns)
+read_in_turn before after result (AtScript commands why document script patterns) =
+    inr (document_accepted before.document after.document commands document, inl (ap from_patterns patterns))
+read_in_turn before after result (AtPatterns commands why document script patterns) =
+    inr (document_accepted before.document after.document commands document, inr (script_accepted before.script after.script script, inl refl))
 
-abbrev after_document : Told → List Command → Result (List Command) Stop
-after_document told commands = result_and_then (read_empty stop.Script told.script) (λ _. after_script told commands)
+pub in_order : (words : List (List ℕ)) (before after : Inputs) (result : Result (List Command) StopReason) → IsTrue (fits_form words (names_of before)) → after.fonts ≡ before.fonts → ReadsInputs (sources_of before) (sources_of after) result → AreReadInOrder words before after
+in_order words before after result accepted fonts reads =
+    record { words_first = inr accepted; in_turn = read_in_turn before after result reads; feeds = fonts }
 
-document_read : (told : Told) (result : Result (List Command) Stop) → read_document told.document ≡ result → read_told told ≡ result_and_then result (after_document told)
-document_read told result is = ap (λ r. result_and_then r (after_document told)) is
+-- ---- what the definition makes of the bytes
 
-script_read : (told : Told) (commands : List Command) (result : Result (List ℕ) Stop) → read_document told.document ≡ Ok commands → read_empty stop.Script told.script ≡ result → read_told told ≡ result_and_then result (λ _. after_script told commands)
-script_read told commands result document is =
-    document_read told (Ok commands) document ∙ ap (λ r. result_and_then r (λ _. after_script told commands)) is
+abbrev after_script : InputBytes → List Command → Result (List Command) StopReason
+after_script bytes commands = result_and_then (read_patterns bytes.patterns) (λ _. Ok commands)
 
-patterns_read : (told : Told) (commands : List Command) (result : Result (List ℕ) Stop) → read_document told.document ≡ Ok commands → told.script ≡ [] → read_empty stop.Patterns told.patterns ≡ result → read_told told ≡ result_and_then result (λ _. Ok commands)
-patterns_read told commands result document script is =
-    script_read told commands (Ok []) document (ap (read_empty stop.Script) script) ∙ ap (λ r. result_and_then r (λ _. Ok commands)) is
+abbrev after_document : InputBytes → List Command → Result (List Command) StopReason
+after_document bytes commands = result_and_then (read_script bytes.script) (λ _. after_script bytes commands)
+
+document_read : (bytes : InputBytes) (result : Result (List Command) StopReason) → read_document bytes.document ≡ result → read_inputs bytes ≡ result_and_then result (after_document bytes)
+document_read bytes result is = ap (λ r. result_and_then r (after_document bytes)) is
+
+script_read : (bytes : InputBytes) (commands : List Command) (result : Result (Unit {0}) StopReason) → read_document bytes.document ≡ Ok commands → read_script bytes.script ≡ result → read_inputs bytes ≡ result_and_then result (λ _. after_script bytes commands)
+script_read bytes commands result document is =
+    document_read bytes (Ok commands) document ∙ ap (λ r. result_and_then r (λ _. after_script bytes commands)) is
+
+patterns_read : (bytes : InputBytes) (commands : List Command) (result : Result (Unit {0}) StopReason) → read_document bytes.document ≡ Ok commands → read_script bytes.script ≡ Ok tt → read_patterns bytes.patterns ≡ result → read_inputs bytes ≡ result_and_then result (λ _. Ok commands)
+patterns_read bytes commands result document script is =
+    script_read bytes commands (Ok tt) document script ∙ ap (λ r. result_and_then r (λ _. Ok commands)) is
+
+same_counts : (d d' s s' p p' : ℕ) (fs fs' : List ℕ) → d' ≡ d → s' ≡ s → p' ≡ p → fs' ≡ fs → ◌≡◌ {A = List ℕ} (d' ∷ s' ∷ p' ∷ fs') (d ∷ s ∷ p ∷ fs)
+same_counts d d' s s' p p' fs fs' one two three four = cc
 
 module _ (before after : Inputs) where
-  pub document_refused : (fault : DocFault) → ReadsDocument before.document after.document (Err (stop.Document fault)) → (told : Told) → Tells before told → read_told told ≡ Err (stop.Document fault)
-  document_refused fault reads told tells =
-      document_read told (Err (stop.Document fault)) (reads.told told.document tells.document)
+  counts_of_fonts : after.fonts ≡ before.fonts → map (λ font. font.input.faults) after.fonts ≡ map (λ font. font.input.faults) before.fonts
+  counts_of_fonts same = ap (map (λ font. font.input.faults)) same
 
-  pub script_refused : (commands : List Command) → ReadsDocument before.document after.document (Ok commands) → IsFilled before.script after.script → (told : Told) → Tells before told → read_told told ≡ Err stop.Script
-  script_refused commands document filled told tells =
-      script_read told commands (Err stop.Script) (document.told told.document tells.document).0 (empty_refused stop.Script told.script (filled.filled told.script tells.script))
+  -- Reading stopped for this reason at one input: it is refused, as the definition says; its source failed; or memory ran out.
+  pub record StopsAt (why : StopReason) : Type 0 where
+    pub input : Which
+    pub stops : (IsRefusalOf input why × (input_counts after ≡ input_counts before) × ((bytes : InputBytes) → Exposes before bytes → read_inputs bytes ≡ Err why)) ⊎ (((why ≡ stop.Read input) × FailsAt input (in_turn before) (in_turn after)) ⊎ ((why ≡ stop.Memory) × (input_counts after ≡ input_counts before)))
 
-  pub patterns_refused : (commands : List Command) → ReadsDocument before.document after.document (Ok commands) → EmptyAccepted before.script after.script → IsFilled before.patterns after.patterns → (told : Told) → Tells before told → read_told told ≡ Err stop.Patterns
-  patterns_refused commands document script filled told tells =
-      patterns_read told commands (Err stop.Patterns) (document.told told.document tells.document).0 (script.whole told.script tells.script).0 (empty_refused stop.Patterns told.patterns (filled.filled told.patterns tells.patterns))
+  pub stops_at : (why : StopReason) → after.fonts ≡ before.fonts → ReadsInputs (sources_of before) (sources_of after) (Err why) → StopsAt why
+  stops_at why fonts (AtDocument _ document script patterns) =
+      let others : (after.script.faults ≡ before.script.faults) × (after.patterns.faults ≡ before.patterns.faults) = (ap (λ (i : Input). i.faults) script, ap (λ (i : Input). i.faults) patterns) in
+      record {
+        input = which.Document;
+        stops = elim document [
+          | inl refusal ↦ inl (refusal.0, same_counts _ _ _ _ _ _ _ _ refusal.1.kept others.0 others.1 (counts_of_fonts fonts), λ bytes e. document_read bytes (Err why) (refusal.1.gives bytes.document e.document))
+          | inr other ↦ elim other [
+            | inl failure ↦ inr (inl (failure.0, inl (refl, failure.1, same_from_script before after script patterns)))
+            | inr memory ↦ inr (inr (memory.0, same_counts _ _ _ _ _ _ _ _ memory.1 others.0 others.1 (counts_of_fonts fonts)))
+          ]
+        ];
+      }
+  stops_at why fonts (AtScript commands _ document script patterns) =
+      let others : after.patterns.faults ≡ before.patterns.faults = ap (λ (i : Input). i.faults) patterns in
+      let first : IsAccepted (Accepts which.Document) before.document after.document = document_accepted before.document after.document commands document in
+      record {
+        input = which.Script;
+        stops = elim script [
+          | inl refusal ↦ inl (refusal.0, same_counts _ _ _ _ _ _ _ _ document.kept refusal.1.kept others (counts_of_fonts fonts), λ bytes e. script_read bytes commands (Err why) (document.gives bytes.document e.document).0 (refusal.1.gives bytes.script e.script))
+          | inr other ↦ elim other [
+            | inl failure ↦ inr (inl (failure.0, inr (first, inl (refl, failure.1, ap from_patterns patterns))))
+            | inr memory ↦ inr (inr (memory.0, same_counts _ _ _ _ _ _ _ _ document.kept memory.1 others (counts_of_fonts fonts)))
+          ]
+        ];
+      }
+  stops_at why fonts (AtPatterns commands _ document script patterns) =
+      let first : IsAccepted (Accepts which.Document) before.document after.document = document_accepted before.document after.document commands document in
+      let second : IsAccepted (Accepts which.Script) before.script after.script = script_accepted before.script after.script script in
+      record {
+        input = which.Patterns;
+        stops = elim patterns [
+          | inl refusal ↦ inl (refusal.0, same_counts _ _ _ _ _ _ _ _ document.kept script.kept refusal.1.kept (counts_of_fonts fonts), λ bytes e. patterns_read bytes commands (Err why) (document.gives bytes.document e.document).0 (script.gives bytes.script e.script).0 (refusal.1.gives bytes.patterns e.patterns))
+          | inr other ↦ elim other [
+            | inl failure ↦ inr (inl (failure.0, inr (first, inr (second, inl (refl, failure.1, refl)))))
+            | inr memory ↦ inr (inr (memory.0, same_counts _ _ _ _ _ _ _ _ document.kept script.kept memory.1 (counts_of_fonts fonts)))
+          ]
+        ];
+      }
 
   -- All was read, to the ends.
-  pub all_read : (commands : List Command) → Reads (sources_of before) (sources_of after) (Ok commands) → (told : Told) → Tells before told → (read_told told ≡ Ok commands) × AreAtEnd after
-  all_read commands (AllRead _ document script patterns) told tells =
-      let first = document.told told.document tells.document in
-      let second = script.whole told.script tells.script in
-      let third = patterns.whole told.patterns tells.patterns in (
-        patterns_read told commands (Ok []) first.0 second.0 (ap (read_empty stop.Patterns) third.0),
-        record { document = first.1; script = second.1; patterns = third.1 },
-      )
+  pub all_read : (commands : List Command) → ReadsInputs (sources_of before) (sources_of after) (Ok commands) → (bytes : InputBytes) → Exposes before bytes → (read_inputs bytes ≡ Ok commands) × AreAtEnd after
+  all_read commands (AllRead _ document script patterns) bytes e =
+      let first = document.gives bytes.document e.document in
+      let second = script.gives bytes.script e.script in
+      let third = patterns.gives bytes.patterns e.patterns in
+      (patterns_read bytes commands (Ok tt) first.0 second.0 third.0, (first.1, (second.1, (third.1, tt))))
 
-  pub all_kept : (commands : List Command) → after.fonts ≡ before.fonts → Reads (sources_of before) (sources_of after) (Ok commands) → InputsKept before after
+  pub all_kept : (commands : List Command) → after.fonts ≡ before.fonts → ReadsInputs (sources_of before) (sources_of after) (Ok commands) → input_counts after ≡ input_counts before
   all_kept commands fonts (AllRead _ document script patterns) =
-      record { document = document.count; script = script.kept; patterns = patterns.kept; fonts = ap (map (λ font. font.faults)) fonts }
+      same_counts _ _ _ _ _ _ _ _ document.kept script.kept patterns.kept (counts_of_fonts fonts)

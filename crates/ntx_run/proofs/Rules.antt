@@ -8,7 +8,8 @@ use Rattle.ntx_doc.specs.declared.command.Command as declared
 use Rattle.ntx_doc.specs.declared.command.Command.{Command}
 use Rattle.ntx_doc.specs.declared.command.Command.TheVariants as command
 use Rattle.ntx_doc.specs.Shape.{IsRuleLength, IsRuleSize}
-use Rattle.ntx_run.specs.Page.{rule_size, rules_of, IsSmall, AreRules}
+use Rattle.ntx_run.specs.Page.{rule_size, rules_of}
+use Rattle.ntx_run.specs.inner.Bounds.{IsSmall, AreRules}
 
 rules_of-map : (sizes : List Size) → rules_of (map command.Rule sizes) ≡ map rule_size sizes
 unfolding declared.out-Command denote.Hole.Carrier.out

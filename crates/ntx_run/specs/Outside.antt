@@ -1,11 +1,13 @@
--- The outside of a run at one moment, and what a run does to it.
+-- The outside of a run at one moment, and what a run does to it. Most facts go by two lists: the counts of faults of all sources and sinks, and
+-- the inputs in the order in which they are read.
 use Rattle.std.specs.Prelude.{◌≡◌, ◌≢◌, false, ◌⊎◌, ℕ, IsOk, IsTrue, List, [], ◌∷◌, ◌++◌, map, Option, Some, None, Ok}
-use Rattle.ntx_io.specs.Outside.{Rose, Adds, AddsFront}
+use Rattle.std.specs.List.{AllByRecursion}
+use Rattle.ntx_io.specs.Outside.{Input, NamedInput, Output, Rose, Adds, AddsPrefix, AddsProperPrefix}
 use Rattle.ntx_dvi.specs.Progress.{start}
 use Rattle.ntx_dvi.specs.File.{file_bytes}
 use Rattle.ntx_doc.specs.declared.command.Command.{Command}
-use Rattle.ntx_run.specs.declared.stop.Stop.{Stop}
-use Rattle.ntx_run.specs.declared.stop.Stop.TheVariants as stop
+use Rattle.ntx_run.specs.declared.stop.StopReason.{StopReason}
+use Rattle.ntx_run.specs.declared.stop.StopReason.TheVariants as stop
 use Rattle.ntx_run.specs.declared.outcome.Status.{Status}
 use Rattle.ntx_run.specs.declared.outcome.Status.TheVariants as status
 use Rattle.ntx_run.specs.declared.outcome.Place.{Place}
@@ -13,213 +15,237 @@ use Rattle.ntx_run.specs.declared.outcome.Place.TheVariants as place
 use Rattle.ntx_run.specs.declared.outcome.Which.{Which}
 use Rattle.ntx_run.specs.declared.outcome.Which.TheVariants as which
 use Rattle.ntx_run.specs.Page.{document_operations}
-use Rattle.ntx_run.specs.Stop.{status_of, place_of, line_of}
-use Rattle.ntx_run.specs.Run.{Told, Ending, lines_of, fits_form, read_document, read_told, run_of}
-
--- a source: the bytes that are left, where it tells them, and its count of faults
-pub record Input : Type 0 where
-  pub left : Option (List ℕ)
-  pub faults : ℕ
-
--- a font's feed: its name beside the same
-pub record FontInput : Type 0 where
-  pub name : List ℕ
-  pub left : Option (List ℕ)
-  pub faults : ℕ
-
--- a sink: the bytes that it took, where it tells them, and its count of faults
-pub record Output : Type 0 where
-  pub taken : Option (List ℕ)
-  pub faults : ℕ
+use Rattle.ntx_run.specs.StopReason.{IsBeforeDvi, status_of, place_of, line_of}
+use Rattle.ntx_run.specs.Run.{InputBytes, Ending, lines_of, fits_form, read_document, read_inputs, run_of}
 
 pub record Inputs : Type 0 where
   pub document : Input
   pub script : Input
   pub patterns : Input
-  pub fonts : List FontInput
+  pub fonts : List NamedInput
 
 pub record Outside : Type 0 where
   pub inputs : Inputs
   pub dvi : Output
   pub lines : Output
 
+-- the outside with these sources, feeds and sinks
+abbrev pub outside : Input → Input → Input → List NamedInput → Output → Output → Outside
+outside document script patterns fonts dvi lines =
+    record { inputs = record { document = document; script = script; patterns = patterns; fonts = fonts }; dvi = dvi; lines = lines }
+
 -- the names of the fonts
 abbrev pub names_of : Inputs → List (List ℕ)
 names_of inputs = map (λ font. font.name) inputs.fonts
 
--- ---- what is told
+-- the inputs that are read, in the order of reading
+abbrev pub in_turn : Inputs → List (Which × Input)
+in_turn inputs = (which.Document, inputs.document) ∷ (which.Script, inputs.script) ∷ (which.Patterns, inputs.patterns) ∷ []
 
--- The sources and feeds tell these bytes.
-pub record Tells (inputs : Inputs) (told : Told) : Type 0 where
-  pub document : inputs.document.left ≡ Some told.document
-  pub script : inputs.script.left ≡ Some told.script
-  pub patterns : inputs.patterns.left ≡ Some told.patterns
-  pub fonts : map {B = List ℕ × Option (List ℕ)} (λ font. (font.name, font.left)) inputs.fonts ≡ map {B = List ℕ × Option (List ℕ)} (λ font. (font.name, Some font.bytes)) told.fonts
+-- ---- bytes
 
--- The sources have given all their bytes.
-pub record AreAtEnd (inputs : Inputs) : Type 0 where
-  pub document : inputs.document.left ≡ Some []
-  pub script : inputs.script.left ≡ Some []
-  pub patterns : inputs.patterns.left ≡ Some []
+-- The sources and feeds expose these bytes.
+pub record Exposes (inputs : Inputs) (bytes : InputBytes) : Type 0 where
+  pub document : inputs.document.left ≡ Some bytes.document
+  pub script : inputs.script.left ≡ Some bytes.script
+  pub patterns : inputs.patterns.left ≡ Some bytes.patterns
+  pub fonts : map {B = List ℕ × Option (List ℕ)} (λ font. (font.name, font.input.left)) inputs.fonts ≡ map {B = List ℕ × Option (List ℕ)} (λ font. (font.name, Some font.bytes)) bytes.fonts
 
--- ---- counts
+abbrev pub IsAtEnd : Which × Input → Type 0
+IsAtEnd input = input.1.left ≡ Some []
 
--- The counts of the sources and feeds are as they were.
-pub record InputsKept (before after : Inputs) : Type 0 where
-  pub document : after.document.faults ≡ before.document.faults
-  pub script : after.script.faults ≡ before.script.faults
-  pub patterns : after.patterns.faults ≡ before.patterns.faults
-  pub fonts : map (λ font. font.faults) after.fonts ≡ map (λ font. font.faults) before.fonts
+-- The inputs that are read have given all their bytes.
+abbrev pub AreAtEnd : Inputs → Type 0
+AreAtEnd inputs = AllByRecursion IsAtEnd (in_turn inputs)
 
--- Every count is as it was.
-pub record AllKept (before after : Outside) : Type 0 where
-  pub inputs : InputsKept before.inputs after.inputs
-  pub dvi : after.dvi.faults ≡ before.dvi.faults
-  pub lines : after.lines.faults ≡ before.lines.faults
+-- ---- counts of faults
 
--- No count of a feed rose.
-abbrev pub NoFontRose : List FontInput → List FontInput → Type 0
-NoFontRose [] [] = Unit {0}
-NoFontRose (before ∷ befores) (after ∷ afters) = (¬ Rose before.faults after.faults) × NoFontRose befores afters
-NoFontRose [] (after ∷ afters) = ⊥
-NoFontRose (before ∷ befores) [] = ⊥
+abbrev pub input_counts : Inputs → List ℕ
+input_counts inputs = inputs.document.faults ∷ inputs.script.faults ∷ inputs.patterns.faults ∷ map (λ font. font.input.faults) inputs.fonts
 
--- No count rose.
-pub record NoneRose (before after : Outside) : Type 0 where
-  pub document : ¬ Rose before.inputs.document.faults after.inputs.document.faults
-  pub script : ¬ Rose before.inputs.script.faults after.inputs.script.faults
-  pub patterns : ¬ Rose before.inputs.patterns.faults after.inputs.patterns.faults
-  pub fonts : NoFontRose before.inputs.fonts after.inputs.fonts
-  pub dvi : ¬ Rose before.dvi.faults after.dvi.faults
-  pub lines : ¬ Rose before.lines.faults after.lines.faults
+abbrev pub counts : Outside → List ℕ
+counts o = o.dvi.faults ∷ o.lines.faults ∷ input_counts o.inputs
 
--- ---- the order of reading
+-- None of the counts rose.
+abbrev pub NoneRose : List ℕ → List ℕ → Type 0
+NoneRose [] [] = Unit {0}
+NoneRose (before ∷ befores) (after ∷ afters) = (¬ Rose before after) × NoneRose befores afters
+NoneRose [] (after ∷ afters) = ⊥
+NoneRose (before ∷ befores) [] = ⊥
 
--- A source did not fail. Where it tells its bytes they are accepted, and all of them were given.
+-- ---- reading
+
+-- The bytes are accepted as this input.
+abbrev pub Accepts : Which → List ℕ → Type 0
+Accepts which.Document bytes = IsOk (read_document bytes)
+Accepts which.Script bytes = bytes ≡ []
+Accepts which.Patterns bytes = bytes ≡ []
+
+-- A source did not fail. If it exposes its bytes they are accepted, and all of them were given.
 pub record IsAccepted (accepts : List ℕ → Type 0) (before after : Input) : Type 0 where
   pub kept : after.faults ≡ before.faults
   pub whole : (bytes : List ℕ) → before.left ≡ Some bytes → accepts bytes × (after.left ≡ Some [])
 
-abbrev pub DocumentAccepted : Input → Input → Type 0
-DocumentAccepted before after = IsAccepted (λ bytes. IsOk (read_document bytes)) before after
+-- An input is read only if the one before it did not fail and is accepted.
+abbrev pub AreReadInTurn : List (Which × Input) → List (Which × Input) → Type 0
+AreReadInTurn [] [] = Unit {0}
+AreReadInTurn (before ∷ befores) (after ∷ afters) =
+    (afters ≡ befores) ⊎ (IsAccepted (Accepts before.0) before.1 after.1 × AreReadInTurn befores afters)
+AreReadInTurn [] (after ∷ afters) = ⊥
+AreReadInTurn (before ∷ befores) [] = ⊥
 
-abbrev pub EmptyAccepted : Input → Input → Type 0
-EmptyAccepted before after = IsAccepted (λ bytes. bytes ≡ []) before after
+-- Nothing is read unless the words are accepted, and then one input after another. Feeds are not read.
+pub record AreReadInOrder (words : List (List ℕ)) (before after : Inputs) : Type 0 where
+  pub words_first : (after ≡ before) ⊎ IsTrue (fits_form words (names_of before))
+  pub in_turn : AreReadInTurn (in_turn before) (in_turn after)
+  pub feeds : after.fonts ≡ before.fonts
 
--- A source is touched only where the words and all inputs before it are accepted, as far as they tell. Feeds are not read.
-pub record InOrder (words : List (List ℕ)) (before after : Inputs) : Type 0 where
-  pub document : (after.document ≡ before.document) ⊎ IsTrue (fits_form words (names_of before))
-  pub script : (after.script ≡ before.script) ⊎ (IsTrue (fits_form words (names_of before)) × DocumentAccepted before.document after.document)
-  pub patterns : (after.patterns ≡ before.patterns) ⊎ (IsTrue (fits_form words (names_of before)) × DocumentAccepted before.document after.document × EmptyAccepted before.script after.script)
-  pub fonts : after.fonts ≡ before.fonts
+-- The source of this input failed. Those before it did not, and are accepted; those after it were not read.
+abbrev pub FailsAt : Which → List (Which × Input) → List (Which × Input) → Type 0
+FailsAt input [] [] = ⊥
+FailsAt input (before ∷ befores) (after ∷ afters) =
+    ((input ≡ before.0) × Rose before.1.faults after.1.faults × (afters ≡ befores))
+    ⊎ (IsAccepted (Accepts before.0) before.1 after.1 × FailsAt input befores afters)
+FailsAt input [] (after ∷ afters) = ⊥
+FailsAt input (before ∷ befores) [] = ⊥
 
--- The source of this input failed. Those before it did not, and are accepted where they tell; those behind it were not read.
-abbrev pub FailsAt : Which → Inputs → Inputs → Type 0
-FailsAt which.Document before after =
-    Rose before.document.faults after.document.faults × (after.script ≡ before.script) × (after.patterns ≡ before.patterns)
-FailsAt which.Script before after =
-    DocumentAccepted before.document after.document × Rose before.script.faults after.script.faults × (after.patterns ≡ before.patterns)
-FailsAt which.Patterns before after =
-    DocumentAccepted before.document after.document × EmptyAccepted before.script after.script × Rose before.patterns.faults after.patterns.faults
+-- The words are accepted, this source failed, and nothing was given to the DVI file.
+pub record IsReadFault (words : List (List ℕ)) (input : Which) (before after : Outside) : Type 0 where
+  pub accepted : IsTrue (fits_form words (names_of before.inputs))
+  pub fails : FailsAt input (in_turn before.inputs) (in_turn after.inputs)
+  pub dvi : after.dvi ≡ before.dvi
 
--- ---- the whole run
+-- ---- writing
 
--- The run ended as defined: with this status and place, and where the sinks tell with these bytes and lines.
+-- The bytes are a whole DVI file: the one of some commands.
+abbrev pub IsFile : List ℕ → Type 0
+IsFile bytes = (commands : List Command) × (bytes ≡ file_bytes start (document_operations commands))
+
+-- The DVI file of the commands that these inputs have.
+abbrev pub IsFileOf : InputBytes → List ℕ → Type 0
+IsFileOf inputs bytes =
+    (commands : List Command) × (read_inputs inputs ≡ Ok commands) × (bytes ≡ file_bytes start (document_operations commands))
+
+-- Printed by a run before its fault line, which is nothing.
+abbrev pub IsPrinted : List ℕ → Type 0
+IsPrinted text = text ≡ []
+
+-- This line was printed after what the run had printed, and no write failed.
+pub record Prints (line : List ℕ) (before after : Output) : Type 0 where
+  pub printed : List ℕ
+  pub is_printed : IsPrinted printed
+  pub adds : Adds before.taken after.taken (printed ++ line)
+  pub kept : after.faults ≡ before.faults
+
+-- This line alone was printed, and no write failed.
+pub record PrintsAlone (line : List ℕ) (before after : Output) : Type 0 where
+  pub adds : Adds before.taken after.taken line
+  pub kept : after.faults ≡ before.faults
+
+-- The line of this reason was printed, if it has one; alone, if the run stopped before the DVI file's first byte.
+abbrev pub PrintsWhy : StopReason → Output → Output → Type 0
+PrintsWhy stop.Words before after = PrintsAlone (line_of stop.Words) before after
+PrintsWhy (stop.Document fault) before after = PrintsAlone (line_of (stop.Document fault)) before after
+PrintsWhy (stop.Script fault) before after = PrintsAlone (line_of (stop.Script fault)) before after
+PrintsWhy stop.Patterns before after = PrintsAlone (line_of stop.Patterns) before after
+PrintsWhy (stop.Read input) before after = PrintsAlone (line_of (stop.Read input)) before after
+PrintsWhy stop.Write before after = Unit {0}
+PrintsWhy stop.Memory before after = Unit {0}
+PrintsWhy stop.DviFull before after = Prints (line_of stop.DviFull) before after
+
+-- The sinks took prefixes of what is defined.
+pub record AddsPrefixes (ending : Ending) (before after : Outside) : Type 0 where
+  pub dvi : AddsPrefix before.dvi.taken after.dvi.taken ending.dvi
+  pub lines : AddsPrefix before.lines.taken after.lines.taken (lines_of ending)
+
+-- ---- how a run ends
+
+-- The run ended as defined: with this status and place, and, if the sinks expose what they took, with these bytes and lines.
 pub record EndsAs (ending : Ending) (before after : Outside) (ended : Status) (at : Option Place) : Type 0 where
   pub status_is : ended ≡ ending.status
   pub place_is : at ≡ ending.place
   pub dvi : Adds before.dvi.taken after.dvi.taken ending.dvi
   pub lines : Adds before.lines.taken after.lines.taken (lines_of ending)
 
--- All was read, and the whole DVI file of the document's commands was written, to its last byte, a filler. Nothing tells of a fault.
-pub record IsWhole (told : Told) (ending : Ending) (before after : Outside) (ended : Status) (at : Option Place) : Type 0 where
+-- All was read, and the whole DVI file of the document was written, to its last byte, a filler. There is no fault line.
+pub record IsWhole (bytes : InputBytes) (ending : Ending) (before after : Outside) (ended : Status) (at : Option Place) : Type 0 where
   pub at_end : AreAtEnd after.inputs
   pub ends_as : EndsAs ending before after ended at
-  pub commands : List Command
-  pub read : read_told told ≡ Ok commands
-  pub file : ending.dvi ≡ file_bytes start (document_operations commands)
-  pub front : List ℕ
-  pub last : ending.dvi ≡ front ++ 223 ∷ []
+  pub file : IsFileOf bytes ending.dvi
+  pub prefix : List ℕ
+  pub last : ending.dvi ≡ prefix ++ 223 ∷ []
   pub silent : ending.fault_line ≡ []
 
--- The sinks took first bytes of what is defined.
-pub record AddsFronts (ending : Ending) (before after : Outside) : Type 0 where
-  pub dvi : AddsFront before.dvi.taken after.dvi.taken ending.dvi
-  pub lines : AddsFront before.lines.taken after.lines.taken (lines_of ending)
-
--- The words are accepted, this source failed, and nothing was given to the DVI file.
-pub record IsReadFault (words : List (List ℕ)) (input : Which) (before after : Outside) : Type 0 where
-  pub accepted : IsTrue (fits_form words (names_of before.inputs))
-  pub fails : FailsAt input before.inputs after.inputs
-  pub dvi : after.dvi ≡ before.dvi
-
--- The run stopped for this reason, with its status and place. Its line was written whole, if it has one.
-abbrev pub LineWritten : Stop → Output → Output → Type 0
-LineWritten stop.Write before after = Unit {0}
-LineWritten stop.Memory before after = Unit {0}
-LineWritten why before after = Adds before.taken after.taken (line_of why) × (after.faults ≡ before.faults)
-
-pub record StopsFor (why : Stop) (before after : Outside) (ended : Status) (at : Option Place) : Type 0 where
-  pub status_is : ended ≡ status_of why
-  pub place_is : at ≡ place_of why
-  pub line : LineWritten why before.lines after.lines
-
--- The run ended well: the DVI file of some commands was written whole, and nothing was printed.
+-- The run ended well: a whole DVI file was written, and no fault line.
 pub record EndsWell (before after : Outside) (ended : Status) (at : Option Place) : Type 0 where
   pub status_is : ended ≡ status.Done
   pub place_is : at ≡ None
-  pub commands : List Command
-  pub dvi : Adds before.dvi.taken after.dvi.taken (file_bytes start (document_operations commands))
-  pub lines : after.lines ≡ before.lines
+  pub file : List ℕ
+  pub is_file : IsFile file
+  pub dvi : Adds before.dvi.taken after.dvi.taken file
+  pub lines : Prints [] before.lines after.lines
 
--- The statuses of runs that stopped before the DVI file got its first byte.
-abbrev pub IsBeforeDvi : Status → Type 0
-IsBeforeDvi status.Words = Unit {0}
-IsBeforeDvi status.Document = Unit {0}
-IsBeforeDvi status.Script = Unit {0}
-IsBeforeDvi status.Patterns = Unit {0}
-IsBeforeDvi status.ReadFault = Unit {0}
-IsBeforeDvi _ = ⊥
+-- The run stopped for this reason, with its status, its place and its line.
+pub record StopsFor (why : StopReason) (before after : Outside) (ended : Status) (at : Option Place) : Type 0 where
+  pub status_is : ended ≡ status_of why
+  pub place_is : at ≡ place_of why
+  pub line : PrintsWhy why before.lines after.lines
 
--- The DVI file could not be written whole, though the inputs are accepted. Nothing is printed.
-pub record IsFileCut (before after : Outside) : Type 0 where
+-- The DVI file could not be written whole, though the inputs are accepted: its sink failed, and took a proper prefix. No fault line is begun.
+pub record IsFileCut (words : List (List ℕ)) (before after : Outside) : Type 0 where
   pub rose : Rose before.dvi.faults after.dvi.faults
-  pub lines : after.lines ≡ before.lines
-  pub accepted : (told : Told) → Tells before.inputs told → IsOk (read_told told)
+  pub cut : (bytes : InputBytes) → Exposes before.inputs bytes → AddsProperPrefix before.dvi.taken after.dvi.taken (run_of words bytes).dvi
+  pub lines : Prints [] before.lines after.lines
+  pub accepted : (bytes : InputBytes) → Exposes before.inputs bytes → IsOk (read_inputs bytes)
 
--- The line of this stop could not be written whole. It tells of a source that failed, or is the one that is defined.
-pub record IsLineCut (words : List (List ℕ)) (why : Stop) (before after : Outside) : Type 0 where
+-- The line of this reason could not be written whole: the sink of the lines failed, and took a proper prefix of what was to be printed. The
+-- line is that of a source that failed, or the one that is defined.
+pub record IsLineCut (words : List (List ℕ)) (why : StopReason) (before after : Outside) : Type 0 where
   pub has_line : line_of why ≢ []
-  pub line : AddsFront before.lines.taken after.lines.taken (line_of why)
+  pub printed : List ℕ
+  pub is_printed : IsPrinted printed
+  pub cut : AddsProperPrefix before.lines.taken after.lines.taken (printed ++ line_of why)
   pub rose : Rose before.lines.faults after.lines.faults
   pub kept : after.dvi.faults ≡ before.dvi.faults
   pub before_dvi : IsBeforeDvi (status_of why) → after.dvi ≡ before.dvi
-  pub cause : ((input : Which) × (why ≡ stop.Read input) × IsReadFault words input before after) ⊎ ((told : Told) → Tells before.inputs told → (run_of words told).fault_line ≡ line_of why)
+  pub cause : ((input : Which) × (why ≡ stop.Read input) × IsReadFault words input before after) ⊎ ((bytes : InputBytes) → Exposes before.inputs bytes → (run_of words bytes).fault_line ≡ line_of why)
+
+-- One sink failed: the DVI file's, or that of the lines.
+abbrev pub IsWriteFault : List (List ℕ) → Outside → Outside → Type 0
+IsWriteFault words before after = IsFileCut words before after ⊎ ((why : StopReason) × IsLineCut words why before after)
+
+-- What stands if a run could not be ended: no source failed, and the sinks took prefixes of what is defined; or a source failed, the DVI file got
+-- nothing, and of the line that names the source a prefix was printed.
+abbrev pub BreaksOff : List (List ℕ) → Outside → Outside → Type 0
+BreaksOff words before after =
+    ((input_counts after.inputs ≡ input_counts before.inputs) × ((bytes : InputBytes) → Exposes before.inputs bytes → AddsPrefixes (run_of words bytes) before after))
+    ⊎ ((input : Which) × IsReadFault words input before after × AddsPrefix before.lines.taken after.lines.taken (line_of (stop.Read input)))
+
+-- ---- the promise
 
 -- What a run does, and how it ends.
 pub record Runs (words : List (List ℕ)) (before after : Outside) (ended : Status) (at : Option Place) : Type 0 where
-  -- Where the sources tell their bytes and no count of faults rose, the run ends as defined, unless memory ran out.
-  pub ends : (told : Told) → Tells before.inputs told → NoneRose before after → ended ≢ status.Memory → EndsAs (run_of words told) before after ended at
-  -- Where it ended well and the sources tell their bytes, all was read and all was written.
-  pub whole : (told : Told) → Tells before.inputs told → ended ≡ status.Done → IsWhole told (run_of words told) before after ended at
-  -- It ended well, or it stopped for some reason and told of it.
-  pub reason : EndsWell before after ended at ⊎ ((why : Stop) × StopsFor why before after ended at)
+  -- If the sources expose their bytes and no count of faults rose, the run ends as defined, unless memory ran out.
+  pub ends : (bytes : InputBytes) → Exposes before.inputs bytes → NoneRose (counts before) (counts after) → ended ≢ status.Memory → EndsAs (run_of words bytes) before after ended at
+  -- If it ended well and the sources expose their bytes, all was read and all was written.
+  pub whole : (bytes : InputBytes) → Exposes before.inputs bytes → ended ≡ status.Done → IsWhole bytes (run_of words bytes) before after ended at
+  -- It ended well, or it stopped for some reason and said so.
+  pub reason : EndsWell before after ended at ⊎ ((why : StopReason) × StopsFor why before after ended at)
   -- Words that are not of the form, or any feed beside them, are refused, and no others. Nothing is read then or given to the DVI file, also
-  -- where the line that tells of it could not be written.
+  -- if the line that says so could not be written.
   pub words_refused : ended ≡ status.Words → fits_form words (names_of before.inputs) ≡ false
   pub words_first : fits_form words (names_of before.inputs) ≡ false → ((ended ≡ status.Words) ⊎ ((ended ≡ status.WriteFault) ⊎ (ended ≡ status.Memory))) × (after.inputs ≡ before.inputs) × (after.dvi ≡ before.dvi)
-  -- No source is read behind refused words, or behind a source that was refused or failed. Feeds are not read.
-  pub in_order : InOrder words before.inputs after.inputs
+  -- No source is read after refused words, or after a source that was refused or failed. Feeds are not read.
+  pub in_order : AreReadInOrder words before.inputs after.inputs
   -- A run that stopped at its words or inputs gave nothing to the DVI file.
   pub before_dvi : IsBeforeDvi ended → after.dvi ≡ before.dvi
   -- No fault of the outside is passed over.
-  pub kept : ended ≢ status.ReadFault → ended ≢ status.WriteFault → ended ≢ status.Memory → AllKept before after
+  pub kept : ended ≢ status.ReadFault → ended ≢ status.WriteFault → ended ≢ status.Memory → counts after ≡ counts before
   -- A read fault names the source that failed.
   pub read_fault : ended ≡ status.ReadFault → (input : Which) × (at ≡ Some (place.Input input)) × IsReadFault words input before after
-  -- At a write fault one sink failed: the DVI file's, and then nothing is printed; or that of the lines, at the line of a stop.
-  pub write_fault : ended ≡ status.WriteFault → IsFileCut before after ⊎ ((why : Stop) × IsLineCut words why before after)
-  -- Where memory ran out no sink failed.
+  -- At a write fault one sink failed, and did not take all that is defined.
+  pub write_fault : ended ≡ status.WriteFault → IsWriteFault words before after
+  -- If memory ran out no sink failed.
   pub memory : ended ≡ status.Memory → (after.dvi.faults ≡ before.dvi.faults) × (after.lines.faults ≡ before.lines.faults)
-  -- At a write fault, and where memory ran out: no source failed, and where the sources tell the sinks took first bytes of what is defined; or a
-  -- source failed, the DVI file got nothing, and of the line that tells of it some first bytes were printed.
-  pub fronts : (ended ≡ status.WriteFault) ⊎ (ended ≡ status.Memory) → (InputsKept before.inputs after.inputs × ((told : Told) → Tells before.inputs told → AddsFronts (run_of words told) before after)) ⊎ ((input : Which) × IsReadFault words input before after × AddsFront before.lines.taken after.lines.taken (line_of (stop.Read input)))
+  -- At a write fault, and if memory ran out, no more than what is defined was written.
+  pub prefixes : (ended ≡ status.WriteFault) ⊎ (ended ≡ status.Memory) → BreaksOff words before after

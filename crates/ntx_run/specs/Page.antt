@@ -1,12 +1,10 @@
 -- A box of rules as the one page of a document, and the operations of DVI that draw it: packing and shipping ("TeX: The Program",
 -- sections 618 to 641 and 649 to 679). All sizes are in scaled points; the left top of the page is at (0, 0), and v grows downwards.
-use Rattle.std.specs.Prelude.{◌≡◌, map, ℕ, ◌+◌, ◌≤◌, ◌^◌, nat_lt, max, List, [], ◌∷◌, ◌++◌, pos, ◌-ℤ◌, unsigned_abs, ◌&&◌, Bool, if◌then◌else◌, Option, Some, None}
+use Rattle.std.specs.Prelude.{ℕ, ◌+◌, nat_lt, max, List, [], ◌∷◌, ◌++◌, pos, ◌-ℤ◌, unsigned_abs, ◌&&◌, Bool, if◌then◌else◌, Option, Some, None}
 use Rattle.std.specs.List.{filter_map, fold}
 use Rattle.ntx_run.specs.declared.mark.Mark.{Mark}
 use Rattle.ntx_run.specs.declared.mark.RuleSize.{RuleSize}
 use Rattle.ntx_num.specs.declared.size.Size.{Size}
-use Rattle.ntx_doc.specs.Shape.{AreRuleSizes}
-use Rattle.ntx_doc.specs.declared.command.Command.TheVariants as command
 use Rattle.ntx_doc.specs.declared.command.Command.{Command, out-Command}
 use Rattle.ntx_doc.specs.declared.command.Command.TheOpen.{Command-F}
 use Rattle.ntx_dvi.specs.Operation.{Operation, Begin, PageStart, Push, Pop, Right, Down, Rule, PageEnd, End}
@@ -33,7 +31,7 @@ natural_size rules = fold beside (record { width = 0; height = 0; depth = 0 }) r
 
 -- ---- placing
 
--- A rule is drawn where it has a width and a height plus depth.
+-- A rule is drawn if it has a width and a height plus depth.
 abbrev pub is_drawn : RuleSize → Bool
 is_drawn rule = nat_lt 0 rule.width && nat_lt 0 (rule.height + rule.depth)
 
@@ -114,24 +112,3 @@ pages_of commands = filter_map page_of_box commands
 -- the operations of a document's DVI file
 abbrev pub document_operations : List Command → List Operation
 document_operations commands = Begin ∷ pages_operations 1 (pages_of commands) ++ End ∷ []
-
--- ---- bounds
-
--- What stands in the box of an accepted document: rules, not too many and not too large.
-pub record AreRules (body : List Command) : Type 0 where
-  pub sizes : List Size
-  pub small : AreRuleSizes sizes
-  pub rules : body ≡ map command.Rule sizes
-
--- A rule of a document: it is up to 2^20 wide, high and deep.
-pub record IsSmall (rule : RuleSize) : Type 0 where
-  pub width : rule.width ≤ 2 ^ 20
-  pub height : rule.height ≤ 2 ^ 20
-  pub depth : rule.depth ≤ 2 ^ 20
-
--- A mark of a page of at most 500 such rules.
-pub record IsOnPage (mark : Mark) : Type 0 where
-  pub h : mark.h ≤ 2 ^ 29
-  pub v : mark.v ≤ 2 ^ 21
-  pub height : mark.height ≤ 2 ^ 21
-  pub width : mark.width ≤ 2 ^ 20

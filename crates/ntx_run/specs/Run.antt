@@ -1,35 +1,36 @@
--- A whole run as a function of the words of the command line, the names of the fonts' feeds and the bytes that the sources tell: its status,
--- its place, the bytes of its DVI file and the lines that it prints.
+-- A whole run as a function of the words of the command line, the names of the fonts' feeds and the bytes of the inputs: its status, its place,
+-- the bytes of its DVI file and the lines that it prints.
 use Rattle.std.specs.Prelude.{ℕ, ◌^◌, ◌==◌, ◌-◌, nat_lt, ◌&&◌, ◌||◌, not, Bool, true, if◌then◌else◌, List, [], ◌∷◌, ◌++◌, map, length, Option, None, Result, Ok, Err}
 use Rattle.std.specs.List.{list_all}
 use Rattle.ntx_num.specs.Answer.{result_and_then}
 use Rattle.ntx_doc.specs.declared.command.Command.{Command}
 use Rattle.ntx_doc.specs.declared.fault.DocFault.{DocFault}
-use Rattle.ntx_doc.specs.declared.fault.DocWhy.TheVariants as why
+use Rattle.ntx_doc.specs.declared.fault.DocWhy.TheVariants as doc_why
 use Rattle.ntx_doc.specs.Document.{document_of}
-use Rattle.ntx_dvi.specs.Progress.{start}
-use Rattle.ntx_run.specs.declared.stop.Stop.{Stop}
-use Rattle.ntx_run.specs.declared.stop.Stop.TheVariants as stop
+use Rattle.ntx_syntax.specs.declared.fault.SyntaxWhy.TheVariants as syntax_why
+use Rattle.ntx_dvi.specs.Writer.{Writer, new_writer}
+use Rattle.ntx_dvi.specs.Written.{written}
+use Rattle.ntx_run.specs.declared.stop.StopReason.{StopReason}
+use Rattle.ntx_run.specs.declared.stop.StopReason.TheVariants as stop
 use Rattle.ntx_run.specs.declared.outcome.Status.{Status}
 use Rattle.ntx_run.specs.declared.outcome.Status.TheVariants as status
 use Rattle.ntx_run.specs.declared.outcome.Place.{Place}
 use Rattle.ntx_run.specs.Page.{document_operations}
-use Rattle.ntx_run.specs.Written.{Written, written}
-use Rattle.ntx_run.specs.Stop.{status_of, place_of, line_of}
+use Rattle.ntx_run.specs.StopReason.{status_of, place_of, line_of}
 
 -- the name and the bytes of a font
-pub record FontTold : Type 0 where
+pub record FontBytes : Type 0 where
   pub name : List ℕ
   pub bytes : List ℕ
 
 -- the bytes of the inputs
-pub record Told : Type 0 where
+pub record InputBytes : Type 0 where
   pub document : List ℕ
   pub script : List ℕ
   pub patterns : List ℕ
-  pub fonts : List FontTold
+  pub fonts : List FontBytes
 
--- how a run ends, and what it has given by then: the bytes of the DVI file, what was printed, and the line that tells of a fault
+-- how a run ends, and what it has given by then: the bytes of the DVI file, what was printed, and the line that says why it stopped
 pub record Ending : Type 0 where
   pub status : Status
   pub place : Option Place
@@ -62,25 +63,31 @@ fits_form words names = are_paths words && length names == 0
 abbrev pub max_document : ℕ
 max_document = 2 ^ 24
 
-abbrev pub document_stop : Result (List Command) DocFault → Result (List Command) Stop
+abbrev pub document_stop : Result (List Command) DocFault → Result (List Command) StopReason
 document_stop (Ok commands) = Ok commands
 document_stop (Err fault) = Err (stop.Document fault)
 
-abbrev pub read_document : List ℕ → Result (List Command) Stop
+abbrev pub read_document : List ℕ → Result (List Command) StopReason
 read_document bytes =
-    if nat_lt max_document (length bytes) then Err (stop.Document (record { line = 0; why = why.Size })) else document_stop (document_of bytes 0)
+    if nat_lt max_document (length bytes) then Err (stop.Document (record { line = 0; why = doc_why.Size })) else document_stop (document_of bytes 0)
 
 -- An input that has to be empty.
-abbrev pub read_empty : Stop → List ℕ → Result (List ℕ) Stop
-read_empty refusal [] = Ok []
+abbrev pub read_empty : StopReason → List ℕ → Result (Unit {0}) StopReason
+read_empty refusal [] = Ok tt
 read_empty refusal (byte ∷ bytes) = Err refusal
 
+abbrev pub read_script : List ℕ → Result (Unit {0}) StopReason
+read_script bytes = read_empty (stop.Script (record { line = 0; why = syntax_why.Size })) bytes
+
+abbrev pub read_patterns : List ℕ → Result (Unit {0}) StopReason
+read_patterns bytes = read_empty stop.Patterns bytes
+
 -- The commands of the document, or the first refusal: of the document, the script, the patterns.
-abbrev pub read_told : Told → Result (List Command) Stop
-read_told told =
-    result_and_then (read_document told.document) (λ commands.
-    result_and_then (read_empty stop.Script told.script) (λ _.
-    result_and_then (read_empty stop.Patterns told.patterns) (λ _. Ok commands)))
+abbrev pub read_inputs : InputBytes → Result (List Command) StopReason
+read_inputs bytes =
+    result_and_then (read_document bytes.document) (λ commands.
+    result_and_then (read_script bytes.script) (λ _.
+    result_and_then (read_patterns bytes.patterns) (λ _. Ok commands)))
 
 -- ---- the file
 
@@ -88,25 +95,31 @@ read_told told =
 abbrev pub max_dvi : ℕ
 max_dvi = 2 ^ 31 - 1
 
--- what is written of the DVI file of these commands
-abbrev pub file_of : List Command → Written
-file_of commands = written max_dvi start (document_operations commands)
+-- The writer that has written the DVI file of these commands, or, as an `Err`, what there was room for.
+abbrev pub file_of : List Command → Result Writer Writer
+file_of commands = written (new_writer max_dvi) (document_operations commands)
+
+-- the bytes that were written, to the end or not
+abbrev pub dvi_of : Result Writer Writer → List ℕ
+dvi_of (Ok w) = w.waiting
+dvi_of (Err w) = w.waiting
 
 -- ---- runs
 
-abbrev pub stopped : Stop → List ℕ → Ending
+abbrev pub stopped : StopReason → List ℕ → Ending
 stopped why dvi = record { status = status_of why; place = place_of why; dvi = dvi; printed = []; fault_line = line_of why }
 
 abbrev pub ended_well : List ℕ → Ending
 ended_well dvi = record { status = status.Done; place = None; dvi = dvi; printed = []; fault_line = [] }
 
-abbrev pub file_ending : Written → Ending
-file_ending file = if file.full then stopped stop.DviFull file.bytes else ended_well file.bytes
+abbrev pub file_ending : Result Writer Writer → Ending
+file_ending (Ok w) = ended_well w.waiting
+file_ending (Err w) = stopped stop.DviFull w.waiting
 
-abbrev pub ending_of : Result (List Command) Stop → Ending
+abbrev pub ending_of : Result (List Command) StopReason → Ending
 ending_of (Ok commands) = file_ending (file_of commands)
 ending_of (Err why) = stopped why []
 
 -- The words are refused before anything is read.
-abbrev pub run_of : List (List ℕ) → Told → Ending
-run_of words told = if fits_form words (map (λ font. font.name) told.fonts) then ending_of (read_told told) else stopped stop.Words []
+abbrev pub run_of : List (List ℕ) → InputBytes → Ending
+run_of words bytes = if fits_form words (map (λ font. font.name) bytes.fonts) then ending_of (read_inputs bytes) else stopped stop.Words []

@@ -1,6 +1,7 @@
 //! How a run ends.
 
 use ntx_doc::DocFault;
+use ntx_syntax::SyntaxFault;
 
 /// How a run ended, with the number that is the status of the process.
 #[derive(Clone, Copy, Debug, PartialEq, Eq)]
@@ -41,6 +42,8 @@ pub enum Which {
 pub enum Place {
     /// A line of the document, and what is wrong there.
     Doc(DocFault),
+    /// A line of the script, and what is wrong there. A script that is not empty has line 0, and why `Size`.
+    Syntax(SyntaxFault),
     /// The input whose source failed.
     Input(Which),
 }
@@ -50,6 +53,6 @@ pub enum Place {
 pub struct Outcome {
     /// How it ended.
     pub status: Status,
-    /// Where it stopped. The statuses `Document` and `ReadFault` have a place, and no others.
+    /// Where it stopped. The statuses `Document`, `Script` and `ReadFault` have a place, and no others.
     pub place: Option<Place>,
 }

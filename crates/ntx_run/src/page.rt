@@ -2,7 +2,8 @@
 
 ghost use Rattle.std.specs.Prelude.{◌≡◌, ◌≤◌, ◌*◌, ◌^◌, ◌++◌, length, IfOk, OnOk, All};
 ghost use Rattle.ntx_num.specs.Answer.{Gives, result_map};
-ghost use Rattle.ntx_run.specs.Page.{beside, natural_size, rule_of, rules_of, marks_of_rule, marks_on, is_drawn, page_of, IsSmall, IsOnPage};
+ghost use Rattle.ntx_run.specs.Page.{beside, natural_size, rule_of, rules_of, marks_of_rule, marks_on, is_drawn, page_of};
+ghost use Rattle.ntx_run.specs.inner.Bounds.{IsSmall, IsOnPage};
 
 use crate::mark::{Mark, RuleSize};
 use ntx_doc::Command;
@@ -76,7 +77,7 @@ fn is_drawn(rule: &RuleSize) -> bool
     0 < rule.width && 0 < rule.height + rule.depth
 }
 
-/// Puts the mark of a rule that begins at `h` behind the others, if it is drawn.
+/// Adds the mark of a rule that begins at `h` after the others, if it is drawn.
 fn push_mark(marks: &mut Vec<Mark>, rule: &RuleSize, h: u64, baseline: u64) -> Result<(), NoMemory>
     requires small { IsSmall rule.now }
     requires h { h ≤ 2 ^ 29 }
@@ -114,7 +115,7 @@ fn marks(alloc: Global, rules: &[RuleSize], baseline: u64) -> Result<Vec<Mark>, 
 }
 
 impl Page {
-    ghost use Rattle.ntx_run.specs.PageView.{seen};
+    ghost use Rattle.ntx_run.specs.inner.Bounds.{seen};
 
     /// The page that holds a box of these rules.
     pub fn of_rules(alloc: Global, rules: &[RuleSize]) -> Result<Page, NoMemory>

@@ -1,22 +1,23 @@
 //! Why a run stops before its end.
 
 ghost use Rattle.std.specs.Prelude.{◌≡◌, IfOk, string_bytes};
-ghost use Rattle.ntx_run.specs.Stop.{outcome_of, line_of, which_text};
+ghost use Rattle.ntx_run.specs.StopReason.{outcome_of, line_of, which_text};
 
 use crate::outcome::{Outcome, Place, Status, Which};
 use ntx_doc::DocFault;
 use ntx_num::NoMemory;
+use ntx_syntax::SyntaxFault;
 use std::alloc::Global;
 
 /// Why a run stops before its end.
 #[derive(Clone, Copy, Debug, PartialEq, Eq)]
-pub enum Stop {
+pub enum StopReason {
     /// The command line is not of its form.
     Words,
     /// The document is refused.
     Document(DocFault),
     /// The script is refused.
-    Script,
+    Script(SyntaxFault),
     /// The patterns are refused.
     Patterns,
     /// The source of this input failed.
@@ -27,6 +28,16 @@ pub enum Stop {
     Memory,
     /// The DVI file would be too long.
     DviFull,
+}
+
+impl From<NoMemory> for StopReason {
+    ghost use Rattle.ntx_run.specs.declared.stop.StopReason.TheVariants.{Memory};
+
+    ghost from_gives = { λ _ e. e ≡ Memory };
+
+    fn from(_error: NoMemory) -> StopReason {
+        StopReason::Memory
+    }
 }
 
 impl Which {
@@ -42,53 +53,62 @@ impl Which {
     }
 }
 
-impl Stop {
-    /// The status and the place of a run that stops so.
+impl StopReason {
+    /// The status and the place of a run that stops for this reason.
     pub fn outcome(&self) -> Outcome
         ensures { result ≡ outcome_of self.now }
     {
         let (status, place) = match self {
-            Stop::Words => (Status::Words, None),
-            Stop::Document(fault) => (Status::Document, Some(Place::Doc(*fault))),
-            Stop::Script => (Status::Script, None),
-            Stop::Patterns => (Status::Patterns, None),
-            Stop::Read(which) => (Status::ReadFault, Some(Place::Input(*which))),
-            Stop::Write => (Status::WriteFault, None),
-            Stop::Memory => (Status::Memory, None),
-            Stop::DviFull => (Status::DviFull, None),
+            StopReason::Words => (Status::Words, None),
+            StopReason::Document(fault) => (Status::Document, Some(Place::Doc(*fault))),
+            StopReason::Script(fault) => (Status::Script, Some(Place::Syntax(*fault))),
+            StopReason::Patterns => (Status::Patterns, None),
+            StopReason::Read(which) => (Status::ReadFault, Some(Place::Input(*which))),
+            StopReason::Write => (Status::WriteFault, None),
+            StopReason::Memory => (Status::Memory, None),
+            StopReason::DviFull => (Status::DviFull, None),
         };
         Outcome { status, place }
     }
 
-    /// The line that tells of it, which is empty for a failed write and for want of memory.
+    /// The fault line, which is empty for a failed write and if memory ran out.
     pub fn line(&self, alloc: Global) -> Result<String, NoMemory>
         ensures { IfOk result (λ line. string_bytes line ≡ line_of self.now) }
     {
         let line = match self {
-            Stop::Words => String::from_str(alloc, "! Words\n")?,
-            Stop::Document(fault) => document_line(alloc, fault)?,
-            Stop::Script => String::from_str(alloc, "! Script line 0 Size\n")?,
-            Stop::Patterns => String::from_str(alloc, "! Patterns line 0\n")?,
-            Stop::Read(which) => read_line(alloc, which)?,
-            Stop::Write | Stop::Memory => String::new(alloc),
-            Stop::DviFull => String::from_str(alloc, "! DviFull\n")?,
+            StopReason::Words => String::from_str(alloc, "! Words\n")?,
+            StopReason::Document(fault) => document_line(alloc, fault)?,
+            StopReason::Script(fault) => script_line(alloc, fault)?,
+            StopReason::Patterns => String::from_str(alloc, "! Patterns line 0\n")?,
+            StopReason::Read(which) => read_line(alloc, which)?,
+            StopReason::Write | StopReason::Memory => String::new(alloc),
+            StopReason::DviFull => String::from_str(alloc, "! DviFull\n")?,
         };
         Ok(line)
     }
 }
 
-/// The line that tells of a refused document.
+/// The fault line of a refused document.
 fn document_line(alloc: Global, fault: &DocFault) -> Result<String, NoMemory>
-    ensures { IfOk result (λ line. string_bytes line ≡ line_of (Stop.Document fault.now)) }
+    ensures { IfOk result (λ line. string_bytes line ≡ line_of (StopReason.Document fault.now)) }
 {
     let line = fault.line;
     let why = fault.why.name();
     Ok(format!(in alloc; "! Document line {line} {why}\n")?)
 }
 
-/// The line that tells of a source that failed.
+/// The fault line of a refused script.
+fn script_line(alloc: Global, fault: &SyntaxFault) -> Result<String, NoMemory>
+    ensures { IfOk result (λ line. string_bytes line ≡ line_of (StopReason.Script fault.now)) }
+{
+    let line = fault.line;
+    let why = fault.why.name();
+    Ok(format!(in alloc; "! Script line {line} {why}\n")?)
+}
+
+/// The fault line of a source that failed.
 fn read_line(alloc: Global, which: &Which) -> Result<String, NoMemory>
-    ensures { IfOk result (λ line. string_bytes line ≡ line_of (Stop.Read which.now)) }
+    ensures { IfOk result (λ line. string_bytes line ≡ line_of (StopReason.Read which.now)) }
 {
     let name = which.name();
     Ok(format!(in alloc; "! ReadFault {name}\n")?)

@@ -2,17 +2,15 @@
 
 ghost use Rattle.std.specs.Prelude.{◌≡◌, ◌≤◌, ◌^◌, ◌∷◌, [], All, IfOk, OnOk};
 ghost use Rattle.ntx_doc.specs.Shape.{IsBoxOfRules};
-ghost use Rattle.ntx_dvi.specs.Operation.{Begin};
 ghost use Rattle.ntx_dvi.specs.Writer.{IsNew, IsBetweenPages};
-ghost use Rattle.ntx_run.specs.Page.{AreRules, IsOnPage, page_of, rules_of, page_operations, pages_of, pages_operations};
-ghost use Rattle.ntx_run.specs.PageView.{seen};
-ghost use Rattle.ntx_run.specs.Written.{Writes};
-ghost use Rattle.ntx_run.specs.Parts.{HandsOver, Typesets};
+ghost use Rattle.ntx_dvi.specs.Written.{Writes};
+ghost use Rattle.ntx_run.specs.Page.{page_of, rules_of, page_operations, pages_of, pages_operations, document_operations};
+ghost use Rattle.ntx_run.specs.inner.Bounds.{AreRules, IsOnPage, seen};
+ghost use Rattle.ntx_run.specs.inner.Parts.{HandsOver, Typesets};
 
 use crate::draw::draw_page;
-use crate::operations;
 use crate::page::{Page, rules};
-use crate::stop::Stop;
+use crate::stop::StopReason;
 use ntx_doc::Command;
 use ntx_dvi::{Dvi, DviFull};
 use ntx_io::{Sink, write_all};
@@ -34,71 +32,68 @@ fn box_page(alloc: Global, body: &[Command]) -> Result<Page, NoMemory>
     Page::of_rules(alloc, rules.as_slice())
 }
 
-/// Writes the preamble and the page of a box with these commands in it.
-fn draw_document(alloc: Global, body: &[Command], dvi: &mut Dvi) -> Result<(), Fail<DviFull>>
-    requires fresh { IsNew dvi.old }
+/// Draws the page of a box with these commands in it.
+fn draw_box_page(alloc: Global, body: &[Command], dvi: &mut Dvi) -> Result<(), Fail<DviFull>>
+    requires between { IsBetweenPages dvi.old }
     requires rules { AreRules body.now }
-    ensures writes { Writes result dvi.old dvi.new (Begin ∷ page_operations 1 (page_of (rules_of body.now))) }
+    ensures writes { Writes result dvi.old dvi.new (page_operations 1 (page_of (rules_of body.now))) }
     ensures between { OnOk result (IsBetweenPages dvi.new) }
 {
     let page = box_page(alloc, body)?;
-    operations::begin(dvi)?;
     draw_page(dvi, &page)
 }
 
-/// Writes the preamble and the pages of the commands.
+/// Draws the pages of the commands.
 fn draw_pages(alloc: Global, commands: &[Command], dvi: &mut Dvi) -> Result<(), Fail<DviFull>>
-    requires fresh { IsNew dvi.old }
+    requires between { IsBetweenPages dvi.old }
     requires shape { IsBoxOfRules commands.now }
-    ensures writes { Writes result dvi.old dvi.new (Begin ∷ pages_operations 1 (pages_of commands.now)) }
+    ensures writes { Writes result dvi.old dvi.new (pages_operations 1 (pages_of commands.now)) }
     ensures between { OnOk result (IsBetweenPages dvi.new) }
 {
     match commands {
-        [Command::HBox { body, .. }, ..] => draw_document(alloc, body.as_slice(), dvi),
-        _ => operations::begin(dvi),
+        [Command::HBox { body, .. }, ..] => draw_box_page(alloc, body.as_slice(), dvi),
+        _ => Ok(()),
     }
 }
 
-/// Hands the bytes that wait to the sink, and tells how the drawing of them went.
+/// Draws the whole file: the preamble, the pages and the postamble.
+fn draw_file(alloc: Global, commands: &[Command], dvi: &mut Dvi) -> Result<(), Fail<DviFull>>
+    requires fresh { IsNew dvi.old }
+    requires shape { IsBoxOfRules commands.now }
+    ensures { Writes result dvi.old dvi.new (document_operations commands.now) }
+{
+    dvi.begin()?;
+    draw_pages(alloc, commands, dvi)?;
+    dvi.end()
+}
+
+/// Hands the bytes of what was drawn to the sink, in one piece, and answers how the drawing went. If memory ran out, nothing is handed over.
 fn hand_over<O: Sink>(
     drawn: Result<(), Fail<DviFull>>,
-    dvi: &mut Dvi,
+    bytes: &[u8],
     sink: &mut O,
-) -> Result<(), Stop>
-    ensures hands_over { HandsOver drawn dvi.old.waiting
-        (record { taken = O.taken sink.old; faults = O.faults sink.old })
-        (record { taken = O.taken sink.new; faults = O.faults sink.new })
-        result }
-    ensures rest { OnOk result (dvi.new ≡ record dvi.old { waiting = [] }) }
+) -> Result<(), StopReason>
+    ensures { HandsOver drawn bytes.now (O.output sink.old) (O.output sink.new) result }
 {
     if let Err(Fail::NoMemory) = drawn {
-        return Err(Stop::Memory);
+        return Err(StopReason::Memory);
     }
-    let bytes = dvi.take();
-    if write_all(sink, bytes.as_slice()).is_err() {
-        return Err(Stop::Write);
+    if write_all(sink, bytes).is_err() {
+        return Err(StopReason::Write);
     }
     match drawn {
         Ok(()) => Ok(()),
-        Err(_) => Err(Stop::DviFull),
+        Err(_) => Err(StopReason::DviFull),
     }
 }
 
-/// Typesets the commands and writes the DVI file to the sink: the preamble and the pages, and then the postamble.
-pub fn typeset<O: Sink>(alloc: Global, commands: &[Command], sink: &mut O) -> Result<(), Stop>
+/// Typesets the commands and hands the DVI file to the sink, in one piece, when the last page and the postamble are written.
+pub fn typeset<O: Sink>(alloc: Global, commands: &[Command], sink: &mut O) -> Result<(), StopReason>
     requires { IsBoxOfRules commands.now }
-    ensures { Typesets commands.now
-        (record { taken = O.taken sink.old; faults = O.faults sink.old })
-        (record { taken = O.taken sink.new; faults = O.faults sink.new })
-        result }
+    ensures { Typesets commands.now (O.output sink.old) (O.output sink.new) result }
 {
-    let Ok(mut dvi) = Dvi::new(alloc, MAX_DVI) else {
-        return Err(Stop::Memory);
-    };
-    let drawn = draw_pages(alloc, commands, &mut dvi);
-    if let Err(stop) = hand_over(drawn, &mut dvi, sink) {
-        return Err(stop);
-    }
-    let ended = operations::end(&mut dvi);
-    hand_over(ended, &mut dvi, sink)
+    let mut dvi = Dvi::new(alloc, MAX_DVI)?;
+    let drawn = draw_file(alloc, commands, &mut dvi);
+    let bytes = dvi.take();
+    hand_over(drawn, bytes.as_slice(), sink)
 }

@@ -1,6 +1,7 @@
 use Rattle.std.proofs.Common.{rules}
 use Rattle.std.proofs.lemmas.Result.{err_from_is_err_and}
-use Rattle.ntx_run.proofs.Writing.{writes_append, writes_stop, box_none, box_some}
+use Rattle.ntx_dvi.proofs.Writing.{writes_append, writes_stop}
+use Rattle.ntx_run.proofs.Drawing.{box_none, box_some}
 use Rattle.ntx_run.proofs.draw.draw_box.Goals as goal
 
 pub returns-then-is_empty-clause-writes : goal.returns-then-is_empty-clause-writes

@@ -1,17 +1,30 @@
+use Rattle.std.proofs.Common.{rules, FitsSigned, w32}
+use Rattle.std.proofs.lemmas.Int.{to_z-of_z}
 use Rattle.std.proofs.lemmas.Result.{err_from_is_err_and}
-use Rattle.ntx_run.proofs.Writing.{writes_append, writes_stop}
+use Rattle.ntx_dvi.proofs.Writing.{writes_append, writes_stop}
 use Rattle.ntx_run.proofs.draw.draw_mark.Goals as goal
 
 pub returns-in_err-right-clause-writes : goal.returns-in_err-right-clause-writes
 returns-in_err-right-clause-writes c =
     let p = err_from_is_err_and c.from_residual.result c.from_residual.ensures.1 in
-    rw (p.1, p.2) (writes_stop _ c.in_err-right.ensures.writes)
+    let right_fits : FitsSigned w32 c.distance-right.result = search rules in
+    rw (p.1, p.2) (writes_stop _ (rw c.distance-right.ensures at (simp to_z-of_z at c.in_err-right.ensures.writes)))
 
 pub returns-in_err-down-clause-writes : goal.returns-in_err-down-clause-writes
 returns-in_err-down-clause-writes c =
     let p = err_from_is_err_and c.from_residual-in_err-down.result c.from_residual-in_err-down.ensures.1 in
-    rw (p.1, p.2) (writes_append c.in_ok-right.ensures.writes (writes_stop _ c.in_err-down.ensures.writes))
+    let right_fits : FitsSigned w32 c.distance-right.result = search rules in
+    let down_fits : FitsSigned w32 c.distance-down.result = search rules in
+    let right = rw c.distance-right.ensures at (simp to_z-of_z at c.in_ok-right.ensures.writes) in
+    rw (p.1, p.2) (writes_append right (writes_stop _ (rw c.distance-down.ensures at (simp to_z-of_z at c.in_err-down.ensures.writes))))
 
 pub returns-clause-writes : goal.returns-clause-writes
 returns-clause-writes c =
-    writes_append c.in_ok-right.ensures.writes (writes_append c.in_ok-down.ensures.writes c.rule.ensures.writes)
+    let right_fits : FitsSigned w32 c.distance-right.result = search rules in
+    let down_fits : FitsSigned w32 c.distance-down.result = search rules in
+    let height_fits : FitsSigned w32 c.length-height.result = search rules in
+    let width_fits : FitsSigned w32 c.length-width.result = search rules in
+    let right = rw c.distance-right.ensures at (simp to_z-of_z at c.in_ok-right.ensures.writes) in
+    let down = rw c.distance-down.ensures at (simp to_z-of_z at c.in_ok-down.ensures.writes) in
+    let rule = rw (c.length-height.ensures, c.length-width.ensures) at (simp to_z-of_z at c.rule.ensures.writes) in
+    writes_append right (writes_append down rule)

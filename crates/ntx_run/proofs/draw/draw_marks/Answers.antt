@@ -1,6 +1,6 @@
 use Rattle.std.proofs.Common.{arith, rules, ◌∙◌}
 use Rattle.std.proofs.lemmas.Result.{err_from_is_err_and}
-use Rattle.ntx_run.proofs.Writing.{marks_begin, marks_more, marks_stop}
+use Rattle.ntx_run.proofs.Drawing.{marks_begin, marks_more, marks_stop}
 use Rattle.ntx_run.proofs.draw.draw_marks.Goals as goal
 
 pub loop-mark-init : goal.loop-mark-init

@@ -1,6 +1,6 @@
 use Rattle.std.proofs.Common.{◌≡◌, ◌≤◌, ◌^◌}
 use Rattle.ntx_dvi.specs.Writer.{IsInPage}
-use Rattle.ntx_run.proofs.Writing.{MarksSoFar}
+use Rattle.ntx_run.proofs.Drawing.{MarksSoFar}
 use Rattle.ntx_run.proofs.draw.draw_marks.Given as goal
 
 abbrev pub invariant-loop-mark : goal.invariant-loop-mark

@@ -1,5 +1,6 @@
 use Rattle.std.proofs.Common.{◌≡◌, ◌*◌, ◌^◌, ◌≤◌, ◌++◌, drop, All}
-use Rattle.ntx_run.specs.Page.{marks_on, IsOnPage}
+use Rattle.ntx_run.specs.Page.{marks_on}
+use Rattle.ntx_run.specs.inner.Bounds.{IsOnPage}
 use Rattle.ntx_run.proofs.page.marks.Given as goal
 
 abbrev pub invariant-loop-rule : goal.invariant-loop-rule

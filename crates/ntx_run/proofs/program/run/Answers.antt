@@ -1,6 +1,6 @@
 use Rattle.std.proofs.Common.{ap, length, refl}
 use Rattle.ntx_run.proofs.Reading.{words_fit}
-use Rattle.ntx_run.proofs.Endings.{runs_words, runs_inputs, runs_done, runs_stopped}
+use Rattle.ntx_run.proofs.Cases.{runs_words, runs_inputs, runs_done, runs_stopped}
 use Rattle.ntx_run.proofs.program.run.Goals as goal
 
 pub returns-then-not-fits_form : goal.returns-then-not-fits_form

@@ -1,12 +1,13 @@
-use Rattle.std.proofs.Common.{subst}
-use Rattle.ntx_run.specs.Written.{Writes}
-use Rattle.ntx_run.proofs.Typesetting.{pages_part, typesets_stopped, typesets_ended}
+use Rattle.std.proofs.Common.{inr, refl, ◌∙◌}
+use Rattle.std.proofs.lemmas.Result.{err_from_is_err_and}
+use Rattle.ntx_run.proofs.Sinks.{typesets}
 use Rattle.ntx_run.proofs.typeset.typeset.Goals as goal
 
-pub returns-in-Err : goal.returns-in-Err
-returns-in-Err g c =
-    typesets_stopped _ _ _ _ _ _ (subst (λ w. Writes c.draw_pages-drawn.result w c.draw_pages-drawn.new.dvi (pages_part c.args.commands.now)) c.in-Ok.ensures c.draw_pages-drawn.ensures.writes) c.in-Err.ensures.hands_over
+pub returns-in_err-dvi : goal.returns-in_err-dvi
+returns-in_err-dvi g c =
+    let p = err_from_is_err_and c.from_residual.result c.from_residual.ensures.1 in
+    rw (p.1, p.2) (inr (inr (refl, refl)))
 
 pub returns : goal.returns
 returns g c =
-    typesets_ended _ _ _ _ _ _ _ _ _ _ _ (subst (λ w. Writes c.draw_pages-drawn.result w c.draw_pages-drawn.new.dvi (pages_part c.args.commands.now)) c.in-Ok.ensures c.draw_pages-drawn.ensures.writes) c.in_default-hand_over.ensures.hands_over c.in_default-hand_over.ensures.rest c.end-ended.ensures c.hand_over-2.ensures.hands_over
+    typesets _ _ _ _ _ _ _ _ c.in_ok-dvi.ensures c.draw_file-drawn.ensures (c.as_slice.ensures.value ∙ c.take-bytes.ensures.taken) c.hand_over.ensures

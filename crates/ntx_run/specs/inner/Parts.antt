@@ -1,0 +1,125 @@
+-- What the parts of a run do: reading the inputs, typesetting the commands, saying why the run stops.
+use Rattle.std.specs.Prelude.{◌≡◌, ◌⊎◌, ℕ, List, [], Some, Result, Ok, Err}
+use Rattle.ntx_num.specs.declared.answer.Fail.{Fail}
+use Rattle.ntx_num.specs.declared.answer.Fail.TheVariants as fail
+use Rattle.ntx_io.specs.Outside.{Input, Output, Rose, Adds, AddsProperPrefix}
+use Rattle.ntx_dvi.specs.declared.full.DviFull.{DviFull}
+use Rattle.ntx_dvi.specs.Writer.{Writer}
+use Rattle.ntx_doc.specs.declared.command.Command.{Command}
+use Rattle.ntx_doc.specs.declared.fault.DocFault.{DocFault}
+use Rattle.ntx_syntax.specs.declared.fault.SyntaxFault.{SyntaxFault}
+use Rattle.ntx_run.specs.declared.stop.StopReason.{StopReason}
+use Rattle.ntx_run.specs.declared.stop.StopReason.TheVariants as stop
+use Rattle.ntx_run.specs.declared.outcome.Outcome.{Outcome}
+use Rattle.ntx_run.specs.declared.outcome.Which.{Which}
+use Rattle.ntx_run.specs.declared.outcome.Which.TheVariants as which
+use Rattle.ntx_run.specs.StopReason.{outcome_of, line_of}
+use Rattle.ntx_run.specs.Run.{read_document, read_script, read_patterns, file_of, dvi_of}
+
+-- ---- one input
+
+-- This input is refused for this reason.
+abbrev pub IsRefusalOf : Which → StopReason → Type 0
+IsRefusalOf which.Document why = (fault : DocFault) × (why ≡ stop.Document fault)
+IsRefusalOf which.Script why = (fault : SyntaxFault) × (why ≡ stop.Script fault)
+IsRefusalOf which.Patterns why = why ≡ stop.Patterns
+
+-- An input that is refused, if it exposes its bytes as this function refuses them.
+pub record IsRefused {A : Type 0} (reads : List ℕ → Result A StopReason) (why : StopReason) (before after : Input) : Type 0 where
+  pub kept : after.faults ≡ before.faults
+  pub gives : (bytes : List ℕ) → before.left ≡ Some bytes → reads bytes ≡ Err why
+
+-- An input that is read to its end, with this value of its bytes.
+pub record IsRead {A : Type 0} (reads : List ℕ → Result A StopReason) (value : A) (before after : Input) : Type 0 where
+  pub kept : after.faults ≡ before.faults
+  pub gives : (bytes : List ℕ) → before.left ≡ Some bytes → (reads bytes ≡ Ok value) × (after.left ≡ Some [])
+
+-- An input is read to its end, refused, or not read to its end since its source failed or memory ran out.
+abbrev pub ReadsInput : {A : Type 0} → Which → (List ℕ → Result A StopReason) → Input → Input → Result A StopReason → Type 0
+ReadsInput input reads before after (Ok value) = IsRead reads value before after
+ReadsInput input reads before after (Err why) =
+    (IsRefusalOf input why × IsRefused reads why before after)
+    ⊎ (((why ≡ stop.Read input) × Rose before.faults after.faults) ⊎ ((why ≡ stop.Memory) × (after.faults ≡ before.faults)))
+
+-- ---- all inputs
+
+-- the three sources
+pub record Sources : Type 0 where
+  pub document : Input
+  pub script : Input
+  pub patterns : Input
+
+-- The sources were read so far, and no farther: a source after the last one that was read is as it was.
+pub data ReadsInputs (before after : Sources) : Result (List Command) StopReason → Type 0 where
+  AllRead : (commands : List Command) → ReadsInput which.Document read_document before.document after.document (Ok commands) → ReadsInput which.Script read_script before.script after.script (Ok tt) → ReadsInput which.Patterns read_patterns before.patterns after.patterns (Ok tt) → ReadsInputs before after (Ok commands)
+  AtDocument : (why : StopReason) → ReadsInput which.Document read_document before.document after.document (Err why) → after.script ≡ before.script → after.patterns ≡ before.patterns → ReadsInputs before after (Err why)
+  AtScript : (commands : List Command) (why : StopReason) → ReadsInput which.Document read_document before.document after.document (Ok commands) → ReadsInput which.Script read_script before.script after.script (Err why) → after.patterns ≡ before.patterns → ReadsInputs before after (Err why)
+  AtPatterns : (commands : List Command) (why : StopReason) → ReadsInput which.Document read_document before.document after.document (Ok commands) → ReadsInput which.Script read_script before.script after.script (Ok tt) → ReadsInput which.Patterns read_patterns before.patterns after.patterns (Err why) → ReadsInputs before after (Err why)
+
+-- ---- typesetting
+
+-- The bytes were taken whole, and no write failed.
+abbrev pub TakesAll : List ℕ → Output → Output → Type 0
+TakesAll bytes before after = Adds before.taken after.taken bytes × (after.faults ≡ before.faults)
+
+-- A write failed, and a proper prefix of the bytes was taken.
+abbrev pub IsCutOff : List ℕ → Output → Output → Type 0
+IsCutOff bytes before after = AddsProperPrefix before.taken after.taken bytes × Rose before.faults after.faults
+
+-- the answer of a run whose file was drawn so and taken whole
+abbrev pub drawn_answer : Result Writer Writer → Result (Unit {0}) StopReason
+drawn_answer (Ok w) = Ok tt
+drawn_answer (Err w) = Err stop.DviFull
+
+-- All bytes of the file are taken, whether it is whole or not; or the sink fails; or memory runs out.
+abbrev pub HandsOverFile : Result Writer Writer → Output → Output → Result (Unit {0}) StopReason → Type 0
+HandsOverFile file before after result =
+    ((result ≡ drawn_answer file) × TakesAll (dvi_of file) before after)
+    ⊎ (((result ≡ Err stop.Write) × IsCutOff (dvi_of file) before after) ⊎ ((result ≡ Err stop.Memory) × (after ≡ before)))
+
+-- What typesetting commands does.
+abbrev pub Typesets : List Command → Output → Output → Result (Unit {0}) StopReason → Type 0
+Typesets commands before after result = HandsOverFile (file_of commands) before after result
+
+-- After what was drawn, whole or as far as there was room, all bytes go to the sink. If memory ran out none do.
+abbrev pub HandsOver : Result (Unit {0}) (Fail DviFull) → List ℕ → Output → Output → Result (Unit {0}) StopReason → Type 0
+HandsOver (Err fail.NoMemory) bytes before after result = (result ≡ Err stop.Memory) × (after ≡ before)
+HandsOver (Ok a) bytes before after result =
+    ((result ≡ Ok tt) × TakesAll bytes before after) ⊎ ((result ≡ Err stop.Write) × IsCutOff bytes before after)
+HandsOver (Err (fail.Is full)) bytes before after result =
+    ((result ≡ Err stop.DviFull) × TakesAll bytes before after) ⊎ ((result ≡ Err stop.Write) × IsCutOff bytes before after)
+
+-- ---- saying why the run stops
+
+-- The line was written.
+pub record IsLineWhole (why : StopReason) (before after : Output) (outcome : Outcome) : Type 0 where
+  pub ended : outcome ≡ outcome_of why
+  pub adds : Adds before.taken after.taken (line_of why)
+  pub kept : after.faults ≡ before.faults
+
+-- The line was not written whole.
+pub record IsLineCutOff (why : StopReason) (before after : Output) (outcome : Outcome) : Type 0 where
+  pub ended : outcome ≡ outcome_of stop.Write
+  pub adds : AddsProperPrefix before.taken after.taken (line_of why)
+  pub rose : Rose before.faults after.faults
+
+-- There was no memory for the line, or there is none.
+pub record HasNoLine (why : StopReason) (before after : Output) (outcome : Outcome) : Type 0 where
+  pub ended : outcome ≡ outcome_of why
+  pub same : after ≡ before
+
+-- how the writing of a line went
+abbrev pub WritesLine : StopReason → Output → Output → Outcome → Type 0
+WritesLine why before after outcome =
+    IsLineWhole why before after outcome ⊎ (IsLineCutOff why before after outcome ⊎ HasNoLine stop.Memory before after outcome)
+
+-- What the report of a stop does.
+abbrev pub Reports : StopReason → Output → Output → Outcome → Type 0
+Reports stop.Write before after outcome = HasNoLine stop.Write before after outcome
+Reports stop.Memory before after outcome = HasNoLine stop.Memory before after outcome
+Reports stop.Words before after outcome = WritesLine stop.Words before after outcome
+Reports (stop.Document fault) before after outcome = WritesLine (stop.Document fault) before after outcome
+Reports (stop.Script fault) before after outcome = WritesLine (stop.Script fault) before after outcome
+Reports stop.Patterns before after outcome = WritesLine stop.Patterns before after outcome
+Reports (stop.Read input) before after outcome = WritesLine (stop.Read input) before after outcome
+Reports stop.DviFull before after outcome = WritesLine stop.DviFull before after outcome
