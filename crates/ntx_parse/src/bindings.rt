@@ -6,6 +6,7 @@ ghost use Rattle.ntx_parse.specs.Reading as reading;
 ghost use Rattle.ntx_parse.specs.Reading.{readers};
 ghost use Rattle.ntx_parse.specs.Reads.{Reads};
 
+use crate::list::push;
 use crate::names::{names, path};
 use crate::parser::Parser;
 use crate::part::{Part, var_of};
@@ -15,7 +16,7 @@ use crate::rules::Rules;
 use crate::terminal::Terminal;
 use ntx_num::Fail;
 use ntx_syntax::{Block, Call, Exp, StatKind, SyntaxFault, SyntaxWhy, Var};
-use sqlite_items::Items;
+use sqlite_items::{Boxed, Items};
 use std::alloc::Global;
 
 /// What can be assigned to. Where a prefix was read that cannot, the next word is refused (Expected).
@@ -138,14 +139,24 @@ impl<
         match found {
             Part::Name(name) => self.assignment_to(parser, place, Var::Name(name)),
             Part::Parenthesized(_) => Err(parser.fault(SyntaxWhy::Expected)),
-            Part::Index(before, key) => self.assignment_to(parser, place, Var::Index(before, key)),
-            Part::Field(before, name) => {
-                self.assignment_to(parser, place, Var::Field(before, name))
+            Part::Index(before, key) => {
+                let indexed = Boxed::new(self.alloc, before)?;
+                self.assignment_to(parser, place, Var::Index(indexed, key))
             }
-            Part::Call(function, arguments) => Ok(StatKind::Call(Call {
-                function,
-                arguments,
-            })),
+            Part::Field(before, name) => {
+                let table = Boxed::new(self.alloc, before)?;
+                self.assignment_to(parser, place, Var::Field(table, name))
+            }
+            Part::Call(function, arguments) => {
+                let call = Boxed::new(
+                    self.alloc,
+                    Call {
+                        function,
+                        arguments,
+                    },
+                )?;
+                Ok(StatKind::Call(call))
+            }
         }
     }
 
@@ -180,11 +191,12 @@ impl<
         ensures { Reads (λ n. (readers n).vars place (first ∷ []) parser.old.words) parser.old result parser.new }
     {
         let mut vars = Items::new(self.alloc);
-        vars.push(first)?;
+        push(self.alloc, &mut vars, first)?;
         while parser.begins(Terminal::Comma) {
             parser.taken(place)?;
             let found = self.prefix(parser, place)?;
-            vars.push(as_var(parser, var_of(found))?)?;
+            let var = var_of(self.alloc, found)?;
+            push(self.alloc, &mut vars, as_var(parser, var)?)?;
         }
         Ok(vars)
     }

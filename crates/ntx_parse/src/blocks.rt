@@ -6,6 +6,7 @@ ghost use Rattle.ntx_parse.specs.Reading as reading;
 ghost use Rattle.ntx_parse.specs.Reading.{readers};
 ghost use Rattle.ntx_parse.specs.Reads.{Reads};
 
+use crate::list::push;
 use crate::parser::Parser;
 use crate::place::{Place, within_loop};
 use crate::precedence::Precedence;
@@ -13,7 +14,7 @@ use crate::rules::Rules;
 use crate::terminal::Terminal;
 use ntx_num::Fail;
 use ntx_syntax::{Block, Exp, Return, Stat, SyntaxFault};
-use sqlite_items::Items;
+use sqlite_items::{Boxed, Items};
 use std::alloc::Global;
 
 /// `[;]`
@@ -57,7 +58,7 @@ impl<
         let mut stats = Items::new(self.alloc);
         while let Some((terminal, line)) = parser.statement_at() {
             let kind = self.kind(parser, place, terminal)?;
-            stats.push(Stat { line, kind })?;
+            push(self.alloc, &mut stats, Stat { line, kind })?;
         }
         Ok(stats)
     }
@@ -109,13 +110,13 @@ impl<
         parser: &mut Parser<'_>,
         place: Place,
         inside: Place,
-    ) -> Result<Block, Fail<SyntaxFault>>
+    ) -> Result<Boxed<Block>, Fail<SyntaxFault>>
         requires nests { Nests self.now.depth (E.pre self.now.exp) (E.post self.now.exp) (B.pre self.now.block) (B.post self.now.block) }
         requires shallow { inside.nesting ≤ 201 }
         requires room { 406 ≤ self.now.depth + 2 * inside.nesting }
         ensures { Reads (λ n. reading.block_to_end (readers n) place inside parser.old.words) parser.old result parser.new }
     {
-        let body = self.block(parser, inside)?;
+        let body = self.boxed_block(parser, inside)?;
         parser.expected(place, Terminal::End)?;
         Ok(body)
     }
@@ -125,7 +126,7 @@ impl<
         &self,
         parser: &mut Parser<'_>,
         place: Place,
-    ) -> Result<Block, Fail<SyntaxFault>>
+    ) -> Result<Boxed<Block>, Fail<SyntaxFault>>
         requires nests { Nests self.now.depth (E.pre self.now.exp) (E.post self.now.exp) (B.pre self.now.block) (B.post self.now.block) }
         requires shallow { place.nesting ≤ 201 }
         requires room { 405 ≤ self.now.depth + 2 * place.nesting }

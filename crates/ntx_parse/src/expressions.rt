@@ -12,6 +12,7 @@ ghost use Rattle.ntx_parse.specs.Reading.{readers};
 ghost use Rattle.ntx_parse.specs.Reads.{Reads};
 ghost use Rattle.ntx_parse.specs.Steps.{behind_at};
 
+use crate::list::push;
 use crate::names::parameters;
 use crate::parser::Parser;
 use crate::part::joined;
@@ -40,10 +41,11 @@ fn concat_of(alloc: Global, left: Exp, right: Exp) -> Result<Exp, AllocError>
     ensures { IfOk result (λ e. e ≡ exp.Binary left (record { operator = binary.Concat; operand = right } ∷ [])) }
 {
     let mut operations = Items::new(alloc);
-    operations.push(Operation {
+    let operation = Operation {
         operator: BinaryOp::Concat,
         operand: right,
-    })?;
+    };
+    push(alloc, &mut operations, operation)?;
     Ok(Exp::Binary(Boxed::new(alloc, left)?, operations))
 }
 
@@ -129,8 +131,8 @@ impl<
         ensures { Reads (λ n. reading.read_operand (readers n) place (Some operator) parser.old.words) parser.old result parser.new }
     {
         parser.taken(place)?;
-        let operand = self.exp(parser, within(place), Precedence::Unary)?;
-        Ok(Exp::Unary(operator, Boxed::new(self.alloc, operand)?))
+        let operand = self.boxed_exp(parser, within(place), Precedence::Unary)?;
+        Ok(Exp::Unary(operator, operand))
     }
 
     /// `[.. exp]`, behind this expression.
@@ -169,7 +171,7 @@ impl<
         while let Some(operator) = parser.operator_at(precedence) {
             parser.taken(place)?;
             let operand = self.exp(parser, within(place), tighter(precedence))?;
-            operations.push(Operation { operator, operand })?;
+            push(self.alloc, &mut operations, Operation { operator, operand })?;
         }
         Ok(operations)
     }
@@ -277,10 +279,14 @@ impl<
         ensures { Reads (λ n. (readers n).exps place (first ∷ []) parser.old.words) parser.old result parser.new }
     {
         let mut exps = Items::new(self.alloc);
-        exps.push(first)?;
+        push(self.alloc, &mut exps, first)?;
         while parser.begins(Terminal::Comma) {
             parser.taken(place)?;
-            exps.push(self.exp(parser, place, Precedence::Or)?)?;
+            push(
+                self.alloc,
+                &mut exps,
+                self.exp(parser, place, Precedence::Or)?,
+            )?;
         }
         Ok(exps)
     }
@@ -291,7 +297,7 @@ impl<
         &self,
         parser: &mut Parser<'_>,
         place: Place,
-    ) -> Result<FunctionBody, Fail<SyntaxFault>>
+    ) -> Result<Boxed<FunctionBody>, Fail<SyntaxFault>>
         requires nests { Nests self.now.depth (E.pre self.now.exp) (E.post self.now.exp) (B.pre self.now.block) (B.post self.now.block) }
         requires shallow { place.nesting ≤ 202 }
         requires room { 405 ≤ self.now.depth + 2 * place.nesting }
@@ -300,6 +306,6 @@ impl<
         let parameters = parameters(self.alloc, parser, within(place))?;
         let block = self.block(parser, within_function(place))?;
         parser.expected(place, Terminal::End)?;
-        Ok(FunctionBody { parameters, block })
+        Ok(Boxed::new(self.alloc, FunctionBody { parameters, block })?)
     }
 }

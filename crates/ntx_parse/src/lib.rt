@@ -11,6 +11,7 @@
 mod bindings;
 mod blocks;
 mod expressions;
+mod list;
 mod loops;
 mod names;
 mod operator;

@@ -14,6 +14,7 @@ use crate::rules::Rules;
 use crate::terminal::Terminal;
 use ntx_num::Fail;
 use ntx_syntax::{Block, Exp, LocalName, StatKind, SyntaxFault};
+use sqlite_items::Boxed;
 use std::alloc::Global;
 
 impl<
@@ -33,7 +34,7 @@ impl<
         ensures shorter { OnOk result (length parser.new.words < length parser.old.words) }
     {
         parser.taken(place)?;
-        let condition = self.exp(parser, place, Precedence::Or)?;
+        let condition = self.boxed_exp(parser, place, Precedence::Or)?;
         let body = self.loop_body(parser, place)?;
         Ok(StatKind::While(condition, body))
     }
@@ -51,9 +52,9 @@ impl<
         ensures shorter { OnOk result (length parser.new.words < length parser.old.words) }
     {
         parser.taken(place)?;
-        let body = self.block(parser, within_loop(place))?;
+        let body = self.boxed_block(parser, within_loop(place))?;
         parser.expected(place, Terminal::Until)?;
-        let condition = self.exp(parser, place, Precedence::Or)?;
+        let condition = self.boxed_exp(parser, place, Precedence::Or)?;
         Ok(StatKind::Repeat(body, condition))
     }
 
@@ -91,11 +92,12 @@ impl<
         ensures { Reads (λ n. reading.numeric_for_behind (readers n) place name parser.old.words) parser.old result parser.new }
     {
         parser.taken(place)?;
-        let first = self.exp(parser, place, Precedence::Or)?;
+        let first = self.boxed_exp(parser, place, Precedence::Or)?;
         parser.expected(place, Terminal::Comma)?;
-        let limit = self.exp(parser, place, Precedence::Or)?;
+        let limit = self.boxed_exp(parser, place, Precedence::Or)?;
         let step = self.step_behind(parser, place)?;
         let body = self.loop_body(parser, place)?;
+        let name = Boxed::new(self.alloc, name)?;
         Ok(StatKind::NumericFor(name, first, limit, step, body))
     }
 
@@ -104,7 +106,7 @@ impl<
         &self,
         parser: &mut Parser<'_>,
         place: Place,
-    ) -> Result<Option<Exp>, Fail<SyntaxFault>>
+    ) -> Result<Option<Boxed<Exp>>, Fail<SyntaxFault>>
         requires nests { Nests self.now.depth (E.pre self.now.exp) (E.post self.now.exp) (B.pre self.now.block) (B.post self.now.block) }
         requires shallow { place.nesting ≤ 201 }
         requires room { 405 ≤ self.now.depth + 2 * place.nesting }
@@ -114,7 +116,7 @@ impl<
             return Ok(None);
         }
         parser.taken(place)?;
-        let value = self.exp(parser, place, Precedence::Or)?;
+        let value = self.boxed_exp(parser, place, Precedence::Or)?;
         Ok(Some(value))
     }
 

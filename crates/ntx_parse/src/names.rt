@@ -5,6 +5,7 @@ ghost use Rattle.ntx_parse.specs.Reading as reading;
 ghost use Rattle.ntx_parse.specs.Reading.{readers};
 ghost use Rattle.ntx_parse.specs.Reads.{Reads};
 
+use crate::list::push;
 use crate::parser::Parser;
 use crate::place::Place;
 use crate::terminal::Terminal;
@@ -24,7 +25,7 @@ pub fn path(
     let mut names = Items::new(alloc);
     while parser.begins(Terminal::Dot) {
         parser.taken(place)?;
-        names.push(parser.name(alloc, place)?)?;
+        push(alloc, &mut names, parser.name(alloc, place)?)?;
     }
     Ok(names)
 }
@@ -51,10 +52,10 @@ pub fn names_behind(
     ensures { Reads (λ n. (readers n).names place (first ∷ []) parser.old.words) parser.old result parser.new }
 {
     let mut names = Items::new(alloc);
-    names.push(first)?;
+    push(alloc, &mut names, first)?;
     while parser.begins(Terminal::Comma) {
         parser.taken(place)?;
-        names.push(parser.local_name(alloc, place)?)?;
+        push(alloc, &mut names, parser.local_name(alloc, place)?)?;
     }
     Ok(names)
 }

@@ -15,7 +15,7 @@ use crate::rules::Rules;
 use crate::terminal::Terminal;
 use ntx_num::Fail;
 use ntx_syntax::{Block, Exp, SyntaxFault};
-use sqlite_items::Items;
+use sqlite_items::{Boxed, Items};
 use std::alloc::Global;
 
 impl<
@@ -40,7 +40,11 @@ impl<
     }
 
     /// `( exp )`, at the place of the parentheses.
-    fn parenthesized(&self, parser: &mut Parser<'_>, place: Place) -> Result<Exp, Fail<SyntaxFault>>
+    fn parenthesized(
+        &self,
+        parser: &mut Parser<'_>,
+        place: Place,
+    ) -> Result<Boxed<Exp>, Fail<SyntaxFault>>
         requires nests { Nests self.now.depth (E.pre self.now.exp) (E.post self.now.exp) (B.pre self.now.block) (B.post self.now.block) }
         requires shallow { place.nesting ≤ 202 }
         requires room { 405 ≤ self.now.depth + 2 * place.nesting }
@@ -48,7 +52,7 @@ impl<
         ensures shorter { OnOk result (length parser.new.words < length parser.old.words) }
     {
         parser.expected(place, Terminal::LeftParenthesis)?;
-        let exp = self.exp(parser, place, Precedence::Or)?;
+        let exp = self.boxed_exp(parser, place, Precedence::Or)?;
         parser.expected(place, Terminal::RightParenthesis)?;
         Ok(exp)
     }
@@ -95,7 +99,11 @@ impl<
     }
 
     /// `[ exp ]`, at the place of the brackets.
-    pub fn index(&self, parser: &mut Parser<'_>, place: Place) -> Result<Exp, Fail<SyntaxFault>>
+    pub fn index(
+        &self,
+        parser: &mut Parser<'_>,
+        place: Place,
+    ) -> Result<Boxed<Exp>, Fail<SyntaxFault>>
         requires nests { Nests self.now.depth (E.pre self.now.exp) (E.post self.now.exp) (B.pre self.now.block) (B.post self.now.block) }
         requires shallow { place.nesting ≤ 202 }
         requires room { 405 ≤ self.now.depth + 2 * place.nesting }
@@ -103,7 +111,7 @@ impl<
         ensures shorter { OnOk result (length parser.new.words < length parser.old.words) }
     {
         parser.expected(place, Terminal::LeftBracket)?;
-        let key = self.exp(parser, place, Precedence::Or)?;
+        let key = self.boxed_exp(parser, place, Precedence::Or)?;
         parser.expected(place, Terminal::RightBracket)?;
         Ok(key)
     }

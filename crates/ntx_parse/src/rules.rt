@@ -11,6 +11,7 @@ use crate::place::Place;
 use crate::precedence::Precedence;
 use ntx_num::Fail;
 use ntx_syntax::{Block, Exp, SyntaxFault};
+use sqlite_items::Boxed;
 use std::alloc::Global;
 
 /// The rules, over what reads the expressions and the blocks in them.
@@ -53,5 +54,36 @@ impl<
         ensures { Reads (λ n. (readers n).block place parser.old.words) parser.old result parser.new }
     {
         (self.block)(self.alloc, parser, self.depth, place)
+    }
+
+    /// An expression, in a box.
+    pub fn boxed_exp(
+        &self,
+        parser: &mut Parser<'_>,
+        place: Place,
+        precedence: Precedence,
+    ) -> Result<Boxed<Exp>, Fail<SyntaxFault>>
+        requires nests { Nests self.now.depth (E.pre self.now.exp) (E.post self.now.exp) (B.pre self.now.block) (B.post self.now.block) }
+        requires shallow { place.nesting ≤ 201 }
+        requires room { 405 ≤ self.now.depth + 2 * place.nesting }
+        ensures { Reads (λ n. (readers n).exp place precedence parser.old.words) parser.old result parser.new }
+    {
+        let exp = self.exp(parser, place, precedence)?;
+        Ok(Boxed::new(self.alloc, exp)?)
+    }
+
+    /// A block, in a box.
+    pub fn boxed_block(
+        &self,
+        parser: &mut Parser<'_>,
+        place: Place,
+    ) -> Result<Boxed<Block>, Fail<SyntaxFault>>
+        requires nests { Nests self.now.depth (E.pre self.now.exp) (E.post self.now.exp) (B.pre self.now.block) (B.post self.now.block) }
+        requires shallow { place.nesting ≤ 201 }
+        requires room { 406 ≤ self.now.depth + 2 * place.nesting }
+        ensures { Reads (λ n. (readers n).block place parser.old.words) parser.old result parser.new }
+    {
+        let block = self.block(parser, place)?;
+        Ok(Boxed::new(self.alloc, block)?)
     }
 }

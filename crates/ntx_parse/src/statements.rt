@@ -7,6 +7,7 @@ ghost use Rattle.ntx_parse.specs.Reading as reading;
 ghost use Rattle.ntx_parse.specs.Reading.{readers};
 ghost use Rattle.ntx_parse.specs.Reads.{Reads};
 
+use crate::list::push;
 use crate::parser::Parser;
 use crate::place::{Place, within};
 use crate::precedence::Precedence;
@@ -14,7 +15,7 @@ use crate::rules::Rules;
 use crate::terminal::Terminal;
 use ntx_num::Fail;
 use ntx_syntax::{Block, Exp, IfArm, StatKind, SyntaxFault, SyntaxWhy};
-use sqlite_items::Items;
+use sqlite_items::{Boxed, Items};
 use std::alloc::Global;
 
 /// `;`
@@ -112,9 +113,9 @@ impl<
         ensures { Reads (λ n. (readers n).arms place (first ∷ []) parser.old.words) parser.old result parser.new }
     {
         let mut arms = Items::new(self.alloc);
-        arms.push(first)?;
+        push(self.alloc, &mut arms, first)?;
         while parser.begins(Terminal::Elseif) {
-            arms.push(self.arm(parser, place)?)?;
+            push(self.alloc, &mut arms, self.arm(parser, place)?)?;
         }
         Ok(arms)
     }
@@ -140,7 +141,7 @@ impl<
         &self,
         parser: &mut Parser<'_>,
         place: Place,
-    ) -> Result<Option<Block>, Fail<SyntaxFault>>
+    ) -> Result<Option<Boxed<Block>>, Fail<SyntaxFault>>
         requires nests { Nests self.now.depth (E.pre self.now.exp) (E.post self.now.exp) (B.pre self.now.block) (B.post self.now.block) }
         requires shallow { place.nesting ≤ 201 }
         requires room { 405 ≤ self.now.depth + 2 * place.nesting }
@@ -150,7 +151,7 @@ impl<
             return Ok(None);
         }
         parser.taken(place)?;
-        let block = self.block(parser, within(place))?;
+        let block = self.boxed_block(parser, within(place))?;
         Ok(Some(block))
     }
 }

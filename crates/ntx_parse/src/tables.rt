@@ -6,6 +6,7 @@ ghost use Rattle.ntx_parse.specs.Reading as reading;
 ghost use Rattle.ntx_parse.specs.Reading.{readers};
 ghost use Rattle.ntx_parse.specs.Reads.{Reads};
 
+use crate::list::push;
 use crate::parser::Parser;
 use crate::place::{Place, within};
 use crate::precedence::Precedence;
@@ -50,7 +51,7 @@ impl<
     {
         let mut fields = Items::new(self.alloc);
         while !parser.begins(Terminal::RightBrace) {
-            fields.push(self.field(parser, place)?)?;
+            push(self.alloc, &mut fields, self.field(parser, place)?)?;
             if !parser.begins_separator() {
                 return Ok(fields);
             }
@@ -69,12 +70,12 @@ impl<
         if parser.begins(Terminal::LeftBracket) {
             let key = self.index(parser, within(place))?;
             parser.expected(place, Terminal::Assign)?;
-            let value = self.exp(parser, place, Precedence::Or)?;
+            let value = self.boxed_exp(parser, place, Precedence::Or)?;
             Ok(Field::Keyed(key, value))
         } else if parser.names_a_field() {
             let name = parser.name(self.alloc, place)?;
             parser.expected(place, Terminal::Assign)?;
-            let value = self.exp(parser, place, Precedence::Or)?;
+            let value = self.boxed_exp(parser, place, Precedence::Or)?;
             Ok(Field::Named(name, value))
         } else {
             let value = self.exp(parser, place, Precedence::Or)?;

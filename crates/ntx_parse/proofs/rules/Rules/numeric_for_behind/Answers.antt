@@ -1,4 +1,4 @@
-use Rattle.ntx_parse.proofs.ReadsLemmas.{ok, err_by, done}
+use Rattle.ntx_parse.proofs.ReadsLemmas.{ok, err_by, no_memory_by, done}
 use Rattle.ntx_parse.proofs.rules.Rules.numeric_for_behind.Goals as goal
 
 pub returns-in_err-taken : goal.returns-in_err-taken
@@ -20,4 +20,7 @@ pub returns-in_err-body : goal.returns-in_err-body
 returns-in_err-body g c = ok _ c.in_ok-taken.ensures.reads (ok _ c.in_ok-first.ensures (ok _ c.in_ok-expected.ensures.reads (ok _ c.in_ok-limit.ensures (ok _ c.in_ok-step.ensures (err_by _ _ c.from_residual-in_err-body.ensures.1 c.in_err-body.ensures)))))
 
 pub returns : goal.returns
-returns g c = ok _ c.in_ok-taken.ensures.reads (ok _ c.in_ok-first.ensures (ok _ c.in_ok-expected.ensures.reads (ok _ c.in_ok-limit.ensures (ok _ c.in_ok-step.ensures (ok _ c.in_ok-body.ensures (done))))))
+returns g c = ok _ c.in_ok-taken.ensures.reads (ok _ c.in_ok-first.ensures (ok _ c.in_ok-expected.ensures.reads (ok _ c.in_ok-limit.ensures (ok _ c.in_ok-step.ensures (ok _ c.in_ok-body.ensures (rw c.in_ok-name.ensures done))))))
+
+pub returns-in_err-name : goal.returns-in_err-name
+returns-in_err-name g c = no_memory_by _ c.from_residual-in_err-name.ensures.1

@@ -20,15 +20,18 @@ returns-in_err-found g c =
     c.loop-place.invariant _ _ (later (λ n. refl) (when _ (sym c.begins.ensures ∙ c.loop-place-test.true)
     (ok _ c.in_ok-taken.ensures.reads (err_by _ _ c.from_residual-in_err-found.ensures.1 c.in_err-found.ensures.reads))))
 
+pub returns-in_err-var : goal.returns-in_err-var
+returns-in_err-var g c = no_memory_by _ c.from_residual-in_err-var.ensures.1
+
 pub returns-in_err-as_var : goal.returns-in_err-as_var
 returns-in_err-as_var g c =
     c.loop-place.invariant _ _ (later (λ n. refl) (when _ (sym c.begins.ensures ∙ c.loop-place-test.true)
-    (ok _ c.in_ok-taken.ensures.reads (ok _ c.in_ok-found.ensures.reads (err_by _ _ c.from_residual-in_err-as_var.ensures.1 (with_equal (λ v n. as_var v c.prefix.new.parser.words) c.var_of.ensures _ _ c.in_err-as_var.ensures))))))
+    (ok _ c.in_ok-taken.ensures.reads (ok _ c.in_ok-found.ensures.reads (err_by _ _ c.from_residual-in_err-as_var.ensures.1 (with_equal (λ v n. as_var v c.prefix.new.parser.words) c.in_ok-var.ensures _ _ c.in_err-as_var.ensures))))))
 
 pub loop-place-preserved : goal.loop-place-preserved
 loop-place-preserved g c = λ r new h.
     c.loop-place.invariant r new (later (λ n. refl) (when _ (sym c.begins.ensures ∙ c.loop-place-test.true)
-    (ok _ c.in_ok-taken.ensures.reads (ok _ c.in_ok-found.ensures.reads (ok _ (with_equal (λ v n. as_var v c.prefix.new.parser.words) c.var_of.ensures _ _ c.in_ok-as_var.ensures) (with_equal (λ before n. (readers n).vars c.args.place before c.prefix.new.parser.words) c.in_ok-push-2.ensures.ok r new h))))))
+    (ok _ c.in_ok-taken.ensures.reads (ok _ c.in_ok-found.ensures.reads (ok _ (with_equal (λ v n. as_var v c.prefix.new.parser.words) c.in_ok-var.ensures _ _ c.in_ok-as_var.ensures) (with_equal (λ before n. (readers n).vars c.args.place before c.prefix.new.parser.words) c.in_ok-push-2.ensures.ok r new h))))))
 
 pub returns-in_err-push-2 : goal.returns-in_err-push-2
 returns-in_err-push-2 g c = no_memory_by _ c.from_residual-in_err-push-2.ensures.1
