@@ -4,13 +4,14 @@ use Rattle.std.proofs.Common.{refl, sym, ap, ◌∙◌, subst, le-leb, true≢fa
 use Rattle.std.proofs.lemmas.Bool.{eq-eqb, lt-leb}
 use Rattle.ntx_syntax.specs.declared.fault.SyntaxWhy.{SyntaxWhy}
 use Rattle.ntx_syntax.specs.declared.fault.SyntaxWhy.TheVariants as why
+use Rattle.ntx_syntax.specs.Terminals.{same_terminal}
 use Rattle.ntx_parse.specs.declared.place.Place.{Place}
-use Rattle.ntx_parse.specs.declared.terminal.Terminal.{Terminal}
-use Rattle.ntx_parse.specs.declared.terminal.Terminal.TheVariants as terminal
+use Rattle.ntx_syntax.specs.declared.terminal.Terminal.{Terminal}
+use Rattle.ntx_syntax.specs.declared.terminal.Terminal.TheVariants as terminal
 use Rattle.ntx_parse.specs.Words.{Word}
 use Rattle.ntx_parse.specs.Grammar.{Placed, Is, IsFine, NotBefore, max_nesting}
-use Rattle.ntx_parse.specs.Reading.{Answer, read, stopped, number, begins, taken, expected, and_then}
-use Rattle.ntx_parse.proofs.TerminalLemmas.{same_terminal}
+use Rattle.ntx_parse.specs.Reading.{Answer, read, stopped, begins, taken, expected, and_then}
+use Rattle.ntx_parse.proofs.TerminalLemmas.{equal_terminals, same_when_equal}
 use Rattle.ntx_parse.proofs.ComesLemmas.{Bar, IsBad, too_deep, no_loop, Fine, Comes, comes_first, comes_then, comes_if}
 
 -- the words without their places
@@ -25,7 +26,7 @@ AllFine bar (o ∷ words) = Fine bar o (plain words) × AllFine bar words
 -- ---- what can be behind a phrase
 
 abbrev pub is_this : Terminal → Terminal → Bool
-is_this u t = nat_eq (number t) (number u)
+is_this u t = same_terminal t u
 
 -- The words have no first, or one that passes this test.
 abbrev pub Follows : (Terminal → Bool) → List Placed → Type 0
@@ -66,26 +67,26 @@ pub passes : {p : Place} {t : Terminal} {o : Placed} (q : Terminal → Bool) →
 passes q i e = ap q i.is ∙ e
 
 -- one that is not this
-pub is_other : {p : Place} {t : Terminal} {o : Placed} (u : Terminal) → Is p t o → nat_eq (number t) (number u) ≡ false
-    → nat_eq (number o.word.is) (number u) ≡ false
-is_other u i e = ap (λ s. nat_eq (number s) (number u)) i.is ∙ e
+pub is_other : {p : Place} {t : Terminal} {o : Placed} (u : Terminal) → Is p t o → same_terminal t u ≡ false
+    → same_terminal o.word.is u ≡ false
+is_other u i e = ap (λ s. same_terminal s u) i.is ∙ e
 
-other_than : (q : Terminal → Bool) (t u : Terminal) (b : Bool) → nat_eq (number t) (number u) ≡ b → q t ≡ true → q u ≡ false → b ≡ false
-other_than q t u true e h other = absurd (true≢false (sym h ∙ (ap q (same_terminal t u e) ∙ other)))
+other_than : (q : Terminal → Bool) (t u : Terminal) (b : Bool) → same_terminal t u ≡ b → q t ≡ true → q u ≡ false → b ≡ false
+other_than q t u true e h other = absurd (true≢false (sym h ∙ (ap q (equal_terminals t u e) ∙ other)))
 other_than q t u false e h other = refl
 
 -- What passes a test is none of those that do not.
 pub not_begins : (q : Terminal → Bool) (u : Terminal) (words : List Placed) → q u ≡ false → Follows q words → begins u (plain words) ≡ false
 not_begins q u [] other h = refl
-not_begins q u (o ∷ words) other h = other_than q o.word.is u (nat_eq (number o.word.is) (number u)) refl h other
+not_begins q u (o ∷ words) other h = other_than q o.word.is u (same_terminal o.word.is u) refl h other
 
-not_this : (t u : Terminal) (b : Bool) → nat_eq (number t) (number u) ≡ b → (t ≡ u → ⊥) → b ≡ false
-not_this t u true e other = absurd (other (same_terminal t u e))
+not_this : (t u : Terminal) (b : Bool) → same_terminal t u ≡ b → (t ≡ u → ⊥) → b ≡ false
+not_this t u true e other = absurd (other (equal_terminals t u e))
 not_this t u false e other = refl
 
 pub not_before : (u : Terminal) (words : List Placed) → NotBefore u words → begins u (plain words) ≡ false
 not_before u [] other = refl
-not_before u (o ∷ words) other = not_this o.word.is u (nat_eq (number o.word.is) (number u)) refl (other o words refl)
+not_before u (o ∷ words) other = not_this o.word.is u (same_terminal o.word.is u) refl (other o words refl)
 
 -- ---- one word
 
@@ -99,8 +100,8 @@ too_much {p} i h = lt-leb p.nesting max_nesting (subst (λ place. max_nesting < 
 pub taken_here : {p : Place} {t : Terminal} {o : Placed} (words : List Word) → Is p t o → IsFine o → taken p (o.word ∷ words) ≡ read o.word words
 taken_here words i fine = rw (enough i fine.nesting)
 
-pub begins_here : {p : Place} {t : Terminal} {o : Placed} → Is p t o → nat_eq (number o.word.is) (number t) ≡ true
-begins_here {p} {t} {o} i = eq-eqb (number o.word.is) (number t) (ap number i.is)
+pub begins_here : {p : Place} {t : Terminal} {o : Placed} → Is p t o → same_terminal o.word.is t ≡ true
+begins_here {p} {t} {o} i = same_when_equal o.word.is t i.is
 
 -- At one that is not fine and no `break` the reading stops, since it lies too deep.
 taken_bad : {p : Place} {t : Terminal} {o : Placed} (words : List Word) (reason : SyntaxWhy) → Is p t o → is_this terminal.Break t ≡ false → IsBad reason o

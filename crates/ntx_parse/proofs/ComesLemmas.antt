@@ -20,7 +20,7 @@ use Rattle.ntx_syntax.specs.declared.tree.Field.{Field}
 use Rattle.ntx_parse.specs.declared.part.Part.{Part}
 use Rattle.ntx_parse.specs.declared.place.Place.{Place}
 use Rattle.ntx_parse.specs.declared.precedence.Precedence.{Precedence}
-use Rattle.ntx_parse.specs.declared.terminal.Terminal.TheVariants as terminal
+use Rattle.ntx_syntax.specs.declared.terminal.Terminal.TheVariants as terminal
 use Rattle.ntx_parse.specs.Words.{Word}
 use Rattle.ntx_parse.specs.Grammar.{Placed, IsFine, max_nesting}
 use Rattle.ntx_parse.specs.Reading.{Answer, Stop, read, stopped, and_then, Readers, over, readers, block_at, stats_behind, arms_behind, path_behind, names_behind, exps_behind, vars_behind, suffixes_behind, exp_at, operations_behind, fields_behind}

@@ -15,11 +15,11 @@ use Rattle.ntx_syntax.specs.declared.fault.SyntaxWhy.{SyntaxWhy}
 use Rattle.ntx_syntax.specs.declared.fault.SyntaxWhy.TheVariants as why
 use Rattle.ntx_syntax.specs.declared.tree.Chunk.{Chunk}
 use Rattle.ntx_syntax.specs.declared.tree.Block.{Block}
-use Rattle.ntx_parse.specs.declared.terminal.Terminal.TheVariants as terminal
+use Rattle.ntx_syntax.specs.declared.terminal.Terminal.TheVariants as terminal
 use Rattle.ntx_parse.specs.Words.{Word}
 use Rattle.ntx_parse.specs.Grammar.{Placed, IsFine, IsChunk, Accepts, outermost, max_nesting}
 use Rattle.ntx_parse.specs.Reading.{Answer, Stop, read, stopped, and_then, readers, ended, script_by}
-use Rattle.ntx_parse.proofs.TerminalLemmas.{same_terminal}
+use Rattle.ntx_parse.proofs.TerminalLemmas.{equal_terminals}
 use Rattle.ntx_parse.proofs.BeginsLemmas.{plain, is_this, AllFine}
 use Rattle.ntx_parse.proofs.ComesLemmas.{IsBad, too_deep, no_loop, Bar, is_fine, is_bad, is_behind, cut_before, cut_behind}
 use Rattle.ntx_parse.proofs.CompletePhrases.{block_read}
@@ -113,7 +113,7 @@ fine_or_bad : (o : Placed) (fits is_break in_loop : Bool) → nat_le o.place.nes
 fine_or_bad o false _ _ deep breaks loops = inr (why.Depth, too_deep (leb-false o.place.nesting max_nesting deep))
 fine_or_bad o true _ true fits breaks loops = inl (record { nesting = leb-true o.place.nesting max_nesting fits; in_loop = λ _. loops })
 fine_or_bad o true true false fits breaks loops =
-    inr (why.Break, no_loop (leb-true o.place.nesting max_nesting fits) (same_terminal o.word.is terminal.Break breaks) loops)
+    inr (why.Break, no_loop (leb-true o.place.nesting max_nesting fits) (equal_terminals o.word.is terminal.Break breaks) loops)
 fine_or_bad o true false false fits breaks loops =
     inl (record { nesting = leb-true o.place.nesting max_nesting fits; in_loop = λ e. absurd (true≢false (sym (ap (is_this terminal.Break) e) ∙ breaks)) })
 

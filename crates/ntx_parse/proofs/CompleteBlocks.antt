@@ -8,8 +8,8 @@ use Rattle.ntx_syntax.specs.declared.tree.Stat.{Stat}
 use Rattle.ntx_syntax.specs.declared.tree.StatKind.{StatKind}
 use Rattle.ntx_syntax.specs.declared.tree.Exp.{Exp}
 use Rattle.ntx_parse.specs.declared.place.Place.{Place}
-use Rattle.ntx_parse.specs.declared.terminal.Terminal.{Terminal}
-use Rattle.ntx_parse.specs.declared.terminal.Terminal.TheVariants as terminal
+use Rattle.ntx_syntax.specs.declared.terminal.Terminal.{Terminal}
+use Rattle.ntx_syntax.specs.declared.terminal.Terminal.TheVariants as terminal
 use Rattle.ntx_parse.specs.Grammar.{Placed, Is}
 use Rattle.ntx_parse.specs.Reading.{read, begins, readers, begins_statement, ends_return, ends_returned, returned_behind, semicolon_behind, last_behind}
 use Rattle.ntx_parse.proofs.BeginsLemmas.{plain, AllFine, implies, implied, Follows, Starts, begins_here, comes_taken}

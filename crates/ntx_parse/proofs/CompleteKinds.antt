@@ -11,12 +11,12 @@ use Rattle.ntx_syntax.specs.declared.tree.Exp.{Exp}
 use Rattle.ntx_parse.specs.declared.part.Part.{Part}
 use Rattle.ntx_parse.specs.declared.part.Part.TheVariants as part
 use Rattle.ntx_parse.specs.declared.place.Place.{Place}
-use Rattle.ntx_parse.specs.declared.terminal.Terminal.{Terminal}
-use Rattle.ntx_parse.specs.declared.terminal.Terminal.TheVariants as terminal
+use Rattle.ntx_syntax.specs.declared.terminal.Terminal.{Terminal}
+use Rattle.ntx_syntax.specs.declared.terminal.Terminal.TheVariants as terminal
 use Rattle.ntx_parse.specs.Words.{Word}
 use Rattle.ntx_parse.specs.Grammar.{Placed, Is, within}
 use Rattle.ntx_parse.specs.Reading.{Answer, read, begins, Readers, readers, read_arguments, var_of, joined, assignment_to, statement_of, read_expression_statement, kind_at, values_behind}
-use Rattle.ntx_parse.proofs.TerminalLemmas.{same_terminal}
+use Rattle.ntx_parse.proofs.TerminalLemmas.{equal_terminals}
 use Rattle.ntx_parse.proofs.BeginsLemmas.{plain, AllFine, is_this, Starts, begins_here, comes_taken, comes_expected}
 use Rattle.ntx_parse.proofs.ComesLemmas.{Bar, Fine, Comes, comes_then, comes_now, comes_if, comes_else, comes_read}
 use Rattle.ntx_parse.proofs.FollowLemmas.{begins_prefix}
@@ -40,7 +40,7 @@ pub kind_of_first : {bar : Bar} {x : Answer StatKind} (p : Place) (u : Terminal)
     → Comes bar (plain words) (λ n. kind_at (readers n) p u (plain words)) x
     → Comes bar (plain words) (λ n. kind_first (readers n) p (plain words)) x
 kind_of_first p u [] h c = elim h [ ]
-kind_of_first {bar} {x} p u (o ∷ words) h c = subst (λ t. Comes bar (plain (o ∷ words)) (λ n. kind_at (readers n) p t (plain (o ∷ words))) x) (sym (same_terminal o.word.is u h)) c
+kind_of_first {bar} {x} p u (o ∷ words) h c = subst (λ t. Comes bar (plain (o ∷ words)) (λ n. kind_at (readers n) p t (plain (o ∷ words))) x) (sym (equal_terminals o.word.is u h)) c
 
 expression_at : {bar : Bar} {x : Answer StatKind} (p : Place) (words : List Word) (t : Terminal) → begins_prefix t ≡ true
     → Comes bar words (λ n. read_expression_statement (readers n) p words) x → Comes bar words (λ n. kind_at (readers n) p t words) x

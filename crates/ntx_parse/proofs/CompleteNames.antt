@@ -3,12 +3,13 @@ use Rattle.std.specs.Prelude.{◌≡◌, ℕ, Bool, true, false, List, [], ◌�
 use Rattle.std.proofs.Common.{refl}
 use Rattle.std.specs.Prelude.{nat_eq}
 use Rattle.ntx_syntax.specs.declared.tree.LocalName.{LocalName}
+use Rattle.ntx_syntax.specs.Terminals.{same_terminal}
 use Rattle.ntx_parse.specs.declared.place.Place.{Place}
-use Rattle.ntx_parse.specs.declared.terminal.Terminal.{Terminal}
-use Rattle.ntx_parse.specs.declared.terminal.Terminal.TheVariants as terminal
+use Rattle.ntx_syntax.specs.declared.terminal.Terminal.{Terminal}
+use Rattle.ntx_syntax.specs.declared.terminal.Terminal.TheVariants as terminal
 use Rattle.ntx_parse.specs.Words.{Word}
 use Rattle.ntx_parse.specs.Grammar.{Placed, Is, IsSemicolon, no_semicolon, semicolon, IsPath, no_path, more_path, IsNames, one_name, more_names, IsParameters, no_parameters, parameters, local_name}
-use Rattle.ntx_parse.specs.Reading.{read, number, begins, readers, read_name, read_local_name, read_names, read_parameters, semicolon_behind}
+use Rattle.ntx_parse.specs.Reading.{read, begins, readers, read_name, read_local_name, read_names, read_parameters, semicolon_behind}
 use Rattle.ntx_parse.proofs.BeginsLemmas.{plain, AllFine, begins_here, is_other, comes_taken, comes_expected}
 use Rattle.ntx_parse.proofs.ComesLemmas.{Bar, Fine, Comes, comes_as, comes_then, comes_now, comes_if, comes_else, comes_read, over_names, over_path}
 use Rattle.ntx_parse.proofs.CompleteForms.{Done, ListDone, NamesDone, all_before, one_more}
@@ -58,14 +59,14 @@ names_done (more_names {n = n} {c = c} {names = names} {words = words} {rest = r
 
 -- Behind the first of some names stands a comma, or what stands behind them all.
 pub behind_first : (bar : Bar) {p : Place} {names : List LocalName} {words rest : List Placed} (u : Terminal) (d : IsNames p names words rest) (fine : AllFine bar words)
-    (h : begins terminal.Comma (plain rest) ≡ false) → nat_eq (number terminal.Comma) (number u) ≡ false → begins u (plain rest) ≡ false
+    (h : begins terminal.Comma (plain rest) ≡ false) → same_terminal terminal.Comma u ≡ false → begins u (plain rest) ≡ false
     → begins u (names_done d fine h).behind ≡ false
 unfolding names_done
 behind_first bar u (one_name is_name) fine h other e = e
 behind_first bar u (more_names is_name is_comma more) fine h other e = is_other u is_comma other
 
 pub names_start : {p : Place} {names : List LocalName} {words rest : List Placed} (u : Terminal) → IsNames p names words rest
-    → nat_eq (number terminal.Name) (number u) ≡ false
+    → same_terminal terminal.Name u ≡ false
     → begins u (plain words) ≡ false
 names_start u (one_name is_name) e = is_other u is_name e
 names_start u (more_names is_name is_comma more) e = is_other u is_name e

@@ -15,8 +15,8 @@ use Rattle.ntx_syntax.specs.declared.tree.Field.{Field}
 use Rattle.ntx_parse.specs.declared.place.Place.{Place}
 use Rattle.ntx_parse.specs.declared.precedence.Precedence.{Precedence}
 use Rattle.ntx_parse.specs.declared.precedence.Precedence.TheVariants as precedence
-use Rattle.ntx_parse.specs.declared.terminal.Terminal.{Terminal}
-use Rattle.ntx_parse.specs.declared.terminal.Terminal.TheVariants as terminal
+use Rattle.ntx_syntax.specs.declared.terminal.Terminal.{Terminal}
+use Rattle.ntx_syntax.specs.declared.terminal.Terminal.TheVariants as terminal
 use Rattle.ntx_parse.specs.Grammar.{Placed, Is, tighter, IsBlock, block, IsStats, no_stats, more_stats, IsLast, no_return, last_return, IsReturned, returns_nothing, returns, IsStat, statement, IsKind, empty, assignment, called, break, do_end, while_do, repeat_until, if_then, numeric_for, generic_for, function, local_function, locals, IsArm, arm, IsArms, no_arms, more_arms, IsElse, no_else, else, IsStep, no_step, step, IsValues, no_values, values, IsExps, one_exp, more_exps, IsVars, one_var, more_vars, IsBody, body, IsVar, name_var, index_var, field_var, IsPrefix, name_prefix, index_prefix, field_prefix, call_prefix, parenthesized, IsIndex, index, call, IsArguments, no_arguments, arguments, IsExp, operations, concatenation, no_concatenation, operator, simple, IsRun, first_operand, more_operands, IsSimple, nil, false_, true_, numeral, text, function_exp, prefix_exp, table, IsFields, no_fields, last_field, more_fields, IsField, keyed, named_field, positional}
 use Rattle.ntx_parse.specs.Reading.{begins, readers, read_index, read_arguments, ends_return}
 use Rattle.ntx_parse.proofs.BeginsLemmas.{plain, AllFine, is_this, Follows, Starts, follows_also, starts_follows, passes, is_other, not_begins, not_before}

@@ -10,8 +10,8 @@ use Rattle.ntx_syntax.specs.declared.tree.LocalName.{LocalName}
 use Rattle.ntx_syntax.specs.declared.tree.Exp.{Exp}
 use Rattle.ntx_parse.specs.declared.place.Place.{Place}
 use Rattle.ntx_parse.specs.declared.precedence.Precedence.TheVariants as precedence
-use Rattle.ntx_parse.specs.declared.terminal.Terminal.{Terminal}
-use Rattle.ntx_parse.specs.declared.terminal.Terminal.TheVariants as terminal
+use Rattle.ntx_syntax.specs.declared.terminal.Terminal.{Terminal}
+use Rattle.ntx_syntax.specs.declared.terminal.Terminal.TheVariants as terminal
 use Rattle.ntx_parse.specs.Words.{Word}
 use Rattle.ntx_parse.specs.Grammar.{Placed, Is, IsFine, within, within_loop, local_name}
 use Rattle.ntx_parse.specs.Reading.{read, stopped, begins, readers, read_body, read_break, block_to_end, loop_body, read_arm, else_behind, step_behind}

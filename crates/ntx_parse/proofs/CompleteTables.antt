@@ -8,12 +8,13 @@ use Rattle.ntx_syntax.specs.declared.tree.LocalName.{LocalName}
 use Rattle.ntx_syntax.specs.declared.tree.Exp.{Exp}
 use Rattle.ntx_syntax.specs.declared.tree.Field.{Field}
 use Rattle.ntx_syntax.specs.declared.tree.Field.TheVariants as field
+use Rattle.ntx_syntax.specs.Terminals.{same_terminal}
 use Rattle.ntx_parse.specs.declared.place.Place.{Place}
 use Rattle.ntx_parse.specs.declared.precedence.Precedence.TheVariants as precedence
-use Rattle.ntx_parse.specs.declared.terminal.Terminal.TheVariants as terminal
+use Rattle.ntx_syntax.specs.declared.terminal.Terminal.TheVariants as terminal
 use Rattle.ntx_parse.specs.Words.{Word}
 use Rattle.ntx_parse.specs.Grammar.{Placed, Is, within, within_function, IsParameters, IsSeparator, comma, semicolon_separator}
-use Rattle.ntx_parse.specs.Reading.{read, number, begins, taken, readers, read_body, read_index, read_field, names_a_field}
+use Rattle.ntx_parse.specs.Reading.{read, begins, taken, readers, read_body, read_index, read_field, names_a_field}
 use Rattle.ntx_parse.proofs.BeginsLemmas.{plain, AllFine, is_this, Starts, starts_begin, starts_follows, begins_here, comes_word, is_other, not_begins, passes, comes_expected}
 use Rattle.ntx_parse.proofs.ComesLemmas.{Bar, Fine, Comes, comes_as, comes_then, comes_now, comes_if, comes_else, comes_read, over_fields}
 use Rattle.ntx_parse.proofs.FollowLemmas.{begins_exp, begins_field, ends_field}
@@ -94,7 +95,7 @@ last_field_done words rest start d ends =
     }
 
 separates : {p : Place} {s : Placed} → IsSeparator p s
-    → (nat_eq (number s.word.is) (number terminal.Comma) || nat_eq (number s.word.is) (number terminal.Semicolon)) ≡ true
+    → (same_terminal s.word.is terminal.Comma || same_terminal s.word.is terminal.Semicolon) ≡ true
 separates (comma i) = or_left _ _ (begins_here i)
 separates (semicolon_separator i) = or_right _ _ (begins_here i)
 

@@ -5,16 +5,17 @@
 --     deep_readers         all readings
 use Rattle.std.proofs.Common.{◌≡◌, ℕ, zero, suc, Bool, true, false, nat_eq, nat_le, cond, List, ◌∷◌, None, sym, ap, subst}
 use Rattle.ntx_syntax.specs.declared.fault.SyntaxWhy.TheVariants as why
+use Rattle.ntx_syntax.specs.Terminals.{same_terminal}
 use Rattle.ntx_parse.specs.declared.part.Part.{Part}
 use Rattle.ntx_parse.specs.declared.part.Part.TheVariants as part
 use Rattle.ntx_parse.specs.declared.place.Place.{Place}
 use Rattle.ntx_parse.specs.declared.precedence.Precedence.{Precedence}
 use Rattle.ntx_parse.specs.declared.precedence.Precedence.TheVariants as precedence
-use Rattle.ntx_parse.specs.declared.terminal.Terminal.TheVariants as terminal
+use Rattle.ntx_syntax.specs.declared.terminal.Terminal.TheVariants as terminal
 use Rattle.ntx_parse.specs.Words.{Word}
 use Rattle.ntx_parse.specs.Grammar.{within, tighter, max_nesting}
-use Rattle.ntx_parse.specs.Reading.{Answer, Readers, nothing, over, readers, read, stopped, and_then, number, read_name, read_parenthesized, read_prefix, unary_of, simple_at, read_operand, read_run, exp_at}
-use Rattle.ntx_parse.proofs.TerminalLemmas.{same_terminal}
+use Rattle.ntx_parse.specs.Reading.{Answer, Readers, nothing, over, readers, read, stopped, and_then, read_name, read_parenthesized, read_prefix, unary_of, simple_at, read_operand, read_run, exp_at}
+use Rattle.ntx_parse.proofs.TerminalLemmas.{equal_terminals}
 
 pub data StopsDeep (words : List Word) {A : Type 0} : Answer A → Type 0 where
   tells_nothing : StopsDeep words None
@@ -25,7 +26,7 @@ deep_then next tells_nothing = tells_nothing
 deep_then next too_deep = too_deep
 
 pub record AreDeep (r : Readers) : Type 0 where
-  pub exp : (p : Place) (at : Precedence) (o : Word) (words : List Word) → nat_eq (number o.is) (number terminal.Name) ≡ true
+  pub exp : (p : Place) (at : Precedence) (o : Word) (words : List Word) → same_terminal o.is terminal.Name ≡ true
       → nat_le p.nesting max_nesting ≡ false → StopsDeep (o ∷ words) (r.exp p at (o ∷ words))
 
 -- this word, if it is a name and does not lie too deep
@@ -38,7 +39,7 @@ prefix_if r p opens words =
     cond opens (and_then (read_parenthesized r (within p) words) (λ e rest. r.suffixes p (part.Parenthesized e) rest))
     (and_then (read_name p words) (λ name rest. r.suffixes p (part.Name name) rest))
 
-module _ (p : Place) (o : Word) (words : List Word) (e : nat_eq (number o.is) (number terminal.Name) ≡ true) (deep : nat_le p.nesting max_nesting ≡ false) where
+module _ (p : Place) (o : Word) (words : List Word) (e : same_terminal o.is terminal.Name ≡ true) (deep : nat_le p.nesting max_nesting ≡ false) where
   deep_if : {B : Type 0} (fits named : Bool) (next : Word → List Word → Answer B) → named ≡ true → fits ≡ false
       → StopsDeep (o ∷ words) (and_then (name_if named fits o words) next)
   deep_if false true next e deep = too_deep
@@ -46,16 +47,16 @@ module _ (p : Place) (o : Word) (words : List Word) (e : nat_eq (number o.is) (n
   deep_if fits false next e deep = absurd cc
 
   pub deep_name : StopsDeep (o ∷ words) (read_name p (o ∷ words))
-  deep_name = deep_if (nat_le p.nesting max_nesting) (nat_eq (number o.is) (number terminal.Name)) (λ o rest. read o.spelled rest) e deep
+  deep_name = deep_if (nat_le p.nesting max_nesting) (same_terminal o.is terminal.Name) (λ o rest. read o.spelled rest) e deep
 
   module _ (r : Readers) (d : AreDeep r) where
     is_name : o.is ≡ terminal.Name
-    is_name = same_terminal o.is terminal.Name e
+    is_name = equal_terminals o.is terminal.Name e
 
     deep_prefix : StopsDeep (o ∷ words) (read_prefix r p (o ∷ words))
     deep_prefix =
         subst (λ opens. StopsDeep (o ∷ words) (prefix_if r p opens (o ∷ words)))
-        (sym (ap (λ t. nat_eq (number t) (number terminal.LeftParenthesis)) is_name)) (deep_then (λ name rest. r.suffixes p (part.Name name) rest) deep_name)
+        (sym (ap (λ t. same_terminal t terminal.LeftParenthesis) is_name)) (deep_then (λ name rest. r.suffixes p (part.Name name) rest) deep_name)
 
     deep_simple : StopsDeep (o ∷ words) (simple_at r p o.is (o ∷ words))
     deep_simple = subst (λ t. StopsDeep (o ∷ words) (simple_at r p t (o ∷ words))) (sym is_name) (deep_then _ deep_prefix)

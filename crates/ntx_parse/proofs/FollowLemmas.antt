@@ -4,12 +4,14 @@ use Rattle.std.proofs.Common.{refl}
 use Rattle.ntx_syntax.specs.declared.tree.BinaryOp.{BinaryOp}
 use Rattle.ntx_syntax.specs.declared.tree.UnaryOp.{UnaryOp}
 use Rattle.ntx_syntax.specs.declared.tree.UnaryOp.TheVariants as unary
+use Rattle.ntx_syntax.specs.Terminals.{same_terminal}
 use Rattle.ntx_parse.specs.declared.precedence.Precedence.{Precedence}
 use Rattle.ntx_parse.specs.declared.precedence.Precedence.TheVariants as precedence
-use Rattle.ntx_parse.specs.declared.terminal.Terminal.{Terminal}
-use Rattle.ntx_parse.specs.declared.terminal.Terminal.TheVariants as terminal
+use Rattle.ntx_syntax.specs.declared.terminal.Terminal.{Terminal}
+use Rattle.ntx_syntax.specs.declared.terminal.Terminal.TheVariants as terminal
 use Rattle.ntx_parse.specs.Grammar.{binary_precedence, unary_terminal}
-use Rattle.ntx_parse.specs.Reading.{number, begins_statement, binary_of, rank, ends_return}
+use Rattle.ntx_parse.specs.Reading.{begins_statement, binary_of, ends_return}
+use Rattle.ntx_parse.proofs.Ranks.{rank}
 use Rattle.ntx_parse.proofs.BeginsLemmas.{is_this, implies}
 
 -- ---- what ends phrases
@@ -167,7 +169,7 @@ pub unary_begins_exp : (op : UnaryOp) → begins_exp (unary_terminal op) ≡ tru
 unary_begins_exp unary.Not = refl
 unary_begins_exp _ = refl
 
-pub bracket_begins_field : (t : Terminal) → implies (nat_eq (number t) (number terminal.LeftBracket)) (begins_field t) ≡ true
+pub bracket_begins_field : (t : Terminal) → implies (same_terminal t terminal.LeftBracket) (begins_field t) ≡ true
 bracket_begins_field terminal.Name = refl
 bracket_begins_field _ = refl
 

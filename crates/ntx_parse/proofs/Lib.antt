@@ -19,6 +19,7 @@ pub mod More
 pub mod NamedLemmas
 pub mod OneFault
 pub mod OperatorLemmas
+pub mod Ranks
 pub mod ReadsLemmas
 pub mod Refused
 pub mod ScriptLemmas

@@ -9,25 +9,26 @@ use Rattle.ntx_syntax.specs.declared.tree.UnaryOp.TheVariants as unary
 use Rattle.ntx_syntax.specs.declared.tree.Prefix.{Prefix}
 use Rattle.ntx_syntax.specs.declared.tree.Exp.{Exp}
 use Rattle.ntx_syntax.specs.declared.tree.Operation.{Operation}
+use Rattle.ntx_syntax.specs.Terminals.{same_terminal}
 use Rattle.ntx_parse.specs.declared.place.Place.{Place}
 use Rattle.ntx_parse.specs.declared.precedence.Precedence.{Precedence}
-use Rattle.ntx_parse.specs.declared.terminal.Terminal.{Terminal}
-use Rattle.ntx_parse.specs.declared.terminal.Terminal.TheVariants as terminal
+use Rattle.ntx_syntax.specs.declared.terminal.Terminal.{Terminal}
+use Rattle.ntx_syntax.specs.declared.terminal.Terminal.TheVariants as terminal
 use Rattle.ntx_parse.specs.Grammar.{Placed, Is, binary_terminal, unary_terminal, IsPrefix, name_prefix, index_prefix, field_prefix, call_prefix, parenthesized, IsExp, operations, concatenation, no_concatenation, operator, simple, IsRun, first_operand, more_operands, IsSimple, nil, false_, true_, numeral, text, function_exp, prefix_exp, table}
-use Rattle.ntx_parse.specs.Reading.{number, begins, names_a_field}
+use Rattle.ntx_parse.specs.Reading.{begins, names_a_field}
 use Rattle.ntx_parse.proofs.BeginsLemmas.{plain, is_this, is_other, not_begins, starts_follows}
 use Rattle.ntx_parse.proofs.StartLemmas.{index_starts, arguments_start}
 
 -- What begins with another word names no field.
-begins_other : {p : Place} {t : Terminal} {o : Placed} (words : List Placed) → Is p t o → nat_eq (number t) (number terminal.Name) ≡ false
+begins_other : {p : Place} {t : Terminal} {o : Placed} (words : List Placed) → Is p t o → same_terminal t terminal.Name ≡ false
     → names_a_field (plain (o ∷ words)) ≡ false
 begins_other words i e = and_left _ _ (is_other terminal.Name i e)
 
-binary_no_equals : (op : BinaryOp) → nat_eq (number (binary_terminal op)) (number terminal.Assign) ≡ false
+binary_no_equals : (op : BinaryOp) → same_terminal (binary_terminal op) terminal.Assign ≡ false
 binary_no_equals binary.Or = refl
 binary_no_equals _ = refl
 
-unary_no_name : (op : UnaryOp) → nat_eq (number (unary_terminal op)) (number terminal.Name) ≡ false
+unary_no_name : (op : UnaryOp) → same_terminal (unary_terminal op) terminal.Name ≡ false
 unary_no_name unary.Not = refl
 unary_no_name _ = refl
 

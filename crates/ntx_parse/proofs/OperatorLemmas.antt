@@ -1,5 +1,6 @@
 -- Operators in front of words.
 use Rattle.std.specs.Prelude.{◌≡◌, ◌≤◌, ◌<◌, ℕ, nat_eq, nat_lt, Bool, true, false, not, List, [], ◌∷◌, Option, None, Some}
+use denote.Enum.Bare.{true_same, false_same}
 use Rattle.std.proofs.Common.{refl, sym, ap, ◌∙◌, arith, true≢false, lt-ltb, ltb-true, ltb-false, eq-eqb, eqb-true}
 use Rattle.std.proofs.lemmas.Bool.{and_from, and_parts, cond-false, cond-true}
 use Rattle.ntx_syntax.specs.declared.tree.BinaryOp.{BinaryOp}
@@ -9,11 +10,13 @@ use Rattle.ntx_syntax.specs.declared.tree.UnaryOp.TheVariants as unary
 use Rattle.ntx_parse.specs.declared.precedence.Precedence.{Precedence}
 use Rattle.ntx_parse.specs.declared.precedence.Precedence.TheVariants as precedence
 use Rattle.ntx_parse.specs.declared.place.Place.{Place}
-use Rattle.ntx_parse.specs.declared.terminal.Terminal.{Terminal}
-use Rattle.ntx_parse.specs.declared.terminal.Terminal.TheVariants as terminal
+use Rattle.ntx_syntax.specs.declared.terminal.Terminal.{Terminal}
+use Rattle.ntx_syntax.specs.declared.terminal.Terminal.TheVariants as terminal
 use Rattle.ntx_parse.specs.Words.{Word}
 use Rattle.ntx_parse.specs.Grammar.{Placed, Is, binary_precedence, binary_terminal, unary_terminal, tighter}
-use Rattle.ntx_parse.specs.Reading.{binary_of, unary_of, rank, of_precedence, operator_at, sign_at}
+use Rattle.ntx_parse.specs.contracts.precedence.Precedence.{the_type}
+use Rattle.ntx_parse.specs.Reading.{binary_of, unary_of, of_precedence, operator_at, sign_at, same_precedence}
+use Rattle.ntx_parse.proofs.Ranks.{rank}
 use Rattle.ntx_parse.proofs.FollowLemmas.{ends_exp, binds_less, goes_on, begins_simple}
 use Rattle.ntx_parse.proofs.BeginsLemmas.{plain, Follows, Starts}
 
@@ -58,15 +61,13 @@ ends_tighter at (o ∷ words) h = and_from (not (goes_on o.word.is)) (binds_less
     (and_parts (not (goes_on o.word.is)) (binds_less at (binary_of o.word.is)) h).0
     (binds_less-tighter at (binary_of o.word.is) (and_parts (not (goes_on o.word.is)) (binds_less at (binary_of o.word.is)) h).1)
 
-different : (a b : ℕ) (t : Bool) → nat_eq a b ≡ t → a < b → t ≡ false
-different a b true e h = let same : a ≡ b = eqb-true a b e in absurd (omega arith)
-different a b false e h = refl
+other_precedence : (a b : Precedence) → rank a < rank b → same_precedence a b ≡ false
+other_precedence a b h = false_same the_type tt a b (λ e. let same = ap rank e in absurd (omega arith))
 
 not_of_precedence : (at : Precedence) (o : Option BinaryOp) → binds_less at o ≡ true → of_precedence at o ≡ None
 not_of_precedence at None h = refl
-not_of_precedence at (Some op) h = cond-false (nat_eq (rank (binary_precedence op)) (rank at)) (Some op) None
-    (different (rank (binary_precedence op)) (rank at) (nat_eq (rank (binary_precedence op)) (rank at)) refl
-    (ltb-true (rank (binary_precedence op)) (rank at) h))
+not_of_precedence at (Some op) h = cond-false (same_precedence (binary_precedence op) at) (Some op) None
+    (other_precedence (binary_precedence op) at (ltb-true (rank (binary_precedence op)) (rank at) h))
 
 -- Behind an expression stands no operator of its precedence.
 pub no_operator_at : (at : Precedence) (words : List Placed) → Follows (ends_exp at) words → operator_at at (plain words) ≡ None
@@ -78,7 +79,7 @@ pub operator_at_here : {p : Place} {o : Placed} (at : Precedence) (op : BinaryOp
     → Is p (binary_terminal op) o → binary_precedence op ≡ at → operator_at at (o.word ∷ words) ≡ Some op
 operator_at_here {p} {o} at op words i e =
     ap (of_precedence at) (ap binary_of i.is ∙ operator_of op)
-    ∙ cond-true (nat_eq (rank (binary_precedence op)) (rank at)) (Some op) None (eq-eqb (rank (binary_precedence op)) (rank at) (ap rank e))
+    ∙ cond-true (same_precedence (binary_precedence op) at) (Some op) None (true_same the_type (binary_precedence op) at e)
 
 pub operator_follows : {p : Place} {o : Placed} (at : Precedence) (op : BinaryOp) → Is p (binary_terminal op) o → binary_precedence op ≡ at
     → ends_exp (tighter at) o.word.is ≡ true

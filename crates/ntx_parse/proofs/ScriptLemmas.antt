@@ -15,8 +15,8 @@ use Rattle.ntx_syntax.specs.Lexes.{line_ends}
 use Rattle.ntx_parse.specs.Faults.{IfRefused, IsRefused, line_at}
 use Rattle.ntx_syntax.specs.Values.{numeral_value, text_value}
 use Rattle.ntx_parse.specs.declared.place.Place.{Place}
-use Rattle.ntx_parse.specs.declared.terminal.Terminal.{Terminal}
-use Rattle.ntx_parse.specs.declared.terminal.Terminal.TheVariants as terminal
+use Rattle.ntx_syntax.specs.declared.terminal.Terminal.{Terminal}
+use Rattle.ntx_syntax.specs.declared.terminal.Terminal.TheVariants as terminal
 use Rattle.ntx_parse.specs.Grammar.{Accepts, outermost}
 use Rattle.ntx_parse.specs.Input.{Input, line_of, value_test, has_value, HaveValues}
 use Rattle.ntx_parse.specs.Reading.{Answer, stopped, ended, readers, script_by}

@@ -4,12 +4,13 @@ use Rattle.std.proofs.lemmas.Bool.{false≢true}
 use Rattle.std.specs.List.{AllByRecursion}
 use Rattle.ntx_syntax.specs.declared.fault.SyntaxWhy.{SyntaxWhy}
 use Rattle.ntx_syntax.specs.declared.fault.SyntaxWhy.TheVariants as why
+use Rattle.ntx_syntax.specs.Terminals.{same_terminal}
 use Rattle.ntx_parse.specs.declared.place.Place.{Place}
-use Rattle.ntx_parse.specs.declared.terminal.Terminal.{Terminal}
-use Rattle.ntx_parse.specs.declared.terminal.Terminal.TheVariants as terminal
+use Rattle.ntx_syntax.specs.declared.terminal.Terminal.{Terminal}
+use Rattle.ntx_syntax.specs.declared.terminal.Terminal.TheVariants as terminal
 use Rattle.ntx_parse.specs.Words.{Word}
 use Rattle.ntx_parse.specs.Grammar.{Placed, Is, IsFine, max_nesting}
-use Rattle.ntx_parse.specs.Reading.{Answer, Stop, read, stopped, and_then, number, begins, taken, expected}
+use Rattle.ntx_parse.specs.Reading.{Answer, Stop, read, stopped, and_then, begins, taken, expected}
 use Rattle.ntx_parse.proofs.BeginsLemmas.{plain}
 use Rattle.ntx_parse.proofs.TerminalLemmas.{other_terminal, begins-is}
 
@@ -123,7 +124,7 @@ pub data IsTaken : Place → Terminal → Word → List Placed → List Placed �
 
 -- It is no `break`.
 abbrev pub IsOther : Terminal → Type 0
-IsOther t = nat_eq (number t) (number terminal.Break) ≡ false
+IsOther t = same_terminal t terminal.Break ≡ false
 
 taken_if : (p : Place) (t : Terminal) (o : Word) (words : List Word) (fits : Bool) → nat_le p.nesting max_nesting ≡ fits → (t ≡ terminal.Break → p.in_loop ≡ true) → o.is ≡ t → IsSound (IsTaken p t) (o ∷ words) (cond fits (read o words) (stopped why.Depth (o ∷ words)))
 taken_if p t o words false fits looped is = sound_stopped

@@ -13,7 +13,7 @@ use Rattle.ntx_parse.specs.declared.part.Part.TheVariants as part
 use Rattle.ntx_parse.specs.declared.place.Place.{Place}
 use Rattle.ntx_parse.specs.declared.precedence.Precedence.{Precedence}
 use Rattle.ntx_parse.specs.declared.precedence.Precedence.TheVariants as precedence
-use Rattle.ntx_parse.specs.declared.terminal.Terminal.TheVariants as terminal
+use Rattle.ntx_syntax.specs.declared.terminal.Terminal.TheVariants as terminal
 use Rattle.ntx_parse.specs.Words.{Word}
 use Rattle.ntx_parse.specs.Grammar.{Placed, Is, within, NotBefore, local_name, IsPath, IsNames, IsBlock, IsStats, IsArms, IsExp, IsExps, IsVar, IsVars, IsIndex, IsArguments, IsPrefix, IsRun, IsFields, one_name, more_names, one_exp, more_exps, one_var, more_vars}
 use Rattle.ntx_parse.specs.Reading.{Readers}

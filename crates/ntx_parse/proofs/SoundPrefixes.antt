@@ -5,8 +5,8 @@ use Rattle.ntx_parse.specs.declared.part.Part.{Part}
 use Rattle.ntx_parse.specs.declared.part.Part.TheVariants as part
 use Rattle.ntx_parse.specs.declared.place.Place.{Place}
 use Rattle.ntx_parse.specs.declared.precedence.Precedence.TheVariants as precedence
-use Rattle.ntx_parse.specs.declared.terminal.Terminal.{Terminal}
-use Rattle.ntx_parse.specs.declared.terminal.Terminal.TheVariants as terminal
+use Rattle.ntx_syntax.specs.declared.terminal.Terminal.{Terminal}
+use Rattle.ntx_syntax.specs.declared.terminal.Terminal.TheVariants as terminal
 use Rattle.ntx_parse.specs.Words.{Word}
 use Rattle.ntx_parse.specs.Grammar as grammar
 use Rattle.ntx_parse.specs.Grammar.{Placed, Is, within, within_function, NotBefore, IsNames, IsParameters, no_parameters, IsBlock, IsBody, IsExp, IsExps, IsIndex, index, IsArguments, no_arguments, IsPrefix, name_prefix, index_prefix, field_prefix, call_prefix, IsField, keyed, named_field, positional, IsFields, no_fields, last_field, more_fields, IsSeparator}

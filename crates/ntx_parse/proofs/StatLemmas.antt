@@ -5,8 +5,8 @@ use Rattle.ntx_parse.specs.declared.part.Part.{Part}
 use Rattle.ntx_parse.specs.declared.part.Tail.{Tail}
 use Rattle.ntx_parse.specs.declared.part.Tail.TheVariants as tail
 use Rattle.ntx_parse.specs.declared.place.Place.{Place}
-use Rattle.ntx_parse.specs.declared.terminal.Terminal.{Terminal}
-use Rattle.ntx_parse.specs.declared.terminal.Terminal.TheVariants as terminal
+use Rattle.ntx_syntax.specs.declared.terminal.Terminal.{Terminal}
+use Rattle.ntx_syntax.specs.declared.terminal.Terminal.TheVariants as terminal
 use Rattle.ntx_syntax.specs.declared.fault.SyntaxWhy.TheVariants as why
 use Rattle.ntx_parse.specs.Words.{Word}
 use Rattle.ntx_parse.specs.Grammar.{within}

@@ -2,7 +2,7 @@
 use Rattle.std.proofs.Common.{List, [], ◌∷◌, ◌++◌, refl}
 use Rattle.ntx_syntax.specs.declared.tree.Stat.{Stat}
 use Rattle.ntx_parse.specs.declared.place.Place.{Place}
-use Rattle.ntx_parse.specs.declared.terminal.Terminal.TheVariants as terminal
+use Rattle.ntx_syntax.specs.declared.terminal.Terminal.TheVariants as terminal
 use Rattle.ntx_parse.specs.Words.{Word}
 use Rattle.ntx_parse.specs.Grammar as grammar
 use Rattle.ntx_parse.specs.Grammar.{IsSemicolon, no_semicolon, IsBlock, IsStats, no_stats, IsLast, no_return, IsReturned, returns_nothing}

@@ -8,8 +8,8 @@ use Rattle.ntx_syntax.specs.declared.tree.Var.{Var}
 use Rattle.ntx_syntax.specs.declared.tree.Call.{Call}
 use Rattle.ntx_syntax.specs.declared.fault.SyntaxWhy.{SyntaxWhy}
 use Rattle.ntx_parse.specs.declared.place.Place.{Place}
-use Rattle.ntx_parse.specs.declared.terminal.Terminal.{Terminal}
-use Rattle.ntx_parse.specs.declared.terminal.Terminal.TheVariants as terminal
+use Rattle.ntx_syntax.specs.declared.terminal.Terminal.{Terminal}
+use Rattle.ntx_syntax.specs.declared.terminal.Terminal.TheVariants as terminal
 use Rattle.ntx_parse.specs.Words.{Word}
 use Rattle.ntx_parse.specs.Grammar as grammar
 use Rattle.ntx_parse.specs.Grammar.{Placed, IsPrefix, IsVar, IsVars, IsCall, IsArm, IsKind, IsStat, statement}

@@ -4,8 +4,8 @@ use Rattle.ntx_syntax.specs.declared.tree.LocalName.{LocalName}
 use Rattle.ntx_syntax.specs.declared.fault.SyntaxWhy.TheVariants as why
 use Rattle.ntx_parse.specs.declared.place.Place.{Place}
 use Rattle.ntx_parse.specs.declared.precedence.Precedence.TheVariants as precedence
-use Rattle.ntx_parse.specs.declared.terminal.Terminal.{Terminal}
-use Rattle.ntx_parse.specs.declared.terminal.Terminal.TheVariants as terminal
+use Rattle.ntx_syntax.specs.declared.terminal.Terminal.{Terminal}
+use Rattle.ntx_syntax.specs.declared.terminal.Terminal.TheVariants as terminal
 use Rattle.ntx_parse.specs.Words.{Word}
 use Rattle.ntx_parse.specs.Grammar as grammar
 use Rattle.ntx_parse.specs.Grammar.{max_nesting, Placed, Is, within, within_loop, IsPath, IsNames, IsBlock, IsKind, IsArm, arm, IsArms, no_arms, more_arms, IsElse, no_else, IsStep, no_step, IsValues, IsExp, IsExps, IsBody}

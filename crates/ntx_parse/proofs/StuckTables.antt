@@ -3,7 +3,7 @@ use Rattle.std.proofs.Common.{◌≡◌, Bool, true, false, ◌||◌, cond, List
 use Rattle.ntx_syntax.specs.declared.tree.Field.{Field}
 use Rattle.ntx_parse.specs.declared.place.Place.{Place}
 use Rattle.ntx_parse.specs.declared.precedence.Precedence.TheVariants as precedence
-use Rattle.ntx_parse.specs.declared.terminal.Terminal.TheVariants as terminal
+use Rattle.ntx_syntax.specs.declared.terminal.Terminal.TheVariants as terminal
 use Rattle.ntx_parse.specs.Words.{Word}
 use Rattle.ntx_parse.specs.Grammar.{within, within_function, IsBody, IsField, positional, IsFields, no_fields}
 use Rattle.ntx_parse.specs.Reading.{Readers, Answer, begins, names_a_field, read_parameters, read_body, read_field, fields_behind, read_table}

@@ -2,13 +2,14 @@
 use Rattle.std.proofs.Common.{◌≡◌, Bool, true, false, List, [], ◌∷◌, ◌++◌, None, Some, Ok, Err, cond, nat_eq, nat_le, refl, sym, ◌∙◌, subst, leb-true, leb-false}
 use Rattle.std.proofs.lemmas.Bool.{false≢true, true≢false}
 use Rattle.ntx_syntax.specs.declared.fault.SyntaxWhy.TheVariants as why
+use Rattle.ntx_syntax.specs.Terminals.{same_terminal}
 use Rattle.ntx_parse.specs.declared.place.Place.{Place}
-use Rattle.ntx_parse.specs.declared.terminal.Terminal.{Terminal}
-use Rattle.ntx_parse.specs.declared.terminal.Terminal.TheVariants as terminal
+use Rattle.ntx_syntax.specs.declared.terminal.Terminal.{Terminal}
+use Rattle.ntx_syntax.specs.declared.terminal.Terminal.TheVariants as terminal
 use Rattle.ntx_parse.specs.Words.{Word}
 use Rattle.ntx_parse.specs.Grammar.{Placed, IsFine, max_nesting}
 use Rattle.ntx_parse.specs.Faults.{at_place}
-use Rattle.ntx_parse.specs.Reading.{Answer, Stop, read, stopped, and_then, number, begins, taken, expected}
+use Rattle.ntx_parse.specs.Reading.{Answer, Stop, read, stopped, and_then, begins, taken, expected}
 use Rattle.ntx_parse.proofs.TerminalLemmas.{other_terminal, begins-is}
 use Rattle.ntx_parse.proofs.BeginsLemmas.{plain}
 use Rattle.ntx_parse.proofs.SoundAnswers.{Phrase, Completes, IsTaken, word_taken, IsOther, read-injective, not_read}
@@ -132,7 +133,7 @@ module _ {A : Type 0} {D : Phrase A} where
 
 -- It opens no parenthesis.
 abbrev pub IsNoCall : Terminal → Type 0
-IsNoCall t = nat_eq (number t) (number terminal.LeftParenthesis) ≡ false
+IsNoCall t = same_terminal t terminal.LeftParenthesis ≡ false
 
 -- a word that is this
 abbrev pub some_word : Terminal → Word

@@ -12,8 +12,8 @@ use Rattle.ntx_parse.specs.Reading.{Answer, Stop, taken}
 use Rattle.std.specs.Prelude.{IsSome, is_some, Bool, Option, ◌&&◌, if◌then◌else◌}
 use Rattle.std.specs.List.{list_all}
 use Rattle.ntx_syntax.specs.Values.{numeral_value}
-use Rattle.ntx_parse.specs.declared.terminal.Terminal.{Terminal}
-use Rattle.ntx_parse.specs.declared.terminal.Terminal.TheVariants as terminal
+use Rattle.ntx_syntax.specs.declared.terminal.Terminal.{Terminal}
+use Rattle.ntx_syntax.specs.declared.terminal.Terminal.TheVariants as terminal
 use Rattle.ntx_parse.specs.Input.{Input, seen, line_of, next_of, has_value, value_test, HaveValues}
 use Rattle.ntx_parse.specs.Reads.{Reads, went}
 use Rattle.ntx_parse.proofs.ReadsLemmas.{at_once, stops_at_once}

@@ -2,7 +2,7 @@
 use Rattle.std.proofs.Common.{◌≡◌, List, [], ◌∷◌, ◌++◌, refl}
 use Rattle.ntx_syntax.specs.declared.tree.Stat.{Stat}
 use Rattle.ntx_parse.specs.declared.place.Place.{Place}
-use Rattle.ntx_parse.specs.declared.terminal.Terminal.TheVariants as terminal
+use Rattle.ntx_syntax.specs.declared.terminal.Terminal.TheVariants as terminal
 use Rattle.ntx_parse.specs.Words.{Word}
 use Rattle.ntx_parse.specs.Reading.{Readers, begins_statement, stats_behind, semicolon_behind, ends_returned, returned_behind, last_behind, block_at}
 use Rattle.ntx_parse.proofs.Views.{View, Situation, At, Goes, goes_read, goes_if, goes_then, goes_where, goes_taken, Firsts, no_first, first, firsts}

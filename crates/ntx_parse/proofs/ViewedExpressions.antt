@@ -9,8 +9,8 @@ use Rattle.ntx_syntax.specs.Values.{numeral_value, text_value}
 use Rattle.ntx_parse.specs.declared.place.Place.{Place}
 use Rattle.ntx_parse.specs.declared.precedence.Precedence.{Precedence}
 use Rattle.ntx_parse.specs.declared.precedence.Precedence.TheVariants as precedence
-use Rattle.ntx_parse.specs.declared.terminal.Terminal.{Terminal}
-use Rattle.ntx_parse.specs.declared.terminal.Terminal.TheVariants as terminal
+use Rattle.ntx_syntax.specs.declared.terminal.Terminal.{Terminal}
+use Rattle.ntx_syntax.specs.declared.terminal.Terminal.TheVariants as terminal
 use Rattle.ntx_parse.specs.Words.{Word}
 use Rattle.ntx_parse.specs.Grammar.{within, tighter}
 use Rattle.ntx_parse.specs.Reading.{Readers, read_value, simple_at, read_simple, read_operand, sign_at, concat_behind, operator_at, operations_by, operations_behind, read_run, exp_at}

@@ -7,14 +7,15 @@ use Rattle.ntx_syntax.specs.declared.tree.Operation.{Operation}
 use Rattle.ntx_syntax.specs.declared.tree.Field.{Field}
 use Rattle.ntx_syntax.specs.declared.tree.Stat.{Stat}
 use Rattle.ntx_syntax.specs.declared.tree.IfArm.{IfArm}
+use Rattle.ntx_syntax.specs.Terminals.{same_terminal}
 use Rattle.ntx_parse.specs.declared.part.Part.{Part}
 use Rattle.ntx_parse.specs.declared.place.Place.{Place}
 use Rattle.ntx_parse.specs.declared.precedence.Precedence.{Precedence}
 use Rattle.ntx_parse.specs.declared.precedence.Precedence.TheVariants as precedence
-use Rattle.ntx_parse.specs.declared.terminal.Terminal.TheVariants as terminal
+use Rattle.ntx_syntax.specs.declared.terminal.Terminal.TheVariants as terminal
 use Rattle.ntx_parse.specs.Words.{Word}
 use Rattle.ntx_parse.specs.Grammar.{max_nesting}
-use Rattle.ntx_parse.specs.Reading.{Readers, number, read_name, read_local_name, path_behind, names_behind, read_names, exps_behind, read_exps}
+use Rattle.ntx_parse.specs.Reading.{Readers, read_name, read_local_name, path_behind, names_behind, read_names, exps_behind, read_exps}
 use Rattle.ntx_parse.proofs.DeepNames.{AreDeep}
 use Rattle.ntx_parse.proofs.Views.{View, Situation, lost, At, Goes, goes_read, goes_then, goes_where, goes_taken, goes_expected}
 
@@ -41,7 +42,7 @@ pub record Go (V : View) (r other : Readers) : Type 0 where
       → Goes V s (r.operations p at before words) (other.operations p at before others)
   pub fields : (p : Place) (before : List Field) {s : Situation} {words others : List Word} → At V s words others
       → Goes V s (r.fields p before words) (other.fields p before others)
-  pub named : (p : Place) (at : Precedence) (o : Word) (words : List Word) → nat_eq (number o.is) (number terminal.Name) ≡ true
+  pub named : (p : Place) (at : Precedence) (o : Word) (words : List Word) → same_terminal o.is terminal.Name ≡ true
       → nat_le p.nesting max_nesting ≡ true → V.Lost words → Goes V lost (r.exp p at (o ∷ words)) (other.exp p at (o ∷ words))
   pub deep : AreDeep r
   pub other_deep : AreDeep other

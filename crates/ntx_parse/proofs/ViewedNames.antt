@@ -1,14 +1,15 @@
 -- Two readings side by side: expressions that begin with a name which does not lie too deep, and behind which nothing is looked at.
 use Rattle.std.proofs.Common.{◌≡◌, true, nat_eq, nat_le, List, [], ◌∷◌, sym, ap, subst}
+use Rattle.ntx_syntax.specs.Terminals.{same_terminal}
 use Rattle.ntx_parse.specs.declared.part.Part.TheVariants as part
 use Rattle.ntx_parse.specs.declared.place.Place.{Place}
 use Rattle.ntx_parse.specs.declared.precedence.Precedence.{Precedence}
 use Rattle.ntx_parse.specs.declared.precedence.Precedence.TheVariants as precedence
-use Rattle.ntx_parse.specs.declared.terminal.Terminal.TheVariants as terminal
+use Rattle.ntx_syntax.specs.declared.terminal.Terminal.TheVariants as terminal
 use Rattle.ntx_parse.specs.Words.{Word}
 use Rattle.ntx_parse.specs.Grammar.{tighter, max_nesting}
-use Rattle.ntx_parse.specs.Reading.{Readers, number, read_prefix, unary_of, simple_at, read_operand, read_run, exp_at}
-use Rattle.ntx_parse.proofs.TerminalLemmas.{same_terminal}
+use Rattle.ntx_parse.specs.Reading.{Readers, read_prefix, unary_of, simple_at, read_operand, read_run, exp_at}
+use Rattle.ntx_parse.proofs.TerminalLemmas.{equal_terminals}
 use Rattle.ntx_parse.proofs.DeepNames.{prefix_if}
 use Rattle.ntx_parse.proofs.Views.{View, lost, Goes, goes_read, goes_then}
 use Rattle.ntx_parse.proofs.ViewedLists.{Go}
@@ -16,14 +17,14 @@ use Rattle.ntx_parse.proofs.ViewedTables.{lost_name}
 use Rattle.ntx_parse.proofs.ViewedExpressions.{goes_concat}
 
 module _ {V : View} {r other : Readers} (g : Go V r other) (p : Place) (o : Word) (words : List Word)
-    (e : nat_eq (number o.is) (number terminal.Name) ≡ true) (fits : nat_le p.nesting max_nesting ≡ true) (l : V.Lost words) where
+    (e : same_terminal o.is terminal.Name ≡ true) (fits : nat_le p.nesting max_nesting ≡ true) (l : V.Lost words) where
   is_name : o.is ≡ terminal.Name
-  is_name = same_terminal o.is terminal.Name e
+  is_name = equal_terminals o.is terminal.Name e
 
   lost_prefix : Goes V lost (read_prefix r p (o ∷ words)) (read_prefix other p (o ∷ words))
   lost_prefix =
       subst (λ opens. Goes V lost (prefix_if r p opens (o ∷ words)) (prefix_if other p opens (o ∷ words)))
-      (sym (ap (λ t. nat_eq (number t) (number terminal.LeftParenthesis)) is_name))
+      (sym (ap (λ t. same_terminal t terminal.LeftParenthesis) is_name))
       (goes_then (lost_name p o words l e fits) (λ name _ _ _ h. g.suffixes p (part.Name name) h))
 
   lost_simple : Goes V lost (simple_at r p o.is (o ∷ words)) (simple_at other p o.is (o ∷ words))

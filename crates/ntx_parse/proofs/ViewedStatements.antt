@@ -8,8 +8,8 @@ use Rattle.ntx_parse.specs.declared.part.Part.{Part}
 use Rattle.ntx_parse.specs.declared.part.Part.TheVariants as part
 use Rattle.ntx_parse.specs.declared.place.Place.{Place}
 use Rattle.ntx_parse.specs.declared.precedence.Precedence.TheVariants as precedence
-use Rattle.ntx_parse.specs.declared.terminal.Terminal.{Terminal}
-use Rattle.ntx_parse.specs.declared.terminal.Terminal.TheVariants as terminal
+use Rattle.ntx_syntax.specs.declared.terminal.Terminal.{Terminal}
+use Rattle.ntx_syntax.specs.declared.terminal.Terminal.TheVariants as terminal
 use Rattle.ntx_parse.specs.Words.{Word}
 use Rattle.ntx_parse.specs.Grammar.{within, within_loop}
 use Rattle.ntx_parse.specs.Reading.{Readers, values_behind, as_var, var_of, vars_behind, assignment_to, statement_of, read_expression_statement, read_break, block_to_end, read_do, loop_body, read_while, read_repeat, read_arm, arms_behind, else_behind, read_if, step_behind, numeric_for_behind, generic_for_behind, read_for, read_function, local_function_behind, locals_behind, read_local, kind_at}

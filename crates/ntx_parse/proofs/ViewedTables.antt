@@ -2,12 +2,13 @@
 use Rattle.std.proofs.Common.{◌≡◌, ℕ, Bool, true, false, ◌||◌, ◌&&◌, nat_eq, nat_le, cond, List, [], ◌∷◌, ◌++◌, refl, ap, ap₂}
 use Rattle.ntx_syntax.specs.declared.tree.Field.{Field}
 use Rattle.ntx_syntax.specs.declared.tree.Field.TheVariants as field
+use Rattle.ntx_syntax.specs.Terminals.{same_terminal}
 use Rattle.ntx_parse.specs.declared.place.Place.{Place}
 use Rattle.ntx_parse.specs.declared.precedence.Precedence.TheVariants as precedence
-use Rattle.ntx_parse.specs.declared.terminal.Terminal.TheVariants as terminal
+use Rattle.ntx_syntax.specs.declared.terminal.Terminal.TheVariants as terminal
 use Rattle.ntx_parse.specs.Words.{Word}
 use Rattle.ntx_parse.specs.Grammar.{within, max_nesting}
-use Rattle.ntx_parse.specs.Reading.{Readers, Answer, read, and_then, begins, number, expected, read_name, read_index, names_a_field, read_field, fields_behind, read_table}
+use Rattle.ntx_parse.specs.Reading.{Readers, Answer, read, and_then, begins, expected, read_name, read_index, names_a_field, read_field, fields_behind, read_table}
 use Rattle.ntx_parse.proofs.Views.{View, Situation, lost, alike, At, at_lost, at_alike, Goes, goes_lost, goes_nothing, goes_read, goes_stopped, goes_if, goes_then, goes_where, goes_taken, goes_expected, begins_same, Begin, both_end, then_lost, then_alike, too_few}
 use Rattle.ntx_parse.proofs.DeepNames.{StopsDeep, tells_nothing, too_deep, deep_then, AreDeep, name_if, deep_name}
 use Rattle.ntx_parse.proofs.ViewedLists.{Go, goes_name}
@@ -22,9 +23,9 @@ module _ {V : View} (p : Place) (o : Word) (words : List Word) (h : V.Lost words
   lost_if fits false next other e _ g = absurd cc
 
   -- A name in front of what is lost is taken, if it does not lie too deep.
-  pub lost_name : nat_eq (number o.is) (number terminal.Name) ≡ true → nat_le p.nesting max_nesting ≡ true
+  pub lost_name : same_terminal o.is terminal.Name ≡ true → nat_le p.nesting max_nesting ≡ true
       → Goes V lost (read_name p (o ∷ words)) (read_name p (o ∷ words))
-  lost_name e fits = lost_if (nat_le p.nesting max_nesting) (nat_eq (number o.is) (number terminal.Name)) _ _ e fits (λ rest l. goes_read (at_lost l))
+  lost_name e fits = lost_if (nat_le p.nesting max_nesting) (same_terminal o.is terminal.Name) _ _ e fits (λ rest l. goes_read (at_lost l))
 
 -- Both readings stop at a name that lies too deep, or tell nothing.
 goes_deep : {A : Type 0} {V : View} {words others : List Word} {a b : Answer A} → V.Alike words others → V.CanBeShort → StopsDeep words a → StopsDeep others b
@@ -57,7 +58,7 @@ abbrev named_or_positional : Readers → Place → Bool → List Word → Answer
 named_or_positional r p named words = cond named (named_by r p words) (positional_by r p words)
 
 -- A name that lies too deep is not taken, be it that of a field or the beginning of a value.
-deep_field : {r : Readers} → AreDeep r → (p : Place) (o : Word) (words : List Word) (test : Bool) → nat_eq (number o.is) (number terminal.Name) ≡ true
+deep_field : {r : Readers} → AreDeep r → (p : Place) (o : Word) (words : List Word) (test : Bool) → same_terminal o.is terminal.Name ≡ true
     → nat_le p.nesting max_nesting ≡ false → StopsDeep (o ∷ words) (named_or_positional r p test (o ∷ words))
 deep_field {r} d p o words true e deep = deep_then (λ name behind. value_of r p name behind) (deep_name p o words e deep)
 deep_field d p o words false e deep = deep_then (λ value rest. read (field.Positional value) rest) (d.exp p precedence.Or o words e deep)
@@ -83,20 +84,20 @@ module _ {V : View} {r other : Readers} (g : Go V r other) where
   goes_positional p h = goes_then (g.exp p precedence.Or h) (λ value _ _ _ h. goes_read h)
 
   -- Whether the name in front of what is lost is that of a field or begins a value, it is taken.
-  lost_field : (p : Place) (o : Word) (words : List Word) (test : Bool) {s : Situation} {c : Answer Field} → nat_eq (number o.is) (number terminal.Name) ≡ true
+  lost_field : (p : Place) (o : Word) (words : List Word) (test : Bool) {s : Situation} {c : Answer Field} → same_terminal o.is terminal.Name ≡ true
       → nat_le p.nesting max_nesting ≡ true → V.Lost words → Goes V s (named_or_positional r p test (o ∷ words)) c
   lost_field p o words true e fits l = goes_lost (goes_then (lost_name p o words l e fits) (λ name _ _ _ h. goes_value_of p name h))
   lost_field p o words false e fits l = goes_lost (goes_then (g.named p precedence.Or o words e fits l) (λ value _ _ _ h. goes_read h))
 
   -- What it is shows behind it, and is not the same in both readings. If it lies too deep they stop at it all the same.
   field_with_name : (p : Place) (o : Word) {words others : List Word} (fits : Bool) (one two : Bool) → nat_le p.nesting max_nesting ≡ fits
-      → nat_eq (number o.is) (number terminal.Name) ≡ true → V.Alike (o ∷ words) (o ∷ others) → V.Lost words
+      → same_terminal o.is terminal.Name ≡ true → V.Alike (o ∷ words) (o ∷ others) → V.Lost words
       → Goes V alike (named_or_positional r p one (o ∷ words)) (named_or_positional other p two (o ∷ others))
   field_with_name p o {words} true one two fits e same l = lost_field p o words one e fits l
   field_with_name p o {words} {others} false one two deep e same l =
       goes_deep same (V.short same l) (deep_field g.deep p o words one e deep) (deep_field g.other_deep p o others two e deep)
 
-  field_by_name : (p : Place) {o : Word} {words others : List Word} (is_name : Bool) → nat_eq (number o.is) (number terminal.Name) ≡ is_name
+  field_by_name : (p : Place) {o : Word} {words others : List Word} (is_name : Bool) → same_terminal o.is terminal.Name ≡ is_name
       → V.Alike (o ∷ words) (o ∷ others) → V.Lost words
       → Goes V alike (named_or_positional r p (is_name && begins terminal.Assign words) (o ∷ words))
       (named_or_positional other p (is_name && begins terminal.Assign others) (o ∷ others))
@@ -107,10 +108,10 @@ module _ {V : View} {r other : Readers} (g : Go V r other) where
   field_begins : (p : Place) {words others : List Word} → V.Alike words others → Begin V.Lost V.Alike words others
       → Goes V alike (named_or_positional r p (names_a_field words) words) (named_or_positional other p (names_a_field others) others)
   field_begins p same both_end = goes_positional p (at_alike same)
-  field_begins p same (then_lost {o} l) = field_by_name p (nat_eq (number o.is) (number terminal.Name)) refl same l
+  field_begins p same (then_lost {o} l) = field_by_name p (same_terminal o.is terminal.Name) refl same l
   field_begins p same (then_alike {o} {words} {others} behind) =
       let assigns = begins_same {V = V} {words = words} {others = others} terminal.Assign (at_alike behind) in
-      goes_if (names_a_field (o ∷ words)) (names_a_field (o ∷ others)) (ap (λ test. nat_eq (number o.is) (number terminal.Name) && test) assigns)
+      goes_if (names_a_field (o ∷ words)) (names_a_field (o ∷ others)) (ap (λ test. same_terminal o.is terminal.Name && test) assigns)
       (goes_named p (at_alike same)) (goes_positional p (at_alike same))
 
   field_at : (p : Place) {s : Situation} {words others : List Word} → At V s words others

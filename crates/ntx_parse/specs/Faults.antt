@@ -13,7 +13,7 @@ use Rattle.ntx_syntax.specs.declared.fault.SyntaxWhy.TheVariants.{Expected, Dept
 use Rattle.ntx_syntax.specs.declared.tree.Chunk.{Chunk}
 use Rattle.ntx_syntax.specs.Lexes.{line_ends}
 use Rattle.ntx_parse.specs.declared.place.Place.{Place}
-use Rattle.ntx_parse.specs.declared.terminal.Terminal.TheVariants as terminal
+use Rattle.ntx_syntax.specs.declared.terminal.Terminal.TheVariants as terminal
 use Rattle.ntx_parse.specs.Words.{Word}
 use Rattle.ntx_parse.specs.Grammar.{Placed, IsChunk, IsFine, max_nesting}
 

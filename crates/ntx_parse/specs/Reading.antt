@@ -1,7 +1,8 @@
 -- How words are read from the left, one phrase after the other (Lua 5.3 Reference Manual, section 9): the tree of the phrase at their front and the
 -- words that are left, or the word at which the reading stops and why. `readers n` reads with calls that lie n deep at most, and tells nothing where
 -- that is too few.
-use Rattle.std.specs.Prelude.{ℕ, zero, suc, nat_le, nat_eq, Bool, true, false, ◌||◌, ◌&&◌, List, [], ◌∷◌, ◌++◌, Option, None, Some, Result, Ok, Err, if◌then◌else◌}
+use Rattle.std.specs.Prelude.{ℕ, zero, suc, nat_le, Bool, true, false, ◌||◌, ◌&&◌, List, [], ◌∷◌, ◌++◌, Option, None, Some, Result, Ok, Err, if◌then◌else◌}
+use denote.Enum.Bare.{sameb}
 use Rattle.ntx_syntax.specs.declared.fault.SyntaxWhy.{SyntaxWhy}
 use Rattle.ntx_syntax.specs.declared.fault.SyntaxWhy.TheVariants as why
 use Rattle.ntx_syntax.specs.declared.tree.Block.{Block, roll-Block}
@@ -26,14 +27,16 @@ use Rattle.ntx_syntax.specs.declared.tree.BinaryOp.{BinaryOp}
 use Rattle.ntx_syntax.specs.declared.tree.BinaryOp.TheVariants as binary
 use Rattle.ntx_syntax.specs.declared.tree.UnaryOp.{UnaryOp}
 use Rattle.ntx_syntax.specs.declared.tree.UnaryOp.TheVariants as unary
+use Rattle.ntx_syntax.specs.Terminals.{same_terminal}
 use Rattle.ntx_syntax.specs.Values.{numeral_value, text_value}
+use Rattle.ntx_parse.specs.contracts.precedence.Precedence.{the_type}
 use Rattle.ntx_parse.specs.declared.part.Part.{Part}
 use Rattle.ntx_parse.specs.declared.part.Part.TheVariants as part
 use Rattle.ntx_parse.specs.declared.place.Place.{Place}
 use Rattle.ntx_parse.specs.declared.precedence.Precedence.{Precedence}
 use Rattle.ntx_parse.specs.declared.precedence.Precedence.TheVariants as precedence
-use Rattle.ntx_parse.specs.declared.terminal.Terminal.{Terminal}
-use Rattle.ntx_parse.specs.declared.terminal.Terminal.TheVariants as terminal
+use Rattle.ntx_syntax.specs.declared.terminal.Terminal.{Terminal}
+use Rattle.ntx_syntax.specs.declared.terminal.Terminal.TheVariants as terminal
 use Rattle.ntx_parse.specs.Words.{Word}
 use Rattle.ntx_parse.specs.Grammar.{within, within_loop, within_function, outermost, tighter, binary_precedence, run_of, with_suffix, max_nesting}
 
@@ -62,65 +65,10 @@ and_then (Some (Ok found)) next = next found.0 found.1
 
 -- ---- words
 
-abbrev pub number : Terminal → ℕ
-number terminal.Name = 0
-number terminal.Numeral = 1
-number terminal.Text = 2
-number terminal.And = 3
-number terminal.Break = 4
-number terminal.Do = 5
-number terminal.Else = 6
-number terminal.Elseif = 7
-number terminal.End = 8
-number terminal.False = 9
-number terminal.For = 10
-number terminal.Function = 11
-number terminal.Goto = 12
-number terminal.If = 13
-number terminal.In = 14
-number terminal.Local = 15
-number terminal.Nil = 16
-number terminal.Not = 17
-number terminal.Or = 18
-number terminal.Repeat = 19
-number terminal.Return = 20
-number terminal.Then = 21
-number terminal.True = 22
-number terminal.Until = 23
-number terminal.While = 24
-number terminal.Plus = 25
-number terminal.Minus = 26
-number terminal.Star = 27
-number terminal.DoubleSlash = 28
-number terminal.Percent = 29
-number terminal.Ampersand = 30
-number terminal.Tilde = 31
-number terminal.Bar = 32
-number terminal.ShiftLeft = 33
-number terminal.ShiftRight = 34
-number terminal.Hash = 35
-number terminal.Equal = 36
-number terminal.NotEqual = 37
-number terminal.LessEqual = 38
-number terminal.GreaterEqual = 39
-number terminal.Less = 40
-number terminal.Greater = 41
-number terminal.Assign = 42
-number terminal.LeftParenthesis = 43
-number terminal.RightParenthesis = 44
-number terminal.LeftBrace = 45
-number terminal.RightBrace = 46
-number terminal.LeftBracket = 47
-number terminal.RightBracket = 48
-number terminal.Semicolon = 49
-number terminal.Comma = 50
-number terminal.Dot = 51
-number terminal.DoubleDot = 52
-
 -- The words begin with this.
 abbrev pub begins : Terminal → List Word → Bool
 begins t [] = false
-begins t (o ∷ words) = nat_eq (number o.is) (number t)
+begins t (o ∷ words) = same_terminal o.is t
 
 -- The first word is taken at this place, if it does not lie too deep there.
 abbrev pub taken : Place → List Word → Answer Word
@@ -165,23 +113,14 @@ unary_of terminal.Minus = Some unary.Minus
 unary_of terminal.Tilde = Some unary.BitNot
 unary_of _ = None
 
-abbrev pub rank : Precedence → ℕ
-rank precedence.Or = 0
-rank precedence.And = 1
-rank precedence.Comparison = 2
-rank precedence.BitOr = 3
-rank precedence.BitXor = 4
-rank precedence.BitAnd = 5
-rank precedence.Shift = 6
-rank precedence.Concat = 7
-rank precedence.Additive = 8
-rank precedence.Multiplicative = 9
-rank precedence.Unary = 10
+-- `==` on precedences
+abbrev pub same_precedence : Precedence → Precedence → Bool
+same_precedence = sameb the_type
 
 -- this operator, if it has this precedence
 abbrev pub of_precedence : Precedence → Option BinaryOp → Option BinaryOp
 of_precedence at None = None
-of_precedence at (Some op) = if nat_eq (rank (binary_precedence op)) (rank at) then Some op else None
+of_precedence at (Some op) = if same_precedence (binary_precedence op) at then Some op else None
 
 -- the operator of this precedence at the front
 abbrev pub operator_at : Precedence → List Word → Option BinaryOp
@@ -318,7 +257,7 @@ read_body r p words =
 
 abbrev pub names_a_field : List Word → Bool
 names_a_field [] = false
-names_a_field (n ∷ words) = nat_eq (number n.is) (number terminal.Name) && begins terminal.Assign words
+names_a_field (n ∷ words) = same_terminal n.is terminal.Name && begins terminal.Assign words
 
 abbrev pub read_field : Readers → Place → List Word → Answer Field
 read_field r p words =

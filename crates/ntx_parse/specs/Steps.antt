@@ -8,7 +8,7 @@ use Rattle.ntx_parse.specs.declared.part.Tail.TheVariants as tail
 use Rattle.ntx_parse.specs.declared.place.Place.{Place}
 use Rattle.ntx_parse.specs.declared.precedence.Precedence.{Precedence}
 use Rattle.ntx_parse.specs.declared.precedence.Precedence.TheVariants as precedence
-use Rattle.ntx_parse.specs.declared.terminal.Terminal.TheVariants as terminal
+use Rattle.ntx_syntax.specs.declared.terminal.Terminal.TheVariants as terminal
 use Rattle.ntx_parse.specs.Words.{Word}
 use Rattle.ntx_parse.specs.Grammar.{within, run_of}
 use Rattle.ntx_parse.specs.Reading.{Answer, Readers, and_then, read, begins, taken, read_name, read_index, read_arguments, joined, concat_behind}

@@ -13,9 +13,8 @@ use crate::part::{Part, var_of};
 use crate::place::{Place, within};
 use crate::precedence::Precedence;
 use crate::rules::Rules;
-use crate::terminal::Terminal;
 use ntx_num::Fail;
-use ntx_syntax::{Block, Call, Exp, StatKind, SyntaxFault, SyntaxWhy, Var};
+use ntx_syntax::{Block, Call, Exp, StatKind, SyntaxFault, SyntaxWhy, Terminal, Var};
 use sqlite_items::{Boxed, Items};
 use std::alloc::Global;
 

@@ -11,9 +11,8 @@ use crate::parser::Parser;
 use crate::place::{Place, within_loop};
 use crate::precedence::Precedence;
 use crate::rules::Rules;
-use crate::terminal::Terminal;
 use ntx_num::Fail;
-use ntx_syntax::{Block, Exp, Return, Stat, SyntaxFault};
+use ntx_syntax::{Block, Exp, Return, Stat, SyntaxFault, Terminal};
 use sqlite_items::{Boxed, Items};
 use std::alloc::Global;
 

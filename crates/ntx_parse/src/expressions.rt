@@ -1,9 +1,10 @@
 //! Expressions.
 
-ghost use Rattle.std.specs.Prelude.{◌≡◌, ◌≤◌, ◌<◌, ◌+◌, ◌*◌, length, [], ◌∷◌, Some, IfOk, OnOk};
+ghost use Rattle.std.specs.Prelude.{◌≡◌, ◌≢◌, ◌≤◌, ◌<◌, ◌+◌, ◌*◌, length, [], ◌∷◌, Some, IfOk, OnOk};
 ghost use Rattle.ntx_syntax.specs.declared.tree.Exp.TheVariants as exp;
 ghost use Rattle.ntx_syntax.specs.declared.tree.BinaryOp.TheVariants as binary;
-ghost use Rattle.ntx_parse.specs.declared.terminal.Terminal.TheVariants as terminal;
+ghost use Rattle.ntx_syntax.specs.declared.terminal.Terminal.TheVariants as terminal;
+ghost use Rattle.ntx_parse.specs.declared.precedence.Precedence.TheVariants as precedences;
 ghost use Rattle.ntx_parse.specs.Grammar as grammar;
 ghost use Rattle.ntx_parse.specs.Input.{next_of};
 ghost use Rattle.ntx_parse.specs.Nests.{Nests};
@@ -17,11 +18,12 @@ use crate::names::parameters;
 use crate::parser::Parser;
 use crate::part::joined;
 use crate::place::{Place, within, within_function};
-use crate::precedence::{Precedence, is_same, looser, tighter};
+use crate::precedence::{Precedence, looser, tighter};
 use crate::rules::Rules;
-use crate::terminal::Terminal;
 use ntx_num::Fail;
-use ntx_syntax::{BinaryOp, Block, Exp, FunctionBody, Operation, SyntaxFault, SyntaxWhy, UnaryOp};
+use ntx_syntax::{
+    BinaryOp, Block, Exp, FunctionBody, Operation, SyntaxFault, SyntaxWhy, Terminal, UnaryOp,
+};
 use sqlite_items::{Boxed, Items};
 use std::alloc::{AllocError, Global};
 
@@ -76,7 +78,7 @@ impl<
     {
         let mut exp = self.operand(parser, place)?;
         let mut reached = Precedence::Unary;
-        while !is_same(reached, precedence) {
+        while reached != precedence {
             reached = looser(reached);
             exp = self.behind(parser, place, reached, exp)?;
         }
@@ -94,10 +96,10 @@ impl<
         requires nests { Nests self.now.depth (E.pre self.now.exp) (E.post self.now.exp) (B.pre self.now.block) (B.post self.now.block) }
         requires shallow { place.nesting ≤ 201 }
         requires room { 404 ≤ self.now.depth + 2 * place.nesting }
-        requires binary { reading.rank precedence < 10 }
+        requires binary { precedence ≢ precedences.Unary }
         ensures { Reads (λ n. behind_at (readers n) place precedence first parser.old.words) parser.old result parser.new }
     {
-        if is_same(precedence, Precedence::Concat) {
+        if precedence == Precedence::Concat {
             self.concat_behind(parser, place, first)
         } else {
             let others = self.operations_behind(parser, place, precedence)?;

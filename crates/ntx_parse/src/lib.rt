@@ -22,9 +22,9 @@ mod precedence;
 mod prefixes;
 mod rules;
 mod script;
+mod starts;
 mod statements;
 mod tables;
-mod terminal;
 mod word;
 
 pub use place::Place;
@@ -32,7 +32,6 @@ pub use precedence::Precedence;
 pub use script::{
     parse, refused_scripts_have_no_tree, scripts_have_one_fault, scripts_have_one_tree,
 };
-pub use terminal::Terminal;
 
 #[cfg(test)]
 mod tests;

@@ -11,9 +11,8 @@ use crate::parser::Parser;
 use crate::place::{Place, within_loop};
 use crate::precedence::Precedence;
 use crate::rules::Rules;
-use crate::terminal::Terminal;
 use ntx_num::Fail;
-use ntx_syntax::{Block, Exp, LocalName, StatKind, SyntaxFault};
+use ntx_syntax::{Block, Exp, LocalName, StatKind, SyntaxFault, Terminal};
 use sqlite_items::Boxed;
 use std::alloc::Global;
 

@@ -8,9 +8,8 @@ ghost use Rattle.ntx_parse.specs.Reads.{Reads};
 use crate::list::push;
 use crate::parser::Parser;
 use crate::place::Place;
-use crate::terminal::Terminal;
 use ntx_num::Fail;
-use ntx_syntax::{LocalName, Name, SyntaxFault};
+use ntx_syntax::{LocalName, Name, SyntaxFault, Terminal};
 use sqlite_items::Items;
 use std::alloc::Global;
 

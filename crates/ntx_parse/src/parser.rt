@@ -3,7 +3,7 @@
 ghost use Rattle.std.specs.Prelude.{◌≡◌, ◌<◌, ◌≤◌, ◌||◌, length, map, IfOk, OnOk, IsTrue, ◌↔◌, [], Some};
 ghost use Rattle.ntx_num.specs.Answer.{result_map};
 ghost use Rattle.ntx_num.specs.declared.answer.Fail.TheVariants.{Is};
-ghost use Rattle.ntx_parse.specs.declared.terminal.Terminal.TheVariants as terminal;
+ghost use Rattle.ntx_syntax.specs.declared.terminal.Terminal.TheVariants as terminal;
 ghost use Rattle.ntx_syntax.specs.Values.{numeral_value, text_value};
 ghost use Rattle.ntx_syntax.specs.declared.tree.Exp.TheVariants as exp;
 ghost use Rattle.ntx_parse.specs.Reading as reading;
@@ -12,12 +12,13 @@ ghost use Rattle.ntx_parse.specs.Reads.{Reads};
 
 use crate::operator::{binary_of, precedence_of, unary_of};
 use crate::place::Place;
-use crate::precedence::{Precedence, is_same};
-use crate::terminal::{Terminal, begins_statement, ends_return, same};
+use crate::precedence::Precedence;
+use crate::starts::{begins_statement, ends_return};
 use crate::word::Word;
 use ntx_num::Fail;
 use ntx_syntax::{
-    BinaryOp, Exp, LocalName, Name, SyntaxFault, SyntaxWhy, UnaryOp, numeral_value, text_value,
+    BinaryOp, Exp, LocalName, Name, SyntaxFault, SyntaxWhy, Terminal, UnaryOp, numeral_value,
+    text_value,
 };
 use sqlite_items::Items;
 use std::alloc::Global;
@@ -82,7 +83,7 @@ impl<'a> Parser<'a> {
     {
         match self.rest {
             [] => false,
-            [word, ..] => same(word.is, terminal),
+            [word, ..] => word.is == terminal,
         }
     }
 
@@ -91,9 +92,7 @@ impl<'a> Parser<'a> {
         ensures { result ≡ reading.names_a_field self.now.words }
     {
         match self.rest {
-            [first, second, ..] => {
-                same(first.is, Terminal::Name) && same(second.is, Terminal::Assign)
-            }
+            [first, second, ..] => { first.is == Terminal::Name && second.is == Terminal::Assign }
             _ => false,
         }
     }
@@ -103,7 +102,7 @@ impl<'a> Parser<'a> {
         ensures { result ≡ reading.operator_at precedence self.now.words }
     {
         let operator = binary_of(self.next()?)?;
-        if is_same(precedence_of(operator), precedence) {
+        if precedence_of(operator) == precedence {
             Some(operator)
         } else {
             None

@@ -12,9 +12,8 @@ use crate::part::{Part, Tail, extended};
 use crate::place::{Place, within};
 use crate::precedence::Precedence;
 use crate::rules::Rules;
-use crate::terminal::Terminal;
 use ntx_num::Fail;
-use ntx_syntax::{Block, Exp, SyntaxFault};
+use ntx_syntax::{Block, Exp, SyntaxFault, Terminal};
 use sqlite_items::{Boxed, Items};
 use std::alloc::Global;
 

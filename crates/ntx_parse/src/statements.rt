@@ -12,9 +12,8 @@ use crate::parser::Parser;
 use crate::place::{Place, within};
 use crate::precedence::Precedence;
 use crate::rules::Rules;
-use crate::terminal::Terminal;
 use ntx_num::Fail;
-use ntx_syntax::{Block, Exp, IfArm, StatKind, SyntaxFault, SyntaxWhy};
+use ntx_syntax::{Block, Exp, IfArm, StatKind, SyntaxFault, SyntaxWhy, Terminal};
 use sqlite_items::{Boxed, Items};
 use std::alloc::Global;
 

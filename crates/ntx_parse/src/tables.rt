@@ -11,9 +11,8 @@ use crate::parser::Parser;
 use crate::place::{Place, within};
 use crate::precedence::Precedence;
 use crate::rules::Rules;
-use crate::terminal::Terminal;
 use ntx_num::Fail;
-use ntx_syntax::{Block, Exp, Field, SyntaxFault};
+use ntx_syntax::{Block, Exp, Field, SyntaxFault, Terminal};
 use sqlite_items::Items;
 use std::alloc::Global;
 

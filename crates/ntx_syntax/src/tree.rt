@@ -79,13 +79,7 @@ pub enum StatKind {
     /// the block of `else`.
     If(Items<IfArm>, Option<Boxed<Block>>),
     /// `for Name = exp , exp [, exp] do block end`: the name, the first value, the limit, the step and the body.
-    NumericFor(
-        Boxed<LocalName>,
-        Boxed<Exp>,
-        Boxed<Exp>,
-        Option<Boxed<Exp>>,
-        Boxed<Block>,
-    ),
+    NumericFor(Boxed<LocalName>, Boxed<Exp>, Boxed<Exp>, Option<Boxed<Exp>>, Boxed<Block>),
     /// `for namelist in explist do block end`
     GenericFor(Items<LocalName>, Items<Exp>, Boxed<Block>),
     /// `function Name {. Name} body`: the first name, those behind each `.`, and the body.

@@ -1,10 +1,11 @@
-//! What the grammar tells apart.
+//! Terminals: what the grammar tells apart.
 
-ghost use Rattle.std.specs.Prelude.{◌≡◌, map, nat_eq};
-ghost use Rattle.ntx_parse.specs.Words as words;
-ghost use Rattle.ntx_parse.specs.Reading as reading;
+ghost use Rattle.std.specs.Prelude.{◌≡◌, map, Some};
+ghost use Rattle.ntx_syntax.specs.Pieces.{piece_of};
+ghost use Rattle.ntx_syntax.specs.Terminals as terminals;
+ghost use Rattle.ntx_syntax.specs.declared.piece.Piece.TheVariants.{Token};
 
-use ntx_syntax::Sort;
+use crate::token::Sort;
 
 /// What a token is to the grammar: each keyword and each symbol is one of its own, and all names, numerals and texts are
 /// one each (Lua 5.3 Reference Manual, sections 3.1 and 9).
@@ -118,8 +119,8 @@ pub enum Terminal {
     DoubleDot,
 }
 
-/// The keywords but `while`.
-const KEYWORDS: [(&[u8], Terminal); 21] = [
+/// The reserved words (Lua 5.3 Reference Manual, section 3.1).
+const KEYWORDS: [(&[u8], Terminal); 22] = [
     (b"and", Terminal::And),
     (b"break", Terminal::Break),
     (b"do", Terminal::Do),
@@ -141,10 +142,11 @@ const KEYWORDS: [(&[u8], Terminal); 21] = [
     (b"then", Terminal::Then),
     (b"true", Terminal::True),
     (b"until", Terminal::Until),
+    (b"while", Terminal::While),
 ];
 
-/// The symbols but `..`.
-const SYMBOLS: [(&[u8], Terminal); 27] = [
+/// The symbols of the language.
+const SYMBOLS: [(&[u8], Terminal); 28] = [
     (b"+", Terminal::Plus),
     (b"-", Terminal::Minus),
     (b"*", Terminal::Star),
@@ -172,75 +174,54 @@ const SYMBOLS: [(&[u8], Terminal); 27] = [
     (b";", Terminal::Semicolon),
     (b",", Terminal::Comma),
     (b".", Terminal::Dot),
+    (b"..", Terminal::DoubleDot),
 ];
 
-/// What stands at this name in a table of names, or `other`.
-fn named(mut table: &[(&[u8], Terminal)], other: Terminal, spelled: &[u8]) -> Terminal
-    ensures { result ≡ words.named (map (λ e. (e.0.now, e.1)) table.entry.now) other spelled.now }
+/// What stands in a table for this spelling, if it is there.
+fn entry_of(mut table: &[(&[u8], Terminal)], spelled: &[u8]) -> Option<Terminal>
+    ensures { result ≡ terminals.entry_of (map (λ entry. (entry.0.now, entry.1)) table.entry.now) spelled.now }
 {
     while let [entry, rest @ ..] = table {
-        if spelled == entry.0 {
-            return entry.1;
+        if entry.0 == spelled {
+            return Some(entry.1);
         }
         table = rest;
     }
-    other
+    None
+}
+
+/// The keyword that these bytes spell, if they spell one.
+pub fn keyword_of(spelled: &[u8]) -> Option<Terminal>
+    ensures { result ≡ terminals.entry_of terminals.keywords spelled.now }
+{
+    entry_of(&KEYWORDS, spelled)
+}
+
+/// The symbol that these bytes spell, if they spell one.
+pub fn symbol_of(spelled: &[u8]) -> Option<Terminal>
+    ensures { result ≡ terminals.entry_of terminals.symbols spelled.now }
+{
+    entry_of(&SYMBOLS, spelled)
 }
 
 /// What a token of this sort is that these bytes spell.
 pub fn terminal_of(sort: Sort, spelled: &[u8]) -> Terminal
-    ensures { result ≡ words.terminal_of sort spelled.now }
+    requires { piece_of spelled.now ≡ Some (Token sort) }
+    ensures { result ≡ terminals.terminal_of sort spelled.now }
 {
     match sort {
         Sort::Name => Terminal::Name,
         Sort::Numeral => Terminal::Numeral,
         Sort::Text => Terminal::Text,
-        Sort::Keyword => named(&KEYWORDS, Terminal::While, spelled),
-        Sort::Symbol => named(&SYMBOLS, Terminal::DoubleDot, spelled),
+        Sort::Keyword => match keyword_of(spelled) {
+            Some(terminal) => terminal,
+            // Each keyword is in its table.
+            None => unreachable!(),
+        },
+        Sort::Symbol => match symbol_of(spelled) {
+            Some(terminal) => terminal,
+            // Each symbol is in its table.
+            None => unreachable!(),
+        },
     }
-}
-
-/// Whether a statement begins with this, `return` aside.
-pub fn begins_statement(terminal: Terminal) -> bool
-    ensures { result ≡ reading.begins_statement terminal }
-{
-    match terminal {
-        Terminal::Semicolon
-        | Terminal::Break
-        | Terminal::Do
-        | Terminal::While
-        | Terminal::Repeat
-        | Terminal::If
-        | Terminal::For
-        | Terminal::Function
-        | Terminal::Local
-        | Terminal::Name
-        | Terminal::LeftParenthesis => true,
-        _ => false,
-    }
-}
-
-/// Whether this begins no expression behind `return`, but ends it or its block.
-pub fn ends_return(terminal: Terminal) -> bool
-    ensures { result ≡ reading.ends_return terminal }
-{
-    match terminal {
-        Terminal::End | Terminal::Else | Terminal::Elseif | Terminal::Until | Terminal::Semicolon =>
-            true,
-        _ => false,
-    }
-}
-
-/// The number of a terminal, in the order in which they stand above.
-fn number(terminal: Terminal) -> u8
-    ensures { result ≡ reading.number terminal }
-{
-    terminal as u8
-}
-
-/// Whether both are the same.
-pub fn same(left: Terminal, right: Terminal) -> bool
-    ensures { result ≡ nat_eq (reading.number left) (reading.number right) }
-{
-    number(left) == number(right)
 }
