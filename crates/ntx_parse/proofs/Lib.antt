@@ -12,6 +12,9 @@ pub mod CompletePrefixes
 pub mod CompleteStatements
 pub mod CompleteTables
 pub mod DeepNames
+pub mod Ends
+pub mod EndsPhrases
+pub mod EndsScript
 pub mod FollowLemmas
 pub mod LevelLemmas
 pub mod Local

@@ -7,3 +7,4 @@ pub mod Cursor
 pub mod Reads
 pub mod Nests
 pub mod Steps
+pub mod Laws

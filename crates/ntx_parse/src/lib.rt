@@ -11,6 +11,7 @@
 mod bindings;
 mod blocks;
 mod expressions;
+mod laws;
 mod list;
 mod loops;
 mod names;
@@ -27,11 +28,13 @@ mod statements;
 mod tables;
 mod word;
 
+pub use laws::{
+    each_script_is_decided, refused_scripts_have_no_tree, scripts_have_one_fault,
+    scripts_have_one_tree,
+};
 pub use place::Place;
 pub use precedence::Precedence;
-pub use script::{
-    parse, refused_scripts_have_no_tree, scripts_have_one_fault, scripts_have_one_tree,
-};
+pub use script::parse;
 
 #[cfg(test)]
 mod tests;

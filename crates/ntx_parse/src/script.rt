@@ -1,6 +1,6 @@
 //! Reading a script.
 
-ghost use Rattle.std.specs.Prelude.{◌≡◌, ◌≤◌, ◌+◌, ◌*◌, ℕ, [], List, map, Ok, Err, IfOk};
+ghost use Rattle.std.specs.Prelude.{◌≡◌, ◌≤◌, ◌+◌, ◌*◌, [], map, Ok, Err, IfOk};
 ghost use Rattle.ntx_num.specs.Answer.{Answers};
 ghost use Rattle.ntx_syntax.specs.Lexes.{Lexes, line_ends};
 ghost use Rattle.ntx_syntax.specs.declared.fault.SyntaxFault as declared;
@@ -10,7 +10,6 @@ ghost use Rattle.ntx_parse.specs.Grammar.{Accepts};
 ghost use Rattle.ntx_parse.specs.Input.{HaveValues, seen};
 ghost use Rattle.ntx_parse.specs.Reading.{readers, script_by};
 ghost use Rattle.ntx_parse.specs.Reads.{Reads};
-ghost use Rattle.ntx_parse.specs.Words as words;
 ghost use Rattle.ntx_parse.specs.Words.{words_of};
 
 use crate::parser::Parser;
@@ -132,18 +131,3 @@ pub fn parse(alloc: Global, bytes: &[u8], tokens: &[Token]) -> Result<Chunk, Fai
     let block = whole(alloc, words.as_slice(), last_line(bytes))?;
     Ok(Chunk { block })
 }
-
-/// No script has two trees.
-pub fn scripts_have_one_tree()
-    ensures { (words : List words.Word) (a b : Chunk) → Accepts words a → Accepts words b → a ≡ b }
-{}
-
-/// No script has two faults.
-pub fn scripts_have_one_fault()
-    ensures { (bytes : List ℕ) (words : List words.Word) (a b : declared.SyntaxFault) → IsRefused bytes words a → IsRefused bytes words b → a ≡ b }
-{}
-
-/// No script that has a fault has a tree.
-pub fn refused_scripts_have_no_tree()
-    ensures { (bytes : List ℕ) (words : List words.Word) (chunk : Chunk) (fault : declared.SyntaxFault) → Accepts words chunk → IsRefused bytes words fault → ⊥ }
-{}
