@@ -13,7 +13,7 @@ use Rattle.ntx_syntax.specs.declared.terminal.Terminal.{Terminal}
 use Rattle.ntx_syntax.specs.declared.terminal.Terminal.TheVariants as terminal
 use Rattle.ntx_parse.specs.Words.{Word}
 use Rattle.ntx_parse.specs.Grammar.{binary_precedence, binary_terminal, unary_terminal}
-use Rattle.ntx_parse.specs.Reading.{begins, binary_of, unary_of, of_precedence, same_precedence}
+use Rattle.ntx_parse.specs.inner.Reading.{begins, binary_of, unary_of, of_precedence, same_precedence}
 
 -- ---- equal terminals and precedences
 

@@ -13,7 +13,7 @@ use Rattle.ntx_syntax.specs.declared.terminal.Terminal.TheVariants as terminal
 use Rattle.ntx_syntax.specs.Terminals.{same_terminal, keywords, symbols, entry_of, terminal_of}
 use Rattle.ntx_parse.specs.Words.{word_of, words_of}
 use Rattle.ntx_parse.proofs.TerminalLemmas.{other_terminal}
-use Rattle.ntx_parse.proofs.StuckAnswers.{HasValue, EachHasValue}
+use Rattle.ntx_parse.proofs.stuck.Answers.{HasValue, EachHasValue}
 
 -- ---- tables
 

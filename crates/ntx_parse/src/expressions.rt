@@ -6,12 +6,13 @@ ghost use Rattle.ntx_syntax.specs.declared.tree.BinaryOp.TheVariants as binary;
 ghost use Rattle.ntx_syntax.specs.declared.terminal.Terminal.TheVariants as terminal;
 ghost use Rattle.ntx_parse.specs.declared.precedence.Precedence.TheVariants as precedences;
 ghost use Rattle.ntx_parse.specs.Grammar as grammar;
-ghost use Rattle.ntx_parse.specs.Input.{next_of};
-ghost use Rattle.ntx_parse.specs.Nests.{Nests};
-ghost use Rattle.ntx_parse.specs.Reading as reading;
-ghost use Rattle.ntx_parse.specs.Reading.{readers};
-ghost use Rattle.ntx_parse.specs.Reads.{Reads};
-ghost use Rattle.ntx_parse.specs.Steps.{behind_at};
+ghost use Rattle.ntx_parse.specs.inner.Input.{next_of};
+ghost use Rattle.ntx_parse.specs.inner.Nests.{Nests};
+ghost use Rattle.ntx_parse.specs.inner.Reading as reading;
+ghost use Rattle.ntx_parse.specs.inner.Reading.{readers};
+ghost use Rattle.ntx_parse.specs.inner.Reads.{Reads};
+ghost use Rattle.ntx_parse.specs.inner.Room.{IsShallow, IsShallowPart, HasRoom, for_operand, for_exp};
+ghost use Rattle.ntx_parse.specs.inner.Steps.{behind_at};
 
 use crate::list::push;
 use crate::names::parameters;
@@ -53,9 +54,9 @@ fn concat_of(alloc: Global, left: Exp, right: Exp) -> Result<Exp, AllocError>
 
 /// The next word, which alone is this expression.
 fn constant(parser: &mut Parser<'_>, place: Place, value: Exp) -> Result<Exp, Fail<SyntaxFault>>
-    ensures { Reads (λ _. reading.and_then (reading.taken place parser.old.words) (λ _ rest. reading.read value rest)) parser.old result parser.new }
+    ensures { Reads (λ _. reading.and_then (reading.take_word place parser.old.words) (λ _ rest. reading.read value rest)) parser.old result parser.new }
 {
-    parser.taken(place)?;
+    parser.take_word(place)?;
     Ok(value)
 }
 
@@ -72,8 +73,8 @@ impl<
         precedence: Precedence,
     ) -> Result<Exp, Fail<SyntaxFault>>
         requires nests { Nests self.now.depth (E.pre self.now.exp) (E.post self.now.exp) (B.pre self.now.block) (B.post self.now.block) }
-        requires shallow { place.nesting ≤ 201 }
-        requires room { 404 ≤ self.now.depth + 2 * place.nesting }
+        requires shallow { IsShallow place }
+        requires room { HasRoom for_operand self.now.depth place }
         ensures { Reads (λ n. (readers n).exp place precedence parser.old.words) parser.old result parser.new }
     {
         let mut exp = self.operand(parser, place)?;
@@ -94,8 +95,8 @@ impl<
         first: Exp,
     ) -> Result<Exp, Fail<SyntaxFault>>
         requires nests { Nests self.now.depth (E.pre self.now.exp) (E.post self.now.exp) (B.pre self.now.block) (B.post self.now.block) }
-        requires shallow { place.nesting ≤ 201 }
-        requires room { 404 ≤ self.now.depth + 2 * place.nesting }
+        requires shallow { IsShallow place }
+        requires room { HasRoom for_operand self.now.depth place }
         requires binary { precedence ≢ precedences.Unary }
         ensures { Reads (λ n. behind_at (readers n) place precedence first parser.old.words) parser.old result parser.new }
     {
@@ -110,8 +111,8 @@ impl<
     /// `unop exp`, or an expression without operators of its own.
     fn operand(&self, parser: &mut Parser<'_>, place: Place) -> Result<Exp, Fail<SyntaxFault>>
         requires nests { Nests self.now.depth (E.pre self.now.exp) (E.post self.now.exp) (B.pre self.now.block) (B.post self.now.block) }
-        requires shallow { place.nesting ≤ 201 }
-        requires room { 404 ≤ self.now.depth + 2 * place.nesting }
+        requires shallow { IsShallow place }
+        requires room { HasRoom for_operand self.now.depth place }
         ensures { Reads (λ n. reading.read_operand (readers n) place (reading.sign_at parser.old.words) parser.old.words) parser.old result parser.new }
     {
         match parser.sign_at() {
@@ -128,11 +129,11 @@ impl<
         operator: UnaryOp,
     ) -> Result<Exp, Fail<SyntaxFault>>
         requires nests { Nests self.now.depth (E.pre self.now.exp) (E.post self.now.exp) (B.pre self.now.block) (B.post self.now.block) }
-        requires shallow { place.nesting ≤ 201 }
-        requires room { 404 ≤ self.now.depth + 2 * place.nesting }
+        requires shallow { IsShallow place }
+        requires room { HasRoom for_operand self.now.depth place }
         ensures { Reads (λ n. reading.read_operand (readers n) place (Some operator) parser.old.words) parser.old result parser.new }
     {
-        parser.taken(place)?;
+        parser.take_word(place)?;
         let operand = self.boxed_exp(parser, within(place), Precedence::Unary)?;
         Ok(Exp::Unary(operator, operand))
     }
@@ -145,14 +146,14 @@ impl<
         left: Exp,
     ) -> Result<Exp, Fail<SyntaxFault>>
         requires nests { Nests self.now.depth (E.pre self.now.exp) (E.post self.now.exp) (B.pre self.now.block) (B.post self.now.block) }
-        requires shallow { place.nesting ≤ 201 }
-        requires room { 404 ≤ self.now.depth + 2 * place.nesting }
+        requires shallow { IsShallow place }
+        requires room { HasRoom for_operand self.now.depth place }
         ensures { Reads (λ n. reading.concat_behind (readers n) place left parser.old.words) parser.old result parser.new }
     {
         if !parser.begins(Terminal::DoubleDot) {
             return Ok(left);
         }
-        parser.taken(place)?;
+        parser.take_word(place)?;
         let right = self.exp(parser, within(place), Precedence::Concat)?;
         Ok(concat_of(self.alloc, left, right)?)
     }
@@ -165,13 +166,13 @@ impl<
         precedence: Precedence,
     ) -> Result<Items<Operation>, Fail<SyntaxFault>>
         requires nests { Nests self.now.depth (E.pre self.now.exp) (E.post self.now.exp) (B.pre self.now.block) (B.post self.now.block) }
-        requires shallow { place.nesting ≤ 201 }
-        requires room { 404 ≤ self.now.depth + 2 * place.nesting }
+        requires shallow { IsShallow place }
+        requires room { HasRoom for_operand self.now.depth place }
         ensures { Reads (λ n. (readers n).operations place precedence [] parser.old.words) parser.old result parser.new }
     {
         let mut operations = Items::new(self.alloc);
         while let Some(operator) = parser.operator_at(precedence) {
-            parser.taken(place)?;
+            parser.take_word(place)?;
             let operand = self.exp(parser, within(place), tighter(precedence))?;
             push(self.alloc, &mut operations, Operation { operator, operand })?;
         }
@@ -181,8 +182,8 @@ impl<
     /// An expression without operators of its own.
     fn simple(&self, parser: &mut Parser<'_>, place: Place) -> Result<Exp, Fail<SyntaxFault>>
         requires nests { Nests self.now.depth (E.pre self.now.exp) (E.post self.now.exp) (B.pre self.now.block) (B.post self.now.block) }
-        requires shallow { place.nesting ≤ 201 }
-        requires room { 404 ≤ self.now.depth + 2 * place.nesting }
+        requires shallow { IsShallow place }
+        requires room { HasRoom for_operand self.now.depth place }
         ensures { Reads (λ n. reading.read_simple (readers n) place parser.old.words) parser.old result parser.new }
     {
         match parser.next() {
@@ -199,8 +200,8 @@ impl<
         begins: Terminal,
     ) -> Result<Exp, Fail<SyntaxFault>>
         requires nests { Nests self.now.depth (E.pre self.now.exp) (E.post self.now.exp) (B.pre self.now.block) (B.post self.now.block) }
-        requires shallow { place.nesting ≤ 201 }
-        requires room { 404 ≤ self.now.depth + 2 * place.nesting }
+        requires shallow { IsShallow place }
+        requires room { HasRoom for_operand self.now.depth place }
         requires begins { next_of parser.old.words ≡ Some begins }
         ensures { Reads (λ n. reading.simple_at (readers n) place begins parser.old.words) parser.old result parser.new }
     {
@@ -221,11 +222,11 @@ impl<
     /// `function body`
     fn function_exp(&self, parser: &mut Parser<'_>, place: Place) -> Result<Exp, Fail<SyntaxFault>>
         requires nests { Nests self.now.depth (E.pre self.now.exp) (E.post self.now.exp) (B.pre self.now.block) (B.post self.now.block) }
-        requires shallow { place.nesting ≤ 201 }
-        requires room { 404 ≤ self.now.depth + 2 * place.nesting }
+        requires shallow { IsShallow place }
+        requires room { HasRoom for_operand self.now.depth place }
         ensures { Reads (λ n. reading.simple_at (readers n) place terminal.Function parser.old.words) parser.old result parser.new }
     {
-        parser.taken(place)?;
+        parser.take_word(place)?;
         let body = self.body(parser, within(place))?;
         Ok(Exp::Function(body))
     }
@@ -233,8 +234,8 @@ impl<
     /// A table.
     fn table_exp(&self, parser: &mut Parser<'_>, place: Place) -> Result<Exp, Fail<SyntaxFault>>
         requires nests { Nests self.now.depth (E.pre self.now.exp) (E.post self.now.exp) (B.pre self.now.block) (B.post self.now.block) }
-        requires shallow { place.nesting ≤ 201 }
-        requires room { 404 ≤ self.now.depth + 2 * place.nesting }
+        requires shallow { IsShallow place }
+        requires room { HasRoom for_operand self.now.depth place }
         ensures { Reads (λ n. reading.simple_at (readers n) place terminal.LeftBrace parser.old.words) parser.old result parser.new }
     {
         let fields = self.table(parser, within(place))?;
@@ -244,8 +245,8 @@ impl<
     /// A variable, a call or a parenthesized expression.
     fn prefix_exp(&self, parser: &mut Parser<'_>, place: Place) -> Result<Exp, Fail<SyntaxFault>>
         requires nests { Nests self.now.depth (E.pre self.now.exp) (E.post self.now.exp) (B.pre self.now.block) (B.post self.now.block) }
-        requires shallow { place.nesting ≤ 201 }
-        requires room { 404 ≤ self.now.depth + 2 * place.nesting }
+        requires shallow { IsShallow place }
+        requires room { HasRoom for_operand self.now.depth place }
         ensures { Reads (λ n. reading.simple_at (readers n) place terminal.Name parser.old.words) parser.old result parser.new }
     {
         let found = self.prefix(parser, place)?;
@@ -260,8 +261,8 @@ impl<
         place: Place,
     ) -> Result<Items<Exp>, Fail<SyntaxFault>>
         requires nests { Nests self.now.depth (E.pre self.now.exp) (E.post self.now.exp) (B.pre self.now.block) (B.post self.now.block) }
-        requires shallow { place.nesting ≤ 201 }
-        requires room { 405 ≤ self.now.depth + 2 * place.nesting }
+        requires shallow { IsShallow place }
+        requires room { HasRoom for_exp self.now.depth place }
         ensures { Reads (λ n. reading.read_exps (readers n) place parser.old.words) parser.old result parser.new }
     {
         let first = self.exp(parser, place, Precedence::Or)?;
@@ -276,14 +277,14 @@ impl<
         first: Exp,
     ) -> Result<Items<Exp>, Fail<SyntaxFault>>
         requires nests { Nests self.now.depth (E.pre self.now.exp) (E.post self.now.exp) (B.pre self.now.block) (B.post self.now.block) }
-        requires shallow { place.nesting ≤ 201 }
-        requires room { 405 ≤ self.now.depth + 2 * place.nesting }
+        requires shallow { IsShallow place }
+        requires room { HasRoom for_exp self.now.depth place }
         ensures { Reads (λ n. (readers n).exps place (first ∷ []) parser.old.words) parser.old result parser.new }
     {
         let mut exps = Items::new(self.alloc);
         push(self.alloc, &mut exps, first)?;
         while parser.begins(Terminal::Comma) {
-            parser.taken(place)?;
+            parser.take_word(place)?;
             push(
                 self.alloc,
                 &mut exps,
@@ -301,13 +302,13 @@ impl<
         place: Place,
     ) -> Result<Boxed<FunctionBody>, Fail<SyntaxFault>>
         requires nests { Nests self.now.depth (E.pre self.now.exp) (E.post self.now.exp) (B.pre self.now.block) (B.post self.now.block) }
-        requires shallow { place.nesting ≤ 202 }
-        requires room { 405 ≤ self.now.depth + 2 * place.nesting }
+        requires shallow { IsShallowPart place }
+        requires room { HasRoom for_exp self.now.depth place }
         ensures { Reads (λ n. reading.read_body (readers n) place parser.old.words) parser.old result parser.new }
     {
         let parameters = parameters(self.alloc, parser, within(place))?;
         let block = self.block(parser, within_function(place))?;
-        parser.expected(place, Terminal::End)?;
+        parser.expect_word(place, Terminal::End)?;
         Ok(Boxed::new(self.alloc, FunctionBody { parameters, block })?)
     }
 }

@@ -1,10 +1,11 @@
 //! Loops.
 
 ghost use Rattle.std.specs.Prelude.{◌≡◌, ◌≤◌, ◌<◌, ◌+◌, ◌*◌, length, [], ◌∷◌, Some, OnOk};
-ghost use Rattle.ntx_parse.specs.Nests.{Nests};
-ghost use Rattle.ntx_parse.specs.Reading as reading;
-ghost use Rattle.ntx_parse.specs.Reading.{readers};
-ghost use Rattle.ntx_parse.specs.Reads.{Reads};
+ghost use Rattle.ntx_parse.specs.inner.Nests.{Nests};
+ghost use Rattle.ntx_parse.specs.inner.Reading as reading;
+ghost use Rattle.ntx_parse.specs.inner.Reading.{readers};
+ghost use Rattle.ntx_parse.specs.inner.Reads.{Reads};
+ghost use Rattle.ntx_parse.specs.inner.Room.{IsShallow, HasRoom, for_exp};
 
 use crate::names::names_behind;
 use crate::parser::Parser;
@@ -27,12 +28,12 @@ impl<
         place: Place,
     ) -> Result<StatKind, Fail<SyntaxFault>>
         requires nests { Nests self.now.depth (E.pre self.now.exp) (E.post self.now.exp) (B.pre self.now.block) (B.post self.now.block) }
-        requires shallow { place.nesting ≤ 201 }
-        requires room { 405 ≤ self.now.depth + 2 * place.nesting }
+        requires shallow { IsShallow place }
+        requires room { HasRoom for_exp self.now.depth place }
         ensures reads { Reads (λ n. reading.read_while (readers n) place parser.old.words) parser.old result parser.new }
         ensures shorter { OnOk result (length parser.new.words < length parser.old.words) }
     {
-        parser.taken(place)?;
+        parser.take_word(place)?;
         let condition = self.boxed_exp(parser, place, Precedence::Or)?;
         let body = self.loop_body(parser, place)?;
         Ok(StatKind::While(condition, body))
@@ -45,14 +46,14 @@ impl<
         place: Place,
     ) -> Result<StatKind, Fail<SyntaxFault>>
         requires nests { Nests self.now.depth (E.pre self.now.exp) (E.post self.now.exp) (B.pre self.now.block) (B.post self.now.block) }
-        requires shallow { place.nesting ≤ 201 }
-        requires room { 405 ≤ self.now.depth + 2 * place.nesting }
+        requires shallow { IsShallow place }
+        requires room { HasRoom for_exp self.now.depth place }
         ensures reads { Reads (λ n. reading.read_repeat (readers n) place parser.old.words) parser.old result parser.new }
         ensures shorter { OnOk result (length parser.new.words < length parser.old.words) }
     {
-        parser.taken(place)?;
+        parser.take_word(place)?;
         let body = self.boxed_block(parser, within_loop(place))?;
-        parser.expected(place, Terminal::Until)?;
+        parser.expect_word(place, Terminal::Until)?;
         let condition = self.boxed_exp(parser, place, Precedence::Or)?;
         Ok(StatKind::Repeat(body, condition))
     }
@@ -64,12 +65,12 @@ impl<
         place: Place,
     ) -> Result<StatKind, Fail<SyntaxFault>>
         requires nests { Nests self.now.depth (E.pre self.now.exp) (E.post self.now.exp) (B.pre self.now.block) (B.post self.now.block) }
-        requires shallow { place.nesting ≤ 201 }
-        requires room { 405 ≤ self.now.depth + 2 * place.nesting }
+        requires shallow { IsShallow place }
+        requires room { HasRoom for_exp self.now.depth place }
         ensures reads { Reads (λ n. reading.read_for (readers n) place parser.old.words) parser.old result parser.new }
         ensures shorter { OnOk result (length parser.new.words < length parser.old.words) }
     {
-        parser.taken(place)?;
+        parser.take_word(place)?;
         let name = parser.local_name(self.alloc, place)?;
         if parser.begins(Terminal::Assign) {
             self.numeric_for_behind(parser, place, name)
@@ -86,13 +87,13 @@ impl<
         name: LocalName,
     ) -> Result<StatKind, Fail<SyntaxFault>>
         requires nests { Nests self.now.depth (E.pre self.now.exp) (E.post self.now.exp) (B.pre self.now.block) (B.post self.now.block) }
-        requires shallow { place.nesting ≤ 201 }
-        requires room { 405 ≤ self.now.depth + 2 * place.nesting }
+        requires shallow { IsShallow place }
+        requires room { HasRoom for_exp self.now.depth place }
         ensures { Reads (λ n. reading.numeric_for_behind (readers n) place name parser.old.words) parser.old result parser.new }
     {
-        parser.taken(place)?;
+        parser.take_word(place)?;
         let first = self.boxed_exp(parser, place, Precedence::Or)?;
-        parser.expected(place, Terminal::Comma)?;
+        parser.expect_word(place, Terminal::Comma)?;
         let limit = self.boxed_exp(parser, place, Precedence::Or)?;
         let step = self.step_behind(parser, place)?;
         let body = self.loop_body(parser, place)?;
@@ -107,14 +108,14 @@ impl<
         place: Place,
     ) -> Result<Option<Boxed<Exp>>, Fail<SyntaxFault>>
         requires nests { Nests self.now.depth (E.pre self.now.exp) (E.post self.now.exp) (B.pre self.now.block) (B.post self.now.block) }
-        requires shallow { place.nesting ≤ 201 }
-        requires room { 405 ≤ self.now.depth + 2 * place.nesting }
+        requires shallow { IsShallow place }
+        requires room { HasRoom for_exp self.now.depth place }
         ensures { Reads (λ n. reading.step_behind (readers n) place parser.old.words) parser.old result parser.new }
     {
         if !parser.begins(Terminal::Comma) {
             return Ok(None);
         }
-        parser.taken(place)?;
+        parser.take_word(place)?;
         let value = self.boxed_exp(parser, place, Precedence::Or)?;
         Ok(Some(value))
     }
@@ -127,12 +128,12 @@ impl<
         first: LocalName,
     ) -> Result<StatKind, Fail<SyntaxFault>>
         requires nests { Nests self.now.depth (E.pre self.now.exp) (E.post self.now.exp) (B.pre self.now.block) (B.post self.now.block) }
-        requires shallow { place.nesting ≤ 201 }
-        requires room { 405 ≤ self.now.depth + 2 * place.nesting }
+        requires shallow { IsShallow place }
+        requires room { HasRoom for_exp self.now.depth place }
         ensures { Reads (λ n. reading.generic_for_behind (readers n) place first parser.old.words) parser.old result parser.new }
     {
         let names = names_behind(self.alloc, parser, place, first)?;
-        parser.expected(place, Terminal::In)?;
+        parser.expect_word(place, Terminal::In)?;
         let values = self.exps(parser, place)?;
         let body = self.loop_body(parser, place)?;
         Ok(StatKind::GenericFor(names, values, body))

@@ -2,7 +2,7 @@
 
 ghost use Rattle.std.specs.Prelude.{◌≡◌};
 ghost use Rattle.ntx_parse.specs.Grammar as grammar;
-ghost use Rattle.ntx_parse.specs.Reading as reading;
+ghost use Rattle.ntx_parse.specs.inner.Reading as reading;
 
 use crate::precedence::Precedence;
 use ntx_syntax::{BinaryOp, Terminal, UnaryOp};

@@ -7,9 +7,10 @@ ghost use Rattle.ntx_syntax.specs.declared.fault.SyntaxFault as declared;
 ghost use Rattle.ntx_syntax.specs.declared.tree.Chunk.{Chunk};
 ghost use Rattle.ntx_parse.specs.Faults.{IfRefused, IsRefused};
 ghost use Rattle.ntx_parse.specs.Grammar.{Accepts};
-ghost use Rattle.ntx_parse.specs.Input.{HaveValues, seen};
-ghost use Rattle.ntx_parse.specs.Reading.{readers, script_by};
-ghost use Rattle.ntx_parse.specs.Reads.{Reads};
+ghost use Rattle.ntx_parse.specs.inner.Input.{HaveValues, seen};
+ghost use Rattle.ntx_parse.specs.inner.Reading.{readers, script_by};
+ghost use Rattle.ntx_parse.specs.inner.Reads.{Reads};
+ghost use Rattle.ntx_parse.specs.inner.Room.{IsShallow, HasRoom, for_exp, for_block};
 ghost use Rattle.ntx_parse.specs.Words.{words_of};
 
 use crate::parser::Parser;
@@ -19,8 +20,8 @@ use crate::rules::Rules;
 use crate::word::{Word, words_of};
 use ntx_num::Fail;
 use ntx_syntax::{
-    Block, Chunk, Exp, SyntaxFault, SyntaxWhy, Token, numerals_have_values, texts_have_values,
-    tokens_stand_in_order,
+    Block, Chunk, Exp, SyntaxFault, SyntaxWhy, Token, line_ends, numerals_have_values,
+    texts_have_values, tokens_stand_in_order,
 };
 use std::alloc::Global;
 
@@ -36,8 +37,8 @@ fn exp(
     place: Place,
     precedence: Precedence,
 ) -> Result<Exp, Fail<SyntaxFault>>
-    requires shallow { place.nesting ≤ 201 }
-    requires room { 405 ≤ depth + 2 * place.nesting }
+    requires shallow { IsShallow place }
+    requires room { HasRoom for_exp depth place }
     ensures { Reads (λ n. (readers n).exp place precedence parser.old.words) parser.old result parser.new }
 {
     Rules {
@@ -57,8 +58,8 @@ fn block(
     depth: u64,
     place: Place,
 ) -> Result<Block, Fail<SyntaxFault>>
-    requires shallow { place.nesting ≤ 201 }
-    requires room { 406 ≤ depth + 2 * place.nesting }
+    requires shallow { IsShallow place }
+    requires room { HasRoom for_block depth place }
     ensures { Reads (λ n. (readers n).block place parser.old.words) parser.old result parser.new }
 {
     Rules {
@@ -74,7 +75,7 @@ fn block(
 fn last_line(bytes: &[u8]) -> u64
     ensures { result ≡ 1 + line_ends bytes.now }
 {
-    1 + bytes.iter().filter(|b| **b == b'\n').count() as u64
+    1 + line_ends(bytes) as u64
 }
 
 /// The block of a script of these words, with this last line.

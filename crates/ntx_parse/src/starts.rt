@@ -1,7 +1,7 @@
 //! What statements begin with, and what ends `return`.
 
 ghost use Rattle.std.specs.Prelude.{◌≡◌};
-ghost use Rattle.ntx_parse.specs.Reading as reading;
+ghost use Rattle.ntx_parse.specs.inner.Reading as reading;
 
 use ntx_syntax::Terminal;
 

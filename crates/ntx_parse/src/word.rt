@@ -5,7 +5,7 @@ ghost use Rattle.ntx_syntax.specs.Lexes.{StandInOrder};
 ghost use Rattle.ntx_syntax.specs.Pieces.{piece_of};
 ghost use Rattle.ntx_syntax.specs.declared.piece.Piece.TheVariants as piece;
 ghost use Rattle.ntx_parse.specs.Words as words;
-ghost use Rattle.ntx_parse.specs.Input.{seen};
+ghost use Rattle.ntx_parse.specs.inner.Input.{seen};
 
 use ntx_syntax::{Terminal, Token, terminal_of};
 use std::alloc::{AllocError, Global};

@@ -5,7 +5,7 @@ use Rattle.std.specs.List.{list_all}
 use Rattle.std.specs.Char.{is_ascii_digit, is_ascii_hexdigit, digit_value}
 use Rattle.std.specs.Int.{w64, cast_signed}
 use Rattle.std.specs.Str.Parse.{digits_value, digits_value_after}
-use Rattle.std.proofs.lemmas.Bool.{false≢true, cases_lt, and_parts, eq-eqb, ltb-true}
+use Rattle.std.proofs.lemmas.Bool.{false≢true, cases_lt, and_parts, eq-eqb, ltb-true, false_from_ne_true}
 use Rattle.std.proofs.lemmas.List.{at_drop_more, append-nil, drop-drop, drop_all}
 use Rattle.std.proofs.lemmas.Nat.{mul-mod_first}
 use Rattle.std.proofs.Math.Nat.{add-mod, add-mul-mod_self_right}
@@ -16,7 +16,7 @@ use Rattle.ntx_syntax.specs.declared.piece.Piece.{Piece}
 use Rattle.ntx_syntax.specs.declared.piece.Piece.TheVariants.{Gap, Token, Wrong}
 use Rattle.ntx_syntax.specs.Bytes.{is_quote, is_line_end, is_blank, begins_name, continues_name}
 use Rattle.ntx_syntax.specs.Values.{is_decimal, is_hexadecimal, numeral_value, text_value, characters, escape, if_empty}
-use Rattle.ntx_syntax.specs.Front.{begins_hexadecimal, character}
+use Rattle.ntx_syntax.specs.inner.Front.{begins_hexadecimal, character}
 use Rattle.ntx_syntax.proofs.NumeralLemmas.{hexadecimal_begins, x_is_no_digit}
 
 -- ---- hexadecimal digits, modulo 2 ^ 64
@@ -90,12 +90,8 @@ PlainValue bytes = cond (is_decimal bytes && nat_lt (digits_value 10 bytes) (2 ^
 pub begun_value : (bytes : List ℕ) → begins_hexadecimal bytes ≡ true → IsSome (numeral_value bytes) → numeral_value bytes ≡ Some (cast_signed w64 (digits_value 16 (drop 2 bytes) % 2 ^ 64))
 begun_value bytes begins some = ap (λ t. cond t (Some (cast_signed w64 (digits_value 16 (drop 2 bytes) % 2 ^ 64))) (PlainValue bytes)) (hexadecimal_whole bytes begins some)
 
-false_unless : (t : Bool) → (t ≡ true → ⊥) → t ≡ false
-false_unless true f = absurd (f refl)
-false_unless false f = refl
-
 not_hexadecimal : (bytes : List ℕ) → begins_hexadecimal bytes ≡ false → is_hexadecimal bytes ≡ false
-not_hexadecimal bytes plain = false_unless (is_hexadecimal bytes) (λ h. false≢true (sym plain ∙ hexadecimal_begins bytes h))
+not_hexadecimal bytes plain = false_from_ne_true (is_hexadecimal bytes) (λ h. false≢true (sym plain ∙ hexadecimal_begins bytes h))
 
 plain_value : (bytes : List ℕ) → begins_hexadecimal bytes ≡ false → numeral_value bytes ≡ PlainValue bytes
 plain_value bytes plain = ap (λ t. cond t (Some (cast_signed w64 (digits_value 16 (drop 2 bytes) % 2 ^ 64))) (PlainValue bytes)) (not_hexadecimal bytes plain)

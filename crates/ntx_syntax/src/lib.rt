@@ -28,7 +28,7 @@ pub use laws::{
     cut_is_one, is_refused_as_computed, keywords_are_listed, lexes_as_computed, lexes_once,
     numerals_have_values, symbols_are_listed, texts_have_values, tokens_stand_in_order,
 };
-pub use lex::tokens;
+pub use lex::{line_ends, tokens};
 pub use numeral::numeral_value;
 pub use piece::Piece;
 pub use terminal::{Terminal, terminal_of};

@@ -2,7 +2,7 @@
 
 ghost use Rattle.std.specs.Prelude.{◌≡◌, ◌<◌, length, map};
 ghost use Rattle.ntx_syntax.specs.Pieces.{is_among, symbol_piece};
-ghost use Rattle.ntx_syntax.specs.Front.{IsFrontOf, symbol_at};
+ghost use Rattle.ntx_syntax.specs.inner.Front.{IsFrontOf, symbol_at};
 
 use crate::fault::SyntaxWhy;
 use crate::piece::Piece;

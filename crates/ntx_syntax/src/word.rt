@@ -3,7 +3,7 @@
 ghost use Rattle.std.specs.Prelude.{◌≡◌, slice_index, true};
 ghost use Rattle.ntx_syntax.specs.Bytes.{begins_name};
 ghost use Rattle.ntx_syntax.specs.Pieces.{word_sort, word_piece};
-ghost use Rattle.ntx_syntax.specs.Front.{IsFrontOf};
+ghost use Rattle.ntx_syntax.specs.inner.Front.{IsFrontOf};
 
 use crate::bytes::{Class, run};
 use crate::piece::Piece;

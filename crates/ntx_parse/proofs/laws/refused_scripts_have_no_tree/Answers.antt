@@ -1,4 +1,4 @@
-use Rattle.ntx_parse.proofs.OneFault.{refused_is_none}
+use Rattle.ntx_parse.proofs.faults.OneFault.{refused_is_none}
 use Rattle.ntx_parse.proofs.laws.refused_scripts_have_no_tree.Goals as goal
 
 pub returns : goal.returns

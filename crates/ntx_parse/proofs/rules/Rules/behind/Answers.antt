@@ -1,9 +1,9 @@
 use Rattle.std.proofs.Common.{◌∙◌, sym}
 use denote.Enum.Bare.{same_true, same_false}
-use Rattle.ntx_parse.specs.Reading.{readers}
-use Rattle.ntx_parse.proofs.ReadsLemmas.{ok, err_by, no_memory_by, done, same}
+use Rattle.ntx_parse.specs.inner.Reading.{readers}
+use Rattle.ntx_parse.proofs.reads.Answers.{ok, err_by, no_memory_by, done, same}
 use Rattle.ntx_parse.specs.contracts.precedence.Precedence.{the_type}
-use Rattle.ntx_parse.proofs.LevelLemmas.{behind_concat, behind_others}
+use Rattle.ntx_parse.proofs.reads.Levels.{behind_concat, behind_others}
 use Rattle.ntx_parse.specs.declared.precedence.Precedence.TheVariants as precedence
 use Rattle.ntx_parse.proofs.rules.Rules.behind.Goals as goal
 

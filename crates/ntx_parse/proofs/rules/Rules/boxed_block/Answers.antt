@@ -1,4 +1,4 @@
-use Rattle.ntx_parse.proofs.ReadsLemmas.{no_memory_by, ends_by}
+use Rattle.ntx_parse.proofs.reads.Answers.{no_memory_by, ends_by}
 use Rattle.ntx_parse.proofs.rules.Rules.boxed_block.Goals as goal
 
 pub returns-in_err-block : goal.returns-in_err-block

@@ -1,5 +1,5 @@
 use Rattle.std.proofs.Common.{refl, sym}
-use Rattle.ntx_parse.proofs.ReadsLemmas.{ok, err_by, no_memory_by, done, stops_at_once, stays_shorter}
+use Rattle.ntx_parse.proofs.reads.Answers.{ok, err_by, no_memory_by, done, stops_at_once, stays_shorter}
 use Rattle.ntx_parse.proofs.rules.Rules.call_or_assignment.Goals as goal
 
 pub returns-in_err-found-clause-reads : goal.returns-in_err-found-clause-reads

@@ -2,11 +2,11 @@ use Rattle.std.proofs.Common.{◌≡◌, ◌≢◌, arith, ◌-◌, sym, ◌∙�
 use denote.Enum.Bare.{differs_true, differs_false}
 use Rattle.ntx_parse.specs.contracts.precedence.Precedence.{the_type}
 use Rattle.ntx_parse.specs.declared.precedence.Precedence.TheVariants as precedence
-use Rattle.ntx_parse.specs.Reading.{readers}
-use Rattle.ntx_parse.specs.Reads.{Reads}
+use Rattle.ntx_parse.specs.inner.Reading.{readers}
+use Rattle.ntx_parse.specs.inner.Reads.{Reads}
 use Rattle.ntx_parse.proofs.Ranks.{rank, rank_most, looser_rank, not_loosest, above}
-use Rattle.ntx_parse.proofs.ReadsLemmas.{later, ends_by}
-use Rattle.ntx_parse.proofs.LevelLemmas.{climb, fails_looser}
+use Rattle.ntx_parse.proofs.reads.Answers.{later, ends_by}
+use Rattle.ntx_parse.proofs.reads.Levels.{climb, fails_looser}
 use Rattle.ntx_parse.proofs.rules.Rules.level.Goals as goal
 
 pub returns-in_err-exp : goal.returns-in_err-exp
