@@ -15,18 +15,18 @@ use Rattle.ntx_syntax.specs.Lexes.{line_ends}
 use Rattle.ntx_parse.specs.Faults.{IfRefused, IsRefused, line_at}
 use Rattle.ntx_syntax.specs.Values.{numeral_value, text_value}
 use Rattle.ntx_parse.specs.declared.place.Place.{Place}
-use Rattle.ntx_parse.specs.declared.terminal.Terminal.{Terminal}
-use Rattle.ntx_parse.specs.declared.terminal.Terminal.TheVariants as terminal
+use Rattle.ntx_syntax.specs.declared.terminal.Terminal.{Terminal}
+use Rattle.ntx_syntax.specs.declared.terminal.Terminal.TheVariants as terminal
 use Rattle.ntx_parse.specs.Grammar.{Accepts, outermost}
-use Rattle.ntx_parse.specs.Input.{Input, line_of, value_test, has_value, HaveValues}
-use Rattle.ntx_parse.specs.Reading.{Answer, stopped, ended, readers, script_by}
-use Rattle.ntx_parse.specs.Reads.{Reads, went, stops, out_of_memory, fault_at}
+use Rattle.ntx_parse.specs.inner.Input.{Input, line_of, value_test, has_value, HaveValues}
+use Rattle.ntx_parse.specs.inner.Reading.{Answer, stopped, ended, readers, script_by}
+use Rattle.ntx_parse.specs.inner.Reads.{Reads, went, stops, out_of_memory, fault_at}
 use Rattle.ntx_parse.specs.Words.{Word}
-use Rattle.ntx_parse.proofs.Complete.{one_tree, stopped_is_none}
-use Rattle.ntx_parse.proofs.ReadsLemmas.{ok, at_once, stops_at_once}
-use Rattle.ntx_parse.proofs.Refused.{refused_with_line}
-use Rattle.ntx_parse.proofs.Sound.{sound_script}
-use Rattle.ntx_parse.proofs.StuckAnswers.{EachHasValue}
+use Rattle.ntx_parse.proofs.complete.Scripts.{one_tree, stopped_is_none}
+use Rattle.ntx_parse.proofs.reads.Answers.{ok, at_once, stops_at_once}
+use Rattle.ntx_parse.proofs.faults.Refused.{refused_with_line}
+use Rattle.ntx_parse.proofs.sound.Scripts.{sound_script}
+use Rattle.ntx_parse.proofs.stuck.Answers.{EachHasValue}
 
 -- ---- the end
 
@@ -63,7 +63,7 @@ same_lines bytes [] = refl
 same_lines bytes (o ∷ words) = refl
 
 pub script_is_accepted : {words : List Word} {old new : Input} {b : Block} → Reads (λ n. script_by n words) old (Ok b) new → Accepts words (record { block = b })
-script_is_accepted {words} {old} {new} {b} (went settles line shorter) = sound_script settles.from b words new.words (settles.gives settles.from (le_refl settles.from))
+script_is_accepted {words} {old} {new} {b} (went at_last line shorter) = sound_script at_last.from b words new.words (at_last.gives at_last.from (le_refl at_last.from))
 
 pub no_other_tree : {words : List Word} {old new : Input} {b : Block} → Reads (λ n. script_by n words) old (Ok b) new → (chunk : Chunk) → Accepts words chunk → ◌≡◌ {A = Result Chunk SyntaxFault} (Ok chunk) (Ok (record { block = b }))
 no_other_tree {words} {b = b} reads chunk a = ap (λ (x : Chunk). Ok x) (one_tree words chunk (record { block = b }) a (script_is_accepted reads))
@@ -71,7 +71,7 @@ no_other_tree {words} {b = b} reads chunk a = ap (λ (x : Chunk). Ok x) (one_tre
 -- What is refused has no tree,
 refused_has_none : {words : List Word} {old new : Input} {e : Fail SyntaxFault} → Reads {A = Block} (λ n. script_by n words) old (Err e) new → (chunk : Chunk) → Accepts words chunk
     → Answers (Err e) (Ok chunk)
-refused_has_none {words} (stops stop settles is) chunk a = absurd (stopped_is_none words stop (settles.from, settles.gives) chunk a)
+refused_has_none {words} (stops stop at_last is) chunk a = absurd (stopped_is_none words stop (at_last.from, at_last.gives) chunk a)
 refused_has_none out_of_memory chunk a = tt
 
 pub only_by : {words : List Word} {old new : Input} {e : Fail SyntaxFault} (r : Result Chunk (Fail SyntaxFault)) → IsErrAnd r (λ y. y ≡ e) → Reads {A = Block} (λ n. script_by n words) old (Err e) new
@@ -82,10 +82,10 @@ only_by (Err y) is h chunk a = rw is (refused_has_none h chunk a)
 -- and is refused rightly.
 refused_rightly : {words : List Word} {old new : Input} {e : Fail SyntaxFault} (bytes : List ℕ) → EachHasValue words → old.last_line ≡ 1 + line_ends bytes
     → Reads {A = Block} (λ n. script_by n words) old (Err e) new → IfRefused {A = Chunk} (Err e) (λ fault. IsRefused bytes words fault)
-refused_rightly {words} bytes values line (stops stop settles is) =
+refused_rightly {words} bytes values line (stops stop at_last is) =
     subst (λ fault. IsRefused bytes words fault)
     (sym (is ∙ ap (λ l. fault_at l stop) line ∙ ap (λ l. record { line = l; why = stop.why }) (same_lines bytes stop.words)))
-    (refused_with_line settles.from bytes words stop values (settles.gives settles.from (le_refl settles.from)))
+    (refused_with_line at_last.from bytes words stop values (at_last.gives at_last.from (le_refl at_last.from)))
 refused_rightly bytes values line out_of_memory = tt
 
 pub refused_by : {words : List Word} {old new : Input} {e : Fail SyntaxFault} (r : Result Chunk (Fail SyntaxFault)) (bytes : List ℕ) → IsErrAnd r (λ y. y ≡ e) → EachHasValue words → old.last_line ≡ 1 + line_ends bytes

@@ -13,9 +13,9 @@ use Rattle.ntx_syntax.specs.declared.fault.SyntaxWhy.TheVariants.{Expected, Dept
 use Rattle.ntx_syntax.specs.declared.tree.Chunk.{Chunk}
 use Rattle.ntx_syntax.specs.Lexes.{line_ends}
 use Rattle.ntx_parse.specs.declared.place.Place.{Place}
-use Rattle.ntx_parse.specs.declared.terminal.Terminal.TheVariants as terminal
+use Rattle.ntx_syntax.specs.declared.terminal.Terminal.TheVariants as terminal
 use Rattle.ntx_parse.specs.Words.{Word}
-use Rattle.ntx_parse.specs.Grammar.{Placed, IsChunk, IsFine, max_nesting}
+use Rattle.ntx_parse.specs.Grammar.{Placed, IsChunk, IsAllowed, max_nesting}
 
 -- The words, each at its place, can stand at the front of a script.
 abbrev pub CanBegin : List Placed → Type 0
@@ -27,7 +27,7 @@ pub record Stand (words : List Word) : Type 0 where
   pub placed : List Placed
   pub words_are : map (λ o. o.word) placed ≡ words
   pub can_begin : CanBegin placed
-  pub fine : AllByRecursion IsFine placed
+  pub allowed : AllByRecursion IsAllowed placed
 
 -- No places let the words stand at the front of a script.
 abbrev pub CannotStand : List Word → Type 0

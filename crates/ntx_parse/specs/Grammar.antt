@@ -37,8 +37,8 @@ use Rattle.ntx_syntax.specs.Values.{numeral_value, text_value}
 use Rattle.ntx_parse.specs.declared.place.Place.{Place}
 use Rattle.ntx_parse.specs.declared.precedence.Precedence.{Precedence}
 use Rattle.ntx_parse.specs.declared.precedence.Precedence.TheVariants as precedence
-use Rattle.ntx_parse.specs.declared.terminal.Terminal.{Terminal}
-use Rattle.ntx_parse.specs.declared.terminal.Terminal.TheVariants as terminal
+use Rattle.ntx_syntax.specs.declared.terminal.Terminal.{Terminal}
+use Rattle.ntx_syntax.specs.declared.terminal.Terminal.TheVariants as terminal
 use Rattle.ntx_parse.specs.Words.{Word}
 
 -- ---- places
@@ -428,7 +428,7 @@ abbrev pub max_nesting : ℕ
 max_nesting = 200
 
 -- The word does not lie too deep, and if it is `break`, it stands in a loop of its own function.
-pub record IsFine (o : Placed) : Type 0 where
+pub record IsAllowed (o : Placed) : Type 0 where
   pub nesting : o.place.nesting ≤ max_nesting
   pub in_loop : o.word.is ≡ terminal.Break → o.place.in_loop ≡ true
 
@@ -436,4 +436,4 @@ pub record Accepts (words : List Word) (chunk : Chunk) : Type 0 where
   pub placed : List Placed
   pub words_are : map (λ o. o.word) placed ≡ words
   pub derives : IsChunk chunk placed
-  pub fine : AllByRecursion IsFine placed
+  pub allowed : AllByRecursion IsAllowed placed

@@ -1,9 +1,10 @@
+-- the words of a script
 pub mod Words
+-- which words spell which tree
 pub mod Grammar
-pub mod Reading
+-- where a script is refused, and why
 pub mod Faults
-pub mod Input
-pub mod Cursor
-pub mod Reads
-pub mod Nests
-pub mod Steps
+-- what holds of every script
+pub mod Laws
+-- what private calls say among themselves
+pub mod inner

@@ -1,21 +1,22 @@
 //! Declarations, assignments and calls.
 
 ghost use Rattle.std.specs.Prelude.{◌≡◌, ◌≤◌, ◌<◌, ◌+◌, ◌*◌, length, [], ◌∷◌, Some, OnOk};
-ghost use Rattle.ntx_parse.specs.Nests.{Nests};
-ghost use Rattle.ntx_parse.specs.Reading as reading;
-ghost use Rattle.ntx_parse.specs.Reading.{readers};
-ghost use Rattle.ntx_parse.specs.Reads.{Reads};
+ghost use Rattle.ntx_parse.specs.inner.Nests.{Nests};
+ghost use Rattle.ntx_parse.specs.inner.Reading as reading;
+ghost use Rattle.ntx_parse.specs.inner.Reading.{readers};
+ghost use Rattle.ntx_parse.specs.inner.Reads.{Reads};
+ghost use Rattle.ntx_parse.specs.inner.Room.{IsShallow, HasRoom, for_exp};
 
+use crate::list::push;
 use crate::names::{names, path};
 use crate::parser::Parser;
 use crate::part::{Part, var_of};
 use crate::place::{Place, within};
 use crate::precedence::Precedence;
 use crate::rules::Rules;
-use crate::terminal::Terminal;
 use ntx_num::Fail;
-use ntx_syntax::{Block, Call, Exp, StatKind, SyntaxFault, SyntaxWhy, Var};
-use sqlite_items::Items;
+use ntx_syntax::{Block, Call, Exp, StatKind, SyntaxFault, SyntaxWhy, Terminal, Var};
+use sqlite_items::{Boxed, Items};
 use std::alloc::Global;
 
 /// What can be assigned to. Where a prefix was read that cannot, the next word is refused (Expected).
@@ -39,12 +40,12 @@ impl<
         place: Place,
     ) -> Result<StatKind, Fail<SyntaxFault>>
         requires nests { Nests self.now.depth (E.pre self.now.exp) (E.post self.now.exp) (B.pre self.now.block) (B.post self.now.block) }
-        requires shallow { place.nesting ≤ 201 }
-        requires room { 405 ≤ self.now.depth + 2 * place.nesting }
+        requires shallow { IsShallow place }
+        requires room { HasRoom for_exp self.now.depth place }
         ensures reads { Reads (λ n. reading.read_function (readers n) place parser.old.words) parser.old result parser.new }
         ensures shorter { OnOk result (length parser.new.words < length parser.old.words) }
     {
-        parser.taken(place)?;
+        parser.take_word(place)?;
         let name = parser.name(self.alloc, place)?;
         let fields = path(self.alloc, parser, place)?;
         let body = self.body(parser, within(place))?;
@@ -58,12 +59,12 @@ impl<
         place: Place,
     ) -> Result<StatKind, Fail<SyntaxFault>>
         requires nests { Nests self.now.depth (E.pre self.now.exp) (E.post self.now.exp) (B.pre self.now.block) (B.post self.now.block) }
-        requires shallow { place.nesting ≤ 201 }
-        requires room { 405 ≤ self.now.depth + 2 * place.nesting }
+        requires shallow { IsShallow place }
+        requires room { HasRoom for_exp self.now.depth place }
         ensures reads { Reads (λ n. reading.read_local (readers n) place parser.old.words) parser.old result parser.new }
         ensures shorter { OnOk result (length parser.new.words < length parser.old.words) }
     {
-        parser.taken(place)?;
+        parser.take_word(place)?;
         if parser.begins(Terminal::Function) {
             self.local_function_behind(parser, place)
         } else {
@@ -78,11 +79,11 @@ impl<
         place: Place,
     ) -> Result<StatKind, Fail<SyntaxFault>>
         requires nests { Nests self.now.depth (E.pre self.now.exp) (E.post self.now.exp) (B.pre self.now.block) (B.post self.now.block) }
-        requires shallow { place.nesting ≤ 201 }
-        requires room { 405 ≤ self.now.depth + 2 * place.nesting }
+        requires shallow { IsShallow place }
+        requires room { HasRoom for_exp self.now.depth place }
         ensures { Reads (λ n. reading.local_function_behind (readers n) place parser.old.words) parser.old result parser.new }
     {
-        parser.taken(place)?;
+        parser.take_word(place)?;
         let name = parser.local_name(self.alloc, place)?;
         let body = self.body(parser, within(place))?;
         Ok(StatKind::LocalFunction(name, body))
@@ -95,8 +96,8 @@ impl<
         place: Place,
     ) -> Result<StatKind, Fail<SyntaxFault>>
         requires nests { Nests self.now.depth (E.pre self.now.exp) (E.post self.now.exp) (B.pre self.now.block) (B.post self.now.block) }
-        requires shallow { place.nesting ≤ 201 }
-        requires room { 405 ≤ self.now.depth + 2 * place.nesting }
+        requires shallow { IsShallow place }
+        requires room { HasRoom for_exp self.now.depth place }
         ensures { Reads (λ n. reading.locals_behind (readers n) place parser.old.words) parser.old result parser.new }
     {
         let names = names(self.alloc, parser, place)?;
@@ -111,14 +112,14 @@ impl<
         place: Place,
     ) -> Result<Items<Exp>, Fail<SyntaxFault>>
         requires nests { Nests self.now.depth (E.pre self.now.exp) (E.post self.now.exp) (B.pre self.now.block) (B.post self.now.block) }
-        requires shallow { place.nesting ≤ 201 }
-        requires room { 405 ≤ self.now.depth + 2 * place.nesting }
+        requires shallow { IsShallow place }
+        requires room { HasRoom for_exp self.now.depth place }
         ensures { Reads (λ n. reading.values_behind (readers n) place parser.old.words) parser.old result parser.new }
     {
         if !parser.begins(Terminal::Assign) {
             return Ok(Items::new(self.alloc));
         }
-        parser.taken(place)?;
+        parser.take_word(place)?;
         self.exps(parser, place)
     }
 
@@ -129,8 +130,8 @@ impl<
         place: Place,
     ) -> Result<StatKind, Fail<SyntaxFault>>
         requires nests { Nests self.now.depth (E.pre self.now.exp) (E.post self.now.exp) (B.pre self.now.block) (B.post self.now.block) }
-        requires shallow { place.nesting ≤ 201 }
-        requires room { 405 ≤ self.now.depth + 2 * place.nesting }
+        requires shallow { IsShallow place }
+        requires room { HasRoom for_exp self.now.depth place }
         ensures reads { Reads (λ n. reading.read_expression_statement (readers n) place parser.old.words) parser.old result parser.new }
         ensures shorter { OnOk result (length parser.new.words < length parser.old.words) }
     {
@@ -138,14 +139,24 @@ impl<
         match found {
             Part::Name(name) => self.assignment_to(parser, place, Var::Name(name)),
             Part::Parenthesized(_) => Err(parser.fault(SyntaxWhy::Expected)),
-            Part::Index(before, key) => self.assignment_to(parser, place, Var::Index(before, key)),
-            Part::Field(before, name) => {
-                self.assignment_to(parser, place, Var::Field(before, name))
+            Part::Index(before, key) => {
+                let indexed = Boxed::new(self.alloc, before)?;
+                self.assignment_to(parser, place, Var::Index(indexed, key))
             }
-            Part::Call(function, arguments) => Ok(StatKind::Call(Call {
-                function,
-                arguments,
-            })),
+            Part::Field(before, name) => {
+                let table = Boxed::new(self.alloc, before)?;
+                self.assignment_to(parser, place, Var::Field(table, name))
+            }
+            Part::Call(function, arguments) => {
+                let call = Boxed::new(
+                    self.alloc,
+                    Call {
+                        function,
+                        arguments,
+                    },
+                )?;
+                Ok(StatKind::Call(call))
+            }
         }
     }
 
@@ -157,12 +168,12 @@ impl<
         first: Var,
     ) -> Result<StatKind, Fail<SyntaxFault>>
         requires nests { Nests self.now.depth (E.pre self.now.exp) (E.post self.now.exp) (B.pre self.now.block) (B.post self.now.block) }
-        requires shallow { place.nesting ≤ 201 }
-        requires room { 405 ≤ self.now.depth + 2 * place.nesting }
+        requires shallow { IsShallow place }
+        requires room { HasRoom for_exp self.now.depth place }
         ensures { Reads (λ n. reading.assignment_to (readers n) place first parser.old.words) parser.old result parser.new }
     {
         let vars = self.vars_behind(parser, place, first)?;
-        parser.expected(place, Terminal::Assign)?;
+        parser.expect_word(place, Terminal::Assign)?;
         let values = self.exps(parser, place)?;
         Ok(StatKind::Assign(vars, values))
     }
@@ -175,16 +186,17 @@ impl<
         first: Var,
     ) -> Result<Items<Var>, Fail<SyntaxFault>>
         requires nests { Nests self.now.depth (E.pre self.now.exp) (E.post self.now.exp) (B.pre self.now.block) (B.post self.now.block) }
-        requires shallow { place.nesting ≤ 201 }
-        requires room { 405 ≤ self.now.depth + 2 * place.nesting }
+        requires shallow { IsShallow place }
+        requires room { HasRoom for_exp self.now.depth place }
         ensures { Reads (λ n. (readers n).vars place (first ∷ []) parser.old.words) parser.old result parser.new }
     {
         let mut vars = Items::new(self.alloc);
-        vars.push(first)?;
+        push(self.alloc, &mut vars, first)?;
         while parser.begins(Terminal::Comma) {
-            parser.taken(place)?;
+            parser.take_word(place)?;
             let found = self.prefix(parser, place)?;
-            vars.push(as_var(parser, var_of(found))?)?;
+            let var = var_of(self.alloc, found)?;
+            push(self.alloc, &mut vars, as_var(parser, var)?)?;
         }
         Ok(vars)
     }

@@ -1,19 +1,20 @@
 //! Blocks.
 
 ghost use Rattle.std.specs.Prelude.{◌≡◌, ◌≤◌, ◌<◌, ◌+◌, ◌*◌, length, [], ◌∷◌, Some, OnOk};
-ghost use Rattle.ntx_parse.specs.Nests.{Nests};
-ghost use Rattle.ntx_parse.specs.Reading as reading;
-ghost use Rattle.ntx_parse.specs.Reading.{readers};
-ghost use Rattle.ntx_parse.specs.Reads.{Reads};
+ghost use Rattle.ntx_parse.specs.inner.Nests.{Nests};
+ghost use Rattle.ntx_parse.specs.inner.Reading as reading;
+ghost use Rattle.ntx_parse.specs.inner.Reading.{readers};
+ghost use Rattle.ntx_parse.specs.inner.Reads.{Reads};
+ghost use Rattle.ntx_parse.specs.inner.Room.{IsShallow, HasRoom, for_exp, for_block};
 
+use crate::list::push;
 use crate::parser::Parser;
 use crate::place::{Place, within_loop};
 use crate::precedence::Precedence;
 use crate::rules::Rules;
-use crate::terminal::Terminal;
 use ntx_num::Fail;
-use ntx_syntax::{Block, Exp, Return, Stat, SyntaxFault};
-use sqlite_items::Items;
+use ntx_syntax::{Block, Exp, Return, Stat, SyntaxFault, Terminal};
+use sqlite_items::{Boxed, Items};
 use std::alloc::Global;
 
 /// `[;]`
@@ -23,7 +24,7 @@ fn semicolon_behind(parser: &mut Parser<'_>, place: Place) -> Result<bool, Fail<
     if !parser.begins(Terminal::Semicolon) {
         return Ok(false);
     }
-    parser.taken(place)?;
+    parser.take_word(place)?;
     Ok(true)
 }
 
@@ -38,8 +39,8 @@ impl<
         place: Place,
     ) -> Result<Block, Fail<SyntaxFault>>
         requires nests { Nests self.now.depth (E.pre self.now.exp) (E.post self.now.exp) (B.pre self.now.block) (B.post self.now.block) }
-        requires shallow { place.nesting ≤ 201 }
-        requires room { 405 ≤ self.now.depth + 2 * place.nesting }
+        requires shallow { IsShallow place }
+        requires room { HasRoom for_exp self.now.depth place }
         ensures { Reads (λ n. reading.block_at (readers n) place parser.old.words) parser.old result parser.new }
     {
         let stats = self.stats(parser, place)?;
@@ -50,14 +51,14 @@ impl<
     /// `{stat}`, each with the line of its first word.
     fn stats(&self, parser: &mut Parser<'_>, place: Place) -> Result<Items<Stat>, Fail<SyntaxFault>>
         requires nests { Nests self.now.depth (E.pre self.now.exp) (E.post self.now.exp) (B.pre self.now.block) (B.post self.now.block) }
-        requires shallow { place.nesting ≤ 201 }
-        requires room { 405 ≤ self.now.depth + 2 * place.nesting }
+        requires shallow { IsShallow place }
+        requires room { HasRoom for_exp self.now.depth place }
         ensures { Reads (λ n. (readers n).stats place [] parser.old.words) parser.old result parser.new }
     {
         let mut stats = Items::new(self.alloc);
         while let Some((terminal, line)) = parser.statement_at() {
             let kind = self.kind(parser, place, terminal)?;
-            stats.push(Stat { line, kind })?;
+            push(self.alloc, &mut stats, Stat { line, kind })?;
         }
         Ok(stats)
     }
@@ -69,14 +70,14 @@ impl<
         place: Place,
     ) -> Result<Option<Return>, Fail<SyntaxFault>>
         requires nests { Nests self.now.depth (E.pre self.now.exp) (E.post self.now.exp) (B.pre self.now.block) (B.post self.now.block) }
-        requires shallow { place.nesting ≤ 201 }
-        requires room { 405 ≤ self.now.depth + 2 * place.nesting }
+        requires shallow { IsShallow place }
+        requires room { HasRoom for_exp self.now.depth place }
         ensures { Reads (λ n. reading.last_behind (readers n) place parser.old.words) parser.old result parser.new }
     {
         if !parser.begins(Terminal::Return) {
             return Ok(None);
         }
-        let word = parser.taken(place)?;
+        let word = parser.take_word(place)?;
         let values = self.returned(parser, place)?;
         semicolon_behind(parser, place)?;
         Ok(Some(Return {
@@ -92,8 +93,8 @@ impl<
         place: Place,
     ) -> Result<Items<Exp>, Fail<SyntaxFault>>
         requires nests { Nests self.now.depth (E.pre self.now.exp) (E.post self.now.exp) (B.pre self.now.block) (B.post self.now.block) }
-        requires shallow { place.nesting ≤ 201 }
-        requires room { 405 ≤ self.now.depth + 2 * place.nesting }
+        requires shallow { IsShallow place }
+        requires room { HasRoom for_exp self.now.depth place }
         ensures { Reads (λ n. reading.returned_behind (readers n) place parser.old.words) parser.old result parser.new }
     {
         if parser.ends_returned() {
@@ -109,14 +110,14 @@ impl<
         parser: &mut Parser<'_>,
         place: Place,
         inside: Place,
-    ) -> Result<Block, Fail<SyntaxFault>>
+    ) -> Result<Boxed<Block>, Fail<SyntaxFault>>
         requires nests { Nests self.now.depth (E.pre self.now.exp) (E.post self.now.exp) (B.pre self.now.block) (B.post self.now.block) }
-        requires shallow { inside.nesting ≤ 201 }
-        requires room { 406 ≤ self.now.depth + 2 * inside.nesting }
+        requires shallow { IsShallow inside }
+        requires room { HasRoom for_block self.now.depth inside }
         ensures { Reads (λ n. reading.block_to_end (readers n) place inside parser.old.words) parser.old result parser.new }
     {
-        let body = self.block(parser, inside)?;
-        parser.expected(place, Terminal::End)?;
+        let body = self.boxed_block(parser, inside)?;
+        parser.expect_word(place, Terminal::End)?;
         Ok(body)
     }
 
@@ -125,13 +126,13 @@ impl<
         &self,
         parser: &mut Parser<'_>,
         place: Place,
-    ) -> Result<Block, Fail<SyntaxFault>>
+    ) -> Result<Boxed<Block>, Fail<SyntaxFault>>
         requires nests { Nests self.now.depth (E.pre self.now.exp) (E.post self.now.exp) (B.pre self.now.block) (B.post self.now.block) }
-        requires shallow { place.nesting ≤ 201 }
-        requires room { 405 ≤ self.now.depth + 2 * place.nesting }
+        requires shallow { IsShallow place }
+        requires room { HasRoom for_exp self.now.depth place }
         ensures { Reads (λ n. reading.loop_body (readers n) place parser.old.words) parser.old result parser.new }
     {
-        parser.expected(place, Terminal::Do)?;
+        parser.expect_word(place, Terminal::Do)?;
         self.block_to_end(parser, place, within_loop(place))
     }
 }

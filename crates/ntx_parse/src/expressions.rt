@@ -1,26 +1,30 @@
 //! Expressions.
 
-ghost use Rattle.std.specs.Prelude.{◌≡◌, ◌≤◌, ◌<◌, ◌+◌, ◌*◌, length, [], ◌∷◌, Some, IfOk, OnOk};
+ghost use Rattle.std.specs.Prelude.{◌≡◌, ◌≢◌, ◌≤◌, ◌<◌, ◌+◌, ◌*◌, length, [], ◌∷◌, Some, IfOk, OnOk};
 ghost use Rattle.ntx_syntax.specs.declared.tree.Exp.TheVariants as exp;
 ghost use Rattle.ntx_syntax.specs.declared.tree.BinaryOp.TheVariants as binary;
-ghost use Rattle.ntx_parse.specs.declared.terminal.Terminal.TheVariants as terminal;
+ghost use Rattle.ntx_syntax.specs.declared.terminal.Terminal.TheVariants as terminal;
+ghost use Rattle.ntx_parse.specs.declared.precedence.Precedence.TheVariants as precedences;
 ghost use Rattle.ntx_parse.specs.Grammar as grammar;
-ghost use Rattle.ntx_parse.specs.Input.{next_of};
-ghost use Rattle.ntx_parse.specs.Nests.{Nests};
-ghost use Rattle.ntx_parse.specs.Reading as reading;
-ghost use Rattle.ntx_parse.specs.Reading.{readers};
-ghost use Rattle.ntx_parse.specs.Reads.{Reads};
-ghost use Rattle.ntx_parse.specs.Steps.{behind_at};
+ghost use Rattle.ntx_parse.specs.inner.Input.{next_of};
+ghost use Rattle.ntx_parse.specs.inner.Nests.{Nests};
+ghost use Rattle.ntx_parse.specs.inner.Reading as reading;
+ghost use Rattle.ntx_parse.specs.inner.Reading.{readers};
+ghost use Rattle.ntx_parse.specs.inner.Reads.{Reads};
+ghost use Rattle.ntx_parse.specs.inner.Room.{IsShallow, IsShallowPart, HasRoom, for_operand, for_exp};
+ghost use Rattle.ntx_parse.specs.inner.Steps.{behind_at};
 
+use crate::list::push;
 use crate::names::parameters;
 use crate::parser::Parser;
 use crate::part::joined;
 use crate::place::{Place, within, within_function};
-use crate::precedence::{Precedence, is_same, looser, tighter};
+use crate::precedence::{Precedence, looser, tighter};
 use crate::rules::Rules;
-use crate::terminal::Terminal;
 use ntx_num::Fail;
-use ntx_syntax::{BinaryOp, Block, Exp, FunctionBody, Operation, SyntaxFault, SyntaxWhy, UnaryOp};
+use ntx_syntax::{
+    BinaryOp, Block, Exp, FunctionBody, Operation, SyntaxFault, SyntaxWhy, Terminal, UnaryOp,
+};
 use sqlite_items::{Boxed, Items};
 use std::alloc::{AllocError, Global};
 
@@ -40,18 +44,19 @@ fn concat_of(alloc: Global, left: Exp, right: Exp) -> Result<Exp, AllocError>
     ensures { IfOk result (λ e. e ≡ exp.Binary left (record { operator = binary.Concat; operand = right } ∷ [])) }
 {
     let mut operations = Items::new(alloc);
-    operations.push(Operation {
+    let operation = Operation {
         operator: BinaryOp::Concat,
         operand: right,
-    })?;
+    };
+    push(alloc, &mut operations, operation)?;
     Ok(Exp::Binary(Boxed::new(alloc, left)?, operations))
 }
 
 /// The next word, which alone is this expression.
 fn constant(parser: &mut Parser<'_>, place: Place, value: Exp) -> Result<Exp, Fail<SyntaxFault>>
-    ensures { Reads (λ _. reading.and_then (reading.taken place parser.old.words) (λ _ rest. reading.read value rest)) parser.old result parser.new }
+    ensures { Reads (λ _. reading.and_then (reading.take_word place parser.old.words) (λ _ rest. reading.read value rest)) parser.old result parser.new }
 {
-    parser.taken(place)?;
+    parser.take_word(place)?;
     Ok(value)
 }
 
@@ -68,13 +73,13 @@ impl<
         precedence: Precedence,
     ) -> Result<Exp, Fail<SyntaxFault>>
         requires nests { Nests self.now.depth (E.pre self.now.exp) (E.post self.now.exp) (B.pre self.now.block) (B.post self.now.block) }
-        requires shallow { place.nesting ≤ 201 }
-        requires room { 404 ≤ self.now.depth + 2 * place.nesting }
+        requires shallow { IsShallow place }
+        requires room { HasRoom for_operand self.now.depth place }
         ensures { Reads (λ n. (readers n).exp place precedence parser.old.words) parser.old result parser.new }
     {
         let mut exp = self.operand(parser, place)?;
         let mut reached = Precedence::Unary;
-        while !is_same(reached, precedence) {
+        while reached != precedence {
             reached = looser(reached);
             exp = self.behind(parser, place, reached, exp)?;
         }
@@ -90,12 +95,12 @@ impl<
         first: Exp,
     ) -> Result<Exp, Fail<SyntaxFault>>
         requires nests { Nests self.now.depth (E.pre self.now.exp) (E.post self.now.exp) (B.pre self.now.block) (B.post self.now.block) }
-        requires shallow { place.nesting ≤ 201 }
-        requires room { 404 ≤ self.now.depth + 2 * place.nesting }
-        requires binary { reading.rank precedence < 10 }
+        requires shallow { IsShallow place }
+        requires room { HasRoom for_operand self.now.depth place }
+        requires binary { precedence ≢ precedences.Unary }
         ensures { Reads (λ n. behind_at (readers n) place precedence first parser.old.words) parser.old result parser.new }
     {
-        if is_same(precedence, Precedence::Concat) {
+        if precedence == Precedence::Concat {
             self.concat_behind(parser, place, first)
         } else {
             let others = self.operations_behind(parser, place, precedence)?;
@@ -106,8 +111,8 @@ impl<
     /// `unop exp`, or an expression without operators of its own.
     fn operand(&self, parser: &mut Parser<'_>, place: Place) -> Result<Exp, Fail<SyntaxFault>>
         requires nests { Nests self.now.depth (E.pre self.now.exp) (E.post self.now.exp) (B.pre self.now.block) (B.post self.now.block) }
-        requires shallow { place.nesting ≤ 201 }
-        requires room { 404 ≤ self.now.depth + 2 * place.nesting }
+        requires shallow { IsShallow place }
+        requires room { HasRoom for_operand self.now.depth place }
         ensures { Reads (λ n. reading.read_operand (readers n) place (reading.sign_at parser.old.words) parser.old.words) parser.old result parser.new }
     {
         match parser.sign_at() {
@@ -124,13 +129,13 @@ impl<
         operator: UnaryOp,
     ) -> Result<Exp, Fail<SyntaxFault>>
         requires nests { Nests self.now.depth (E.pre self.now.exp) (E.post self.now.exp) (B.pre self.now.block) (B.post self.now.block) }
-        requires shallow { place.nesting ≤ 201 }
-        requires room { 404 ≤ self.now.depth + 2 * place.nesting }
+        requires shallow { IsShallow place }
+        requires room { HasRoom for_operand self.now.depth place }
         ensures { Reads (λ n. reading.read_operand (readers n) place (Some operator) parser.old.words) parser.old result parser.new }
     {
-        parser.taken(place)?;
-        let operand = self.exp(parser, within(place), Precedence::Unary)?;
-        Ok(Exp::Unary(operator, Boxed::new(self.alloc, operand)?))
+        parser.take_word(place)?;
+        let operand = self.boxed_exp(parser, within(place), Precedence::Unary)?;
+        Ok(Exp::Unary(operator, operand))
     }
 
     /// `[.. exp]`, behind this expression.
@@ -141,14 +146,14 @@ impl<
         left: Exp,
     ) -> Result<Exp, Fail<SyntaxFault>>
         requires nests { Nests self.now.depth (E.pre self.now.exp) (E.post self.now.exp) (B.pre self.now.block) (B.post self.now.block) }
-        requires shallow { place.nesting ≤ 201 }
-        requires room { 404 ≤ self.now.depth + 2 * place.nesting }
+        requires shallow { IsShallow place }
+        requires room { HasRoom for_operand self.now.depth place }
         ensures { Reads (λ n. reading.concat_behind (readers n) place left parser.old.words) parser.old result parser.new }
     {
         if !parser.begins(Terminal::DoubleDot) {
             return Ok(left);
         }
-        parser.taken(place)?;
+        parser.take_word(place)?;
         let right = self.exp(parser, within(place), Precedence::Concat)?;
         Ok(concat_of(self.alloc, left, right)?)
     }
@@ -161,15 +166,15 @@ impl<
         precedence: Precedence,
     ) -> Result<Items<Operation>, Fail<SyntaxFault>>
         requires nests { Nests self.now.depth (E.pre self.now.exp) (E.post self.now.exp) (B.pre self.now.block) (B.post self.now.block) }
-        requires shallow { place.nesting ≤ 201 }
-        requires room { 404 ≤ self.now.depth + 2 * place.nesting }
+        requires shallow { IsShallow place }
+        requires room { HasRoom for_operand self.now.depth place }
         ensures { Reads (λ n. (readers n).operations place precedence [] parser.old.words) parser.old result parser.new }
     {
         let mut operations = Items::new(self.alloc);
         while let Some(operator) = parser.operator_at(precedence) {
-            parser.taken(place)?;
+            parser.take_word(place)?;
             let operand = self.exp(parser, within(place), tighter(precedence))?;
-            operations.push(Operation { operator, operand })?;
+            push(self.alloc, &mut operations, Operation { operator, operand })?;
         }
         Ok(operations)
     }
@@ -177,8 +182,8 @@ impl<
     /// An expression without operators of its own.
     fn simple(&self, parser: &mut Parser<'_>, place: Place) -> Result<Exp, Fail<SyntaxFault>>
         requires nests { Nests self.now.depth (E.pre self.now.exp) (E.post self.now.exp) (B.pre self.now.block) (B.post self.now.block) }
-        requires shallow { place.nesting ≤ 201 }
-        requires room { 404 ≤ self.now.depth + 2 * place.nesting }
+        requires shallow { IsShallow place }
+        requires room { HasRoom for_operand self.now.depth place }
         ensures { Reads (λ n. reading.read_simple (readers n) place parser.old.words) parser.old result parser.new }
     {
         match parser.next() {
@@ -195,8 +200,8 @@ impl<
         begins: Terminal,
     ) -> Result<Exp, Fail<SyntaxFault>>
         requires nests { Nests self.now.depth (E.pre self.now.exp) (E.post self.now.exp) (B.pre self.now.block) (B.post self.now.block) }
-        requires shallow { place.nesting ≤ 201 }
-        requires room { 404 ≤ self.now.depth + 2 * place.nesting }
+        requires shallow { IsShallow place }
+        requires room { HasRoom for_operand self.now.depth place }
         requires begins { next_of parser.old.words ≡ Some begins }
         ensures { Reads (λ n. reading.simple_at (readers n) place begins parser.old.words) parser.old result parser.new }
     {
@@ -217,11 +222,11 @@ impl<
     /// `function body`
     fn function_exp(&self, parser: &mut Parser<'_>, place: Place) -> Result<Exp, Fail<SyntaxFault>>
         requires nests { Nests self.now.depth (E.pre self.now.exp) (E.post self.now.exp) (B.pre self.now.block) (B.post self.now.block) }
-        requires shallow { place.nesting ≤ 201 }
-        requires room { 404 ≤ self.now.depth + 2 * place.nesting }
+        requires shallow { IsShallow place }
+        requires room { HasRoom for_operand self.now.depth place }
         ensures { Reads (λ n. reading.simple_at (readers n) place terminal.Function parser.old.words) parser.old result parser.new }
     {
-        parser.taken(place)?;
+        parser.take_word(place)?;
         let body = self.body(parser, within(place))?;
         Ok(Exp::Function(body))
     }
@@ -229,8 +234,8 @@ impl<
     /// A table.
     fn table_exp(&self, parser: &mut Parser<'_>, place: Place) -> Result<Exp, Fail<SyntaxFault>>
         requires nests { Nests self.now.depth (E.pre self.now.exp) (E.post self.now.exp) (B.pre self.now.block) (B.post self.now.block) }
-        requires shallow { place.nesting ≤ 201 }
-        requires room { 404 ≤ self.now.depth + 2 * place.nesting }
+        requires shallow { IsShallow place }
+        requires room { HasRoom for_operand self.now.depth place }
         ensures { Reads (λ n. reading.simple_at (readers n) place terminal.LeftBrace parser.old.words) parser.old result parser.new }
     {
         let fields = self.table(parser, within(place))?;
@@ -240,8 +245,8 @@ impl<
     /// A variable, a call or a parenthesized expression.
     fn prefix_exp(&self, parser: &mut Parser<'_>, place: Place) -> Result<Exp, Fail<SyntaxFault>>
         requires nests { Nests self.now.depth (E.pre self.now.exp) (E.post self.now.exp) (B.pre self.now.block) (B.post self.now.block) }
-        requires shallow { place.nesting ≤ 201 }
-        requires room { 404 ≤ self.now.depth + 2 * place.nesting }
+        requires shallow { IsShallow place }
+        requires room { HasRoom for_operand self.now.depth place }
         ensures { Reads (λ n. reading.simple_at (readers n) place terminal.Name parser.old.words) parser.old result parser.new }
     {
         let found = self.prefix(parser, place)?;
@@ -256,8 +261,8 @@ impl<
         place: Place,
     ) -> Result<Items<Exp>, Fail<SyntaxFault>>
         requires nests { Nests self.now.depth (E.pre self.now.exp) (E.post self.now.exp) (B.pre self.now.block) (B.post self.now.block) }
-        requires shallow { place.nesting ≤ 201 }
-        requires room { 405 ≤ self.now.depth + 2 * place.nesting }
+        requires shallow { IsShallow place }
+        requires room { HasRoom for_exp self.now.depth place }
         ensures { Reads (λ n. reading.read_exps (readers n) place parser.old.words) parser.old result parser.new }
     {
         let first = self.exp(parser, place, Precedence::Or)?;
@@ -272,15 +277,19 @@ impl<
         first: Exp,
     ) -> Result<Items<Exp>, Fail<SyntaxFault>>
         requires nests { Nests self.now.depth (E.pre self.now.exp) (E.post self.now.exp) (B.pre self.now.block) (B.post self.now.block) }
-        requires shallow { place.nesting ≤ 201 }
-        requires room { 405 ≤ self.now.depth + 2 * place.nesting }
+        requires shallow { IsShallow place }
+        requires room { HasRoom for_exp self.now.depth place }
         ensures { Reads (λ n. (readers n).exps place (first ∷ []) parser.old.words) parser.old result parser.new }
     {
         let mut exps = Items::new(self.alloc);
-        exps.push(first)?;
+        push(self.alloc, &mut exps, first)?;
         while parser.begins(Terminal::Comma) {
-            parser.taken(place)?;
-            exps.push(self.exp(parser, place, Precedence::Or)?)?;
+            parser.take_word(place)?;
+            push(
+                self.alloc,
+                &mut exps,
+                self.exp(parser, place, Precedence::Or)?,
+            )?;
         }
         Ok(exps)
     }
@@ -291,15 +300,15 @@ impl<
         &self,
         parser: &mut Parser<'_>,
         place: Place,
-    ) -> Result<FunctionBody, Fail<SyntaxFault>>
+    ) -> Result<Boxed<FunctionBody>, Fail<SyntaxFault>>
         requires nests { Nests self.now.depth (E.pre self.now.exp) (E.post self.now.exp) (B.pre self.now.block) (B.post self.now.block) }
-        requires shallow { place.nesting ≤ 202 }
-        requires room { 405 ≤ self.now.depth + 2 * place.nesting }
+        requires shallow { IsShallowPart place }
+        requires room { HasRoom for_exp self.now.depth place }
         ensures { Reads (λ n. reading.read_body (readers n) place parser.old.words) parser.old result parser.new }
     {
         let parameters = parameters(self.alloc, parser, within(place))?;
         let block = self.block(parser, within_function(place))?;
-        parser.expected(place, Terminal::End)?;
-        Ok(FunctionBody { parameters, block })
+        parser.expect_word(place, Terminal::End)?;
+        Ok(Boxed::new(self.alloc, FunctionBody { parameters, block })?)
     }
 }

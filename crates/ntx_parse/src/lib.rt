@@ -11,6 +11,8 @@
 mod bindings;
 mod blocks;
 mod expressions;
+mod laws;
+mod list;
 mod loops;
 mod names;
 mod operator;
@@ -21,17 +23,18 @@ mod precedence;
 mod prefixes;
 mod rules;
 mod script;
+mod starts;
 mod statements;
 mod tables;
-mod terminal;
 mod word;
 
+pub use laws::{
+    each_script_is_decided, refused_scripts_have_no_tree, scripts_have_one_fault,
+    scripts_have_one_tree,
+};
 pub use place::Place;
 pub use precedence::Precedence;
-pub use script::{
-    parse, refused_scripts_have_no_tree, scripts_have_one_fault, scripts_have_one_tree,
-};
-pub use terminal::Terminal;
+pub use script::parse;
 
 #[cfg(test)]
 mod tests;

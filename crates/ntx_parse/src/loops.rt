@@ -1,19 +1,20 @@
 //! Loops.
 
 ghost use Rattle.std.specs.Prelude.{◌≡◌, ◌≤◌, ◌<◌, ◌+◌, ◌*◌, length, [], ◌∷◌, Some, OnOk};
-ghost use Rattle.ntx_parse.specs.Nests.{Nests};
-ghost use Rattle.ntx_parse.specs.Reading as reading;
-ghost use Rattle.ntx_parse.specs.Reading.{readers};
-ghost use Rattle.ntx_parse.specs.Reads.{Reads};
+ghost use Rattle.ntx_parse.specs.inner.Nests.{Nests};
+ghost use Rattle.ntx_parse.specs.inner.Reading as reading;
+ghost use Rattle.ntx_parse.specs.inner.Reading.{readers};
+ghost use Rattle.ntx_parse.specs.inner.Reads.{Reads};
+ghost use Rattle.ntx_parse.specs.inner.Room.{IsShallow, HasRoom, for_exp};
 
 use crate::names::names_behind;
 use crate::parser::Parser;
 use crate::place::{Place, within_loop};
 use crate::precedence::Precedence;
 use crate::rules::Rules;
-use crate::terminal::Terminal;
 use ntx_num::Fail;
-use ntx_syntax::{Block, Exp, LocalName, StatKind, SyntaxFault};
+use ntx_syntax::{Block, Exp, LocalName, StatKind, SyntaxFault, Terminal};
+use sqlite_items::Boxed;
 use std::alloc::Global;
 
 impl<
@@ -27,13 +28,13 @@ impl<
         place: Place,
     ) -> Result<StatKind, Fail<SyntaxFault>>
         requires nests { Nests self.now.depth (E.pre self.now.exp) (E.post self.now.exp) (B.pre self.now.block) (B.post self.now.block) }
-        requires shallow { place.nesting ≤ 201 }
-        requires room { 405 ≤ self.now.depth + 2 * place.nesting }
+        requires shallow { IsShallow place }
+        requires room { HasRoom for_exp self.now.depth place }
         ensures reads { Reads (λ n. reading.read_while (readers n) place parser.old.words) parser.old result parser.new }
         ensures shorter { OnOk result (length parser.new.words < length parser.old.words) }
     {
-        parser.taken(place)?;
-        let condition = self.exp(parser, place, Precedence::Or)?;
+        parser.take_word(place)?;
+        let condition = self.boxed_exp(parser, place, Precedence::Or)?;
         let body = self.loop_body(parser, place)?;
         Ok(StatKind::While(condition, body))
     }
@@ -45,15 +46,15 @@ impl<
         place: Place,
     ) -> Result<StatKind, Fail<SyntaxFault>>
         requires nests { Nests self.now.depth (E.pre self.now.exp) (E.post self.now.exp) (B.pre self.now.block) (B.post self.now.block) }
-        requires shallow { place.nesting ≤ 201 }
-        requires room { 405 ≤ self.now.depth + 2 * place.nesting }
+        requires shallow { IsShallow place }
+        requires room { HasRoom for_exp self.now.depth place }
         ensures reads { Reads (λ n. reading.read_repeat (readers n) place parser.old.words) parser.old result parser.new }
         ensures shorter { OnOk result (length parser.new.words < length parser.old.words) }
     {
-        parser.taken(place)?;
-        let body = self.block(parser, within_loop(place))?;
-        parser.expected(place, Terminal::Until)?;
-        let condition = self.exp(parser, place, Precedence::Or)?;
+        parser.take_word(place)?;
+        let body = self.boxed_block(parser, within_loop(place))?;
+        parser.expect_word(place, Terminal::Until)?;
+        let condition = self.boxed_exp(parser, place, Precedence::Or)?;
         Ok(StatKind::Repeat(body, condition))
     }
 
@@ -64,12 +65,12 @@ impl<
         place: Place,
     ) -> Result<StatKind, Fail<SyntaxFault>>
         requires nests { Nests self.now.depth (E.pre self.now.exp) (E.post self.now.exp) (B.pre self.now.block) (B.post self.now.block) }
-        requires shallow { place.nesting ≤ 201 }
-        requires room { 405 ≤ self.now.depth + 2 * place.nesting }
+        requires shallow { IsShallow place }
+        requires room { HasRoom for_exp self.now.depth place }
         ensures reads { Reads (λ n. reading.read_for (readers n) place parser.old.words) parser.old result parser.new }
         ensures shorter { OnOk result (length parser.new.words < length parser.old.words) }
     {
-        parser.taken(place)?;
+        parser.take_word(place)?;
         let name = parser.local_name(self.alloc, place)?;
         if parser.begins(Terminal::Assign) {
             self.numeric_for_behind(parser, place, name)
@@ -86,16 +87,17 @@ impl<
         name: LocalName,
     ) -> Result<StatKind, Fail<SyntaxFault>>
         requires nests { Nests self.now.depth (E.pre self.now.exp) (E.post self.now.exp) (B.pre self.now.block) (B.post self.now.block) }
-        requires shallow { place.nesting ≤ 201 }
-        requires room { 405 ≤ self.now.depth + 2 * place.nesting }
+        requires shallow { IsShallow place }
+        requires room { HasRoom for_exp self.now.depth place }
         ensures { Reads (λ n. reading.numeric_for_behind (readers n) place name parser.old.words) parser.old result parser.new }
     {
-        parser.taken(place)?;
-        let first = self.exp(parser, place, Precedence::Or)?;
-        parser.expected(place, Terminal::Comma)?;
-        let limit = self.exp(parser, place, Precedence::Or)?;
+        parser.take_word(place)?;
+        let first = self.boxed_exp(parser, place, Precedence::Or)?;
+        parser.expect_word(place, Terminal::Comma)?;
+        let limit = self.boxed_exp(parser, place, Precedence::Or)?;
         let step = self.step_behind(parser, place)?;
         let body = self.loop_body(parser, place)?;
+        let name = Boxed::new(self.alloc, name)?;
         Ok(StatKind::NumericFor(name, first, limit, step, body))
     }
 
@@ -104,17 +106,17 @@ impl<
         &self,
         parser: &mut Parser<'_>,
         place: Place,
-    ) -> Result<Option<Exp>, Fail<SyntaxFault>>
+    ) -> Result<Option<Boxed<Exp>>, Fail<SyntaxFault>>
         requires nests { Nests self.now.depth (E.pre self.now.exp) (E.post self.now.exp) (B.pre self.now.block) (B.post self.now.block) }
-        requires shallow { place.nesting ≤ 201 }
-        requires room { 405 ≤ self.now.depth + 2 * place.nesting }
+        requires shallow { IsShallow place }
+        requires room { HasRoom for_exp self.now.depth place }
         ensures { Reads (λ n. reading.step_behind (readers n) place parser.old.words) parser.old result parser.new }
     {
         if !parser.begins(Terminal::Comma) {
             return Ok(None);
         }
-        parser.taken(place)?;
-        let value = self.exp(parser, place, Precedence::Or)?;
+        parser.take_word(place)?;
+        let value = self.boxed_exp(parser, place, Precedence::Or)?;
         Ok(Some(value))
     }
 
@@ -126,12 +128,12 @@ impl<
         first: LocalName,
     ) -> Result<StatKind, Fail<SyntaxFault>>
         requires nests { Nests self.now.depth (E.pre self.now.exp) (E.post self.now.exp) (B.pre self.now.block) (B.post self.now.block) }
-        requires shallow { place.nesting ≤ 201 }
-        requires room { 405 ≤ self.now.depth + 2 * place.nesting }
+        requires shallow { IsShallow place }
+        requires room { HasRoom for_exp self.now.depth place }
         ensures { Reads (λ n. reading.generic_for_behind (readers n) place first parser.old.words) parser.old result parser.new }
     {
         let names = names_behind(self.alloc, parser, place, first)?;
-        parser.expected(place, Terminal::In)?;
+        parser.expect_word(place, Terminal::In)?;
         let values = self.exps(parser, place)?;
         let body = self.loop_body(parser, place)?;
         Ok(StatKind::GenericFor(names, values, body))

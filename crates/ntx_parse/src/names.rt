@@ -1,15 +1,15 @@
 //! Lists of names.
 
 ghost use Rattle.std.specs.Prelude.{◌≤◌, ◌<◌, length, [], ◌∷◌, OnOk};
-ghost use Rattle.ntx_parse.specs.Reading as reading;
-ghost use Rattle.ntx_parse.specs.Reading.{readers};
-ghost use Rattle.ntx_parse.specs.Reads.{Reads};
+ghost use Rattle.ntx_parse.specs.inner.Reading as reading;
+ghost use Rattle.ntx_parse.specs.inner.Reading.{readers};
+ghost use Rattle.ntx_parse.specs.inner.Reads.{Reads};
 
+use crate::list::push;
 use crate::parser::Parser;
 use crate::place::Place;
-use crate::terminal::Terminal;
 use ntx_num::Fail;
-use ntx_syntax::{LocalName, Name, SyntaxFault};
+use ntx_syntax::{LocalName, Name, SyntaxFault, Terminal};
 use sqlite_items::Items;
 use std::alloc::Global;
 
@@ -23,8 +23,8 @@ pub fn path(
 {
     let mut names = Items::new(alloc);
     while parser.begins(Terminal::Dot) {
-        parser.taken(place)?;
-        names.push(parser.name(alloc, place)?)?;
+        parser.take_word(place)?;
+        push(alloc, &mut names, parser.name(alloc, place)?)?;
     }
     Ok(names)
 }
@@ -51,10 +51,10 @@ pub fn names_behind(
     ensures { Reads (λ n. (readers n).names place (first ∷ []) parser.old.words) parser.old result parser.new }
 {
     let mut names = Items::new(alloc);
-    names.push(first)?;
+    push(alloc, &mut names, first)?;
     while parser.begins(Terminal::Comma) {
-        parser.taken(place)?;
-        names.push(parser.local_name(alloc, place)?)?;
+        parser.take_word(place)?;
+        push(alloc, &mut names, parser.local_name(alloc, place)?)?;
     }
     Ok(names)
 }
@@ -68,12 +68,12 @@ pub fn parameters(
     ensures reads { Reads (λ n. reading.read_parameters (readers n) place parser.old.words) parser.old result parser.new }
     ensures within { OnOk result (place.nesting ≤ 200) }
 {
-    parser.expected(place, Terminal::LeftParenthesis)?;
+    parser.expect_word(place, Terminal::LeftParenthesis)?;
     if parser.begins(Terminal::RightParenthesis) {
-        parser.taken(place)?;
+        parser.take_word(place)?;
         return Ok(Items::new(alloc));
     }
     let names = names(alloc, parser, place)?;
-    parser.expected(place, Terminal::RightParenthesis)?;
+    parser.expect_word(place, Terminal::RightParenthesis)?;
     Ok(names)
 }

@@ -2,11 +2,10 @@
 
 ghost use Rattle.std.specs.Prelude.{◌≡◌};
 ghost use Rattle.ntx_parse.specs.Grammar as grammar;
-ghost use Rattle.ntx_parse.specs.Reading as reading;
+ghost use Rattle.ntx_parse.specs.inner.Reading as reading;
 
 use crate::precedence::Precedence;
-use crate::terminal::Terminal;
-use ntx_syntax::{BinaryOp, UnaryOp};
+use ntx_syntax::{BinaryOp, Terminal, UnaryOp};
 
 /// The operator between two operands that this is, if it is one.
 pub fn binary_of(terminal: Terminal) -> Option<BinaryOp>

@@ -3,21 +3,22 @@
 ghost use Rattle.std.specs.Prelude.{◌≡◌, ◌<◌, ◌≤◌, ◌||◌, length, map, IfOk, OnOk, IsTrue, ◌↔◌, [], Some};
 ghost use Rattle.ntx_num.specs.Answer.{result_map};
 ghost use Rattle.ntx_num.specs.declared.answer.Fail.TheVariants.{Is};
-ghost use Rattle.ntx_parse.specs.declared.terminal.Terminal.TheVariants as terminal;
+ghost use Rattle.ntx_syntax.specs.declared.terminal.Terminal.TheVariants as terminal;
 ghost use Rattle.ntx_syntax.specs.Values.{numeral_value, text_value};
 ghost use Rattle.ntx_syntax.specs.declared.tree.Exp.TheVariants as exp;
-ghost use Rattle.ntx_parse.specs.Reading as reading;
-ghost use Rattle.ntx_parse.specs.Input as input;
-ghost use Rattle.ntx_parse.specs.Reads.{Reads};
+ghost use Rattle.ntx_parse.specs.inner.Reading as reading;
+ghost use Rattle.ntx_parse.specs.inner.Input as input;
+ghost use Rattle.ntx_parse.specs.inner.Reads.{Reads};
 
 use crate::operator::{binary_of, precedence_of, unary_of};
 use crate::place::Place;
-use crate::precedence::{Precedence, is_same};
-use crate::terminal::{Terminal, begins_statement, ends_return, same};
+use crate::precedence::Precedence;
+use crate::starts::{begins_statement, ends_return};
 use crate::word::Word;
 use ntx_num::Fail;
 use ntx_syntax::{
-    BinaryOp, Exp, LocalName, Name, SyntaxFault, SyntaxWhy, UnaryOp, numeral_value, text_value,
+    BinaryOp, Exp, LocalName, Name, SyntaxFault, SyntaxWhy, Terminal, UnaryOp, numeral_value,
+    text_value,
 };
 use sqlite_items::Items;
 use std::alloc::Global;
@@ -36,11 +37,11 @@ pub struct Parser<'a> {
 }
 
 impl<'a> Model for Parser<'a> {
-    ghost use Rattle.ntx_parse.specs.Input.{Input};
+    ghost use Rattle.ntx_parse.specs.inner.Input.{Input};
 
     ghost Value = { Input };
 
-    ghost use Rattle.ntx_parse.specs.Cursor.{input_of, IsReady};
+    ghost use Rattle.ntx_parse.specs.inner.Cursor.{input_of, IsReady};
 
     ghost view = { input_of };
 
@@ -82,7 +83,7 @@ impl<'a> Parser<'a> {
     {
         match self.rest {
             [] => false,
-            [word, ..] => same(word.is, terminal),
+            [word, ..] => word.is == terminal,
         }
     }
 
@@ -91,9 +92,7 @@ impl<'a> Parser<'a> {
         ensures { result ≡ reading.names_a_field self.now.words }
     {
         match self.rest {
-            [first, second, ..] => {
-                same(first.is, Terminal::Name) && same(second.is, Terminal::Assign)
-            }
+            [first, second, ..] => { first.is == Terminal::Name && second.is == Terminal::Assign }
             _ => false,
         }
     }
@@ -103,7 +102,7 @@ impl<'a> Parser<'a> {
         ensures { result ≡ reading.operator_at precedence self.now.words }
     {
         let operator = binary_of(self.next()?)?;
-        if is_same(precedence_of(operator), precedence) {
+        if precedence_of(operator) == precedence {
             Some(operator)
         } else {
             None
@@ -181,8 +180,8 @@ impl<'a> Parser<'a> {
 
     /// Takes the next word, which stands here. It is refused where there is none (Expected) or where it lies too deep
     /// (Depth).
-    pub fn taken(&mut self, place: Place) -> Result<Word<'a>, Fail<SyntaxFault>>
-        ensures reads { Reads (λ _. reading.taken place self.old.words) self.old (result_map input.seen result) self.new }
+    pub fn take_word(&mut self, place: Place) -> Result<Word<'a>, Fail<SyntaxFault>>
+        ensures reads { Reads (λ _. reading.take_word place self.old.words) self.old (result_map input.seen result) self.new }
         ensures shorter { OnOk result (length self.new.words < length self.old.words) }
         ensures within { OnOk result (place.nesting ≤ 200) }
     {
@@ -199,17 +198,17 @@ impl<'a> Parser<'a> {
     }
 
     /// Takes the next word, which is to be this and stands here. Another is refused (Expected).
-    pub fn expected(
+    pub fn expect_word(
         &mut self,
         place: Place,
         terminal: Terminal,
     ) -> Result<Word<'a>, Fail<SyntaxFault>>
-        ensures reads { Reads (λ _. reading.expected place terminal self.old.words) self.old (result_map input.seen result) self.new }
+        ensures reads { Reads (λ _. reading.expect_word place terminal self.old.words) self.old (result_map input.seen result) self.new }
         ensures shorter { OnOk result (length self.new.words < length self.old.words) }
         ensures within { OnOk result (place.nesting ≤ 200) }
     {
         if self.begins(terminal) {
-            self.taken(place)
+            self.take_word(place)
         } else {
             Err(self.fault(SyntaxWhy::Expected))
         }
@@ -221,7 +220,7 @@ impl<'a> Parser<'a> {
         ensures shorter { OnOk result (length self.new.words < length self.old.words) }
         ensures within { OnOk result (place.nesting ≤ 200) }
     {
-        let word = self.expected(place, Terminal::Name)?;
+        let word = self.expect_word(place, Terminal::Name)?;
         Ok(Items::from_slice(alloc, word.spelled)?)
     }
 
@@ -235,7 +234,7 @@ impl<'a> Parser<'a> {
         ensures shorter { OnOk result (length self.new.words < length self.old.words) }
         ensures within { OnOk result (place.nesting ≤ 200) }
     {
-        let word = self.expected(place, Terminal::Name)?;
+        let word = self.expect_word(place, Terminal::Name)?;
         let name = Items::from_slice(alloc, word.spelled)?;
         Ok(LocalName {
             name,
@@ -246,22 +245,22 @@ impl<'a> Parser<'a> {
     /// Takes a numeral, which comes next.
     pub fn numeral(&mut self, place: Place) -> Result<Exp, Fail<SyntaxFault>>
         requires { input.next_of self.old.words ≡ Some terminal.Numeral }
-        ensures { Reads (λ _. reading.and_then (reading.taken place self.old.words) (λ o rest. reading.read_value exp.Numeral (numeral_value o.spelled) self.old.words rest)) self.old result self.new }
+        ensures { Reads (λ _. reading.and_then (reading.take_word place self.old.words) (λ o rest. reading.read_value exp.Numeral (numeral_value o.spelled) self.old.words rest)) self.old result self.new }
     {
         // The words that are left, as the proof sees them.
         let _ = &self.rest;
-        let word = self.taken(place)?;
+        let word = self.take_word(place)?;
         Ok(Exp::Numeral(numeral_value(word.spelled)))
     }
 
     /// Takes a text, which comes next.
     pub fn text(&mut self, alloc: Global, place: Place) -> Result<Exp, Fail<SyntaxFault>>
         requires { input.next_of self.old.words ≡ Some terminal.Text }
-        ensures { Reads (λ _. reading.and_then (reading.taken place self.old.words) (λ o rest. reading.read_value exp.Text (text_value o.spelled) self.old.words rest)) self.old result self.new }
+        ensures { Reads (λ _. reading.and_then (reading.take_word place self.old.words) (λ o rest. reading.read_value exp.Text (text_value o.spelled) self.old.words rest)) self.old result self.new }
     {
         // The words that are left, as the proof sees them.
         let _ = &self.rest;
-        let word = self.taken(place)?;
+        let word = self.take_word(place)?;
         let value = text_value(alloc, word.spelled)?;
         Ok(Exp::Text(Items::from_vec(value)))
     }

@@ -2,9 +2,10 @@
 
 ghost use Rattle.std.specs.Prelude.{◌≡◌, IfOk};
 ghost use Rattle.ntx_parse.specs.Grammar as grammar;
-ghost use Rattle.ntx_parse.specs.Reading as reading;
-ghost use Rattle.ntx_parse.specs.Steps as steps;
+ghost use Rattle.ntx_parse.specs.inner.Reading as reading;
+ghost use Rattle.ntx_parse.specs.inner.Steps as steps;
 
+use crate::list::push;
 use ntx_syntax::{Exp, Head, Name, Prefix, Suffix, Var};
 use sqlite_items::{Boxed, Items};
 use std::alloc::{AllocError, Global};
@@ -15,9 +16,9 @@ pub enum Part {
     /// `Name`
     Name(Name),
     /// `( exp )`
-    Parenthesized(Exp),
+    Parenthesized(Boxed<Exp>),
     /// `prefix [ exp ]`
-    Index(Prefix, Exp),
+    Index(Prefix, Boxed<Exp>),
     /// `prefix . Name`
     Field(Prefix, Name),
     /// `prefix ( [explist] )`
@@ -28,7 +29,7 @@ pub enum Part {
 #[derive(Drop)]
 pub enum Tail {
     /// `[ exp ]`
-    Index(Exp),
+    Index(Boxed<Exp>),
     /// `. Name`
     Field(Name),
     /// `( [explist] )`
@@ -48,11 +49,11 @@ pub fn extended(alloc: Global, before: Part, tail: Tail) -> Result<Part, AllocEr
 }
 
 /// A prefix, and one more suffix behind it.
-fn with_suffix(prefix: Prefix, suffix: Suffix) -> Result<Prefix, AllocError>
+fn with_suffix(alloc: Global, prefix: Prefix, suffix: Suffix) -> Result<Prefix, AllocError>
     ensures { IfOk result (λ p. p ≡ grammar.with_suffix prefix suffix) }
 {
     let Prefix { head, mut suffixes } = prefix;
-    suffixes.push(suffix)?;
+    push(alloc, &mut suffixes, suffix)?;
     Ok(Prefix { head, suffixes })
 }
 
@@ -66,23 +67,23 @@ pub fn joined(alloc: Global, part: Part) -> Result<Prefix, AllocError>
             suffixes: Items::new(alloc),
         }),
         Part::Parenthesized(exp) => Ok(Prefix {
-            head: Head::Parenthesized(Boxed::new(alloc, exp)?),
+            head: Head::Parenthesized(exp),
             suffixes: Items::new(alloc),
         }),
-        Part::Index(before, key) => with_suffix(before, Suffix::Index(key)),
-        Part::Field(before, name) => with_suffix(before, Suffix::Field(name)),
-        Part::Call(before, arguments) => with_suffix(before, Suffix::Call(arguments)),
+        Part::Index(before, key) => with_suffix(alloc, before, Suffix::Index(key)),
+        Part::Field(before, name) => with_suffix(alloc, before, Suffix::Field(name)),
+        Part::Call(before, arguments) => with_suffix(alloc, before, Suffix::Call(arguments)),
     }
 }
 
 /// What can be assigned to, if the prefix is that.
-pub fn var_of(part: Part) -> Option<Var>
-    ensures { result ≡ reading.var_of part }
+pub fn var_of(alloc: Global, part: Part) -> Result<Option<Var>, AllocError>
+    ensures { IfOk result (λ var. var ≡ reading.var_of part) }
 {
     match part {
-        Part::Name(name) => Some(Var::Name(name)),
-        Part::Index(before, key) => Some(Var::Index(before, key)),
-        Part::Field(before, name) => Some(Var::Field(before, name)),
-        Part::Parenthesized(_) | Part::Call(_, _) => None,
+        Part::Name(name) => Ok(Some(Var::Name(name))),
+        Part::Index(before, key) => Ok(Some(Var::Index(Boxed::new(alloc, before)?, key))),
+        Part::Field(before, name) => Ok(Some(Var::Field(Boxed::new(alloc, before)?, name))),
+        Part::Parenthesized(_) | Part::Call(_, _) => Ok(None),
     }
 }

@@ -1,8 +1,8 @@
 //! Which operators bind tighter than others.
 
-ghost use Rattle.std.specs.Prelude.{◌≡◌, ◌+◌, ◌<◌, nat_eq};
+ghost use Rattle.std.specs.Prelude.{◌≡◌, ◌≢◌};
 ghost use Rattle.ntx_parse.specs.Grammar as grammar;
-ghost use Rattle.ntx_parse.specs.Reading as reading;
+ghost use Rattle.ntx_parse.specs.declared.precedence.Precedence.TheVariants as variant;
 
 /// The precedence of operators (Lua 5.3 Reference Manual, section 3.4.8), from the one that binds least.
 #[derive(Clone, Copy, Debug, PartialEq, Eq)]
@@ -51,9 +51,9 @@ pub fn tighter(precedence: Precedence) -> Precedence
 
 /// The next looser precedence.
 pub fn looser(precedence: Precedence) -> Precedence
-    requires { 0 < reading.rank precedence }
+    requires { precedence ≢ variant.Or }
     ensures tighter { grammar.tighter result ≡ precedence }
-    ensures rank { reading.rank result + 1 ≡ reading.rank precedence }
+    ensures binary { result ≢ variant.Unary }
 {
     match precedence {
         Precedence::Or => unreachable!(),
@@ -68,18 +68,4 @@ pub fn looser(precedence: Precedence) -> Precedence
         Precedence::Multiplicative => Precedence::Additive,
         Precedence::Unary => Precedence::Multiplicative,
     }
-}
-
-/// The number of a precedence, from the one that binds least.
-fn rank(precedence: Precedence) -> u8
-    ensures { result ≡ reading.rank precedence }
-{
-    precedence as u8
-}
-
-/// Whether both are the same.
-pub fn is_same(left: Precedence, right: Precedence) -> bool
-    ensures { result ≡ nat_eq (reading.rank left) (reading.rank right) }
-{
-    rank(left) == rank(right)
 }

@@ -1,21 +1,21 @@
 //! Variables, calls and parenthesized expressions.
 
 ghost use Rattle.std.specs.Prelude.{◌≡◌, ◌≤◌, ◌<◌, ◌+◌, ◌*◌, length, [], ◌∷◌, Some, OnOk};
-ghost use Rattle.ntx_parse.specs.Nests.{Nests};
-ghost use Rattle.ntx_parse.specs.Reading as reading;
-ghost use Rattle.ntx_parse.specs.Reading.{readers};
-ghost use Rattle.ntx_parse.specs.Reads.{Reads};
-ghost use Rattle.ntx_parse.specs.Steps.{tail_at};
+ghost use Rattle.ntx_parse.specs.inner.Nests.{Nests};
+ghost use Rattle.ntx_parse.specs.inner.Reading as reading;
+ghost use Rattle.ntx_parse.specs.inner.Reading.{readers};
+ghost use Rattle.ntx_parse.specs.inner.Reads.{Reads};
+ghost use Rattle.ntx_parse.specs.inner.Room.{IsShallow, IsShallowPart, HasRoom, for_operand, for_exp};
+ghost use Rattle.ntx_parse.specs.inner.Steps.{tail_at};
 
 use crate::parser::Parser;
 use crate::part::{Part, Tail, extended};
 use crate::place::{Place, within};
 use crate::precedence::Precedence;
 use crate::rules::Rules;
-use crate::terminal::Terminal;
 use ntx_num::Fail;
-use ntx_syntax::{Block, Exp, SyntaxFault};
-use sqlite_items::Items;
+use ntx_syntax::{Block, Exp, SyntaxFault, Terminal};
+use sqlite_items::{Boxed, Items};
 use std::alloc::Global;
 
 impl<
@@ -25,8 +25,8 @@ impl<
     /// A name or a parenthesized expression, and all suffixes behind it.
     pub fn prefix(&self, parser: &mut Parser<'_>, place: Place) -> Result<Part, Fail<SyntaxFault>>
         requires nests { Nests self.now.depth (E.pre self.now.exp) (E.post self.now.exp) (B.pre self.now.block) (B.post self.now.block) }
-        requires shallow { place.nesting ≤ 201 }
-        requires room { 404 ≤ self.now.depth + 2 * place.nesting }
+        requires shallow { IsShallow place }
+        requires room { HasRoom for_operand self.now.depth place }
         ensures reads { Reads (λ n. reading.read_prefix (readers n) place parser.old.words) parser.old result parser.new }
         ensures shorter { OnOk result (length parser.new.words < length parser.old.words) }
     {
@@ -40,16 +40,20 @@ impl<
     }
 
     /// `( exp )`, at the place of the parentheses.
-    fn parenthesized(&self, parser: &mut Parser<'_>, place: Place) -> Result<Exp, Fail<SyntaxFault>>
+    fn parenthesized(
+        &self,
+        parser: &mut Parser<'_>,
+        place: Place,
+    ) -> Result<Boxed<Exp>, Fail<SyntaxFault>>
         requires nests { Nests self.now.depth (E.pre self.now.exp) (E.post self.now.exp) (B.pre self.now.block) (B.post self.now.block) }
-        requires shallow { place.nesting ≤ 202 }
-        requires room { 405 ≤ self.now.depth + 2 * place.nesting }
+        requires shallow { IsShallowPart place }
+        requires room { HasRoom for_exp self.now.depth place }
         ensures reads { Reads (λ n. reading.read_parenthesized (readers n) place parser.old.words) parser.old result parser.new }
         ensures shorter { OnOk result (length parser.new.words < length parser.old.words) }
     {
-        parser.expected(place, Terminal::LeftParenthesis)?;
-        let exp = self.exp(parser, place, Precedence::Or)?;
-        parser.expected(place, Terminal::RightParenthesis)?;
+        parser.expect_word(place, Terminal::LeftParenthesis)?;
+        let exp = self.boxed_exp(parser, place, Precedence::Or)?;
+        parser.expect_word(place, Terminal::RightParenthesis)?;
         Ok(exp)
     }
 
@@ -61,8 +65,8 @@ impl<
         first: Part,
     ) -> Result<Part, Fail<SyntaxFault>>
         requires nests { Nests self.now.depth (E.pre self.now.exp) (E.post self.now.exp) (B.pre self.now.block) (B.post self.now.block) }
-        requires shallow { place.nesting ≤ 201 }
-        requires room { 404 ≤ self.now.depth + 2 * place.nesting }
+        requires shallow { IsShallow place }
+        requires room { HasRoom for_operand self.now.depth place }
         ensures { Reads (λ n. (readers n).suffixes place first parser.old.words) parser.old result parser.new }
     {
         let mut before = first;
@@ -76,8 +80,8 @@ impl<
     /// `[ exp ]`, `. Name` or `( [explist] )`
     fn tail(&self, parser: &mut Parser<'_>, place: Place) -> Result<Tail, Fail<SyntaxFault>>
         requires nests { Nests self.now.depth (E.pre self.now.exp) (E.post self.now.exp) (B.pre self.now.block) (B.post self.now.block) }
-        requires shallow { place.nesting ≤ 201 }
-        requires room { 404 ≤ self.now.depth + 2 * place.nesting }
+        requires shallow { IsShallow place }
+        requires room { HasRoom for_operand self.now.depth place }
         ensures reads { Reads (λ n. tail_at (readers n) place parser.old.words) parser.old result parser.new }
         ensures shorter { OnOk result (length parser.new.words < length parser.old.words) }
     {
@@ -85,7 +89,7 @@ impl<
             let key = self.index(parser, within(place))?;
             Ok(Tail::Index(key))
         } else if parser.begins(Terminal::Dot) {
-            parser.taken(place)?;
+            parser.take_word(place)?;
             let name = parser.name(self.alloc, place)?;
             Ok(Tail::Field(name))
         } else {
@@ -95,16 +99,20 @@ impl<
     }
 
     /// `[ exp ]`, at the place of the brackets.
-    pub fn index(&self, parser: &mut Parser<'_>, place: Place) -> Result<Exp, Fail<SyntaxFault>>
+    pub fn index(
+        &self,
+        parser: &mut Parser<'_>,
+        place: Place,
+    ) -> Result<Boxed<Exp>, Fail<SyntaxFault>>
         requires nests { Nests self.now.depth (E.pre self.now.exp) (E.post self.now.exp) (B.pre self.now.block) (B.post self.now.block) }
-        requires shallow { place.nesting ≤ 202 }
-        requires room { 405 ≤ self.now.depth + 2 * place.nesting }
+        requires shallow { IsShallowPart place }
+        requires room { HasRoom for_exp self.now.depth place }
         ensures reads { Reads (λ n. reading.read_index (readers n) place parser.old.words) parser.old result parser.new }
         ensures shorter { OnOk result (length parser.new.words < length parser.old.words) }
     {
-        parser.expected(place, Terminal::LeftBracket)?;
-        let key = self.exp(parser, place, Precedence::Or)?;
-        parser.expected(place, Terminal::RightBracket)?;
+        parser.expect_word(place, Terminal::LeftBracket)?;
+        let key = self.boxed_exp(parser, place, Precedence::Or)?;
+        parser.expect_word(place, Terminal::RightBracket)?;
         Ok(key)
     }
 
@@ -115,18 +123,18 @@ impl<
         place: Place,
     ) -> Result<Items<Exp>, Fail<SyntaxFault>>
         requires nests { Nests self.now.depth (E.pre self.now.exp) (E.post self.now.exp) (B.pre self.now.block) (B.post self.now.block) }
-        requires shallow { place.nesting ≤ 202 }
-        requires room { 405 ≤ self.now.depth + 2 * place.nesting }
+        requires shallow { IsShallowPart place }
+        requires room { HasRoom for_exp self.now.depth place }
         ensures reads { Reads (λ n. reading.read_arguments (readers n) place parser.old.words) parser.old result parser.new }
         ensures shorter { OnOk result (length parser.new.words < length parser.old.words) }
     {
-        parser.expected(place, Terminal::LeftParenthesis)?;
+        parser.expect_word(place, Terminal::LeftParenthesis)?;
         if parser.begins(Terminal::RightParenthesis) {
-            parser.taken(place)?;
+            parser.take_word(place)?;
             return Ok(Items::new(self.alloc));
         }
         let arguments = self.exps(parser, place)?;
-        parser.expected(place, Terminal::RightParenthesis)?;
+        parser.expect_word(place, Terminal::RightParenthesis)?;
         Ok(arguments)
     }
 }

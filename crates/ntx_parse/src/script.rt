@@ -1,16 +1,16 @@
 //! Reading a script.
 
-ghost use Rattle.std.specs.Prelude.{◌≡◌, ◌≤◌, ◌+◌, ◌*◌, ℕ, [], List, map, Ok, Err, IfOk};
+ghost use Rattle.std.specs.Prelude.{◌≡◌, ◌≤◌, ◌+◌, ◌*◌, [], map, Ok, Err, IfOk};
 ghost use Rattle.ntx_num.specs.Answer.{Answers};
 ghost use Rattle.ntx_syntax.specs.Lexes.{Lexes, line_ends};
 ghost use Rattle.ntx_syntax.specs.declared.fault.SyntaxFault as declared;
 ghost use Rattle.ntx_syntax.specs.declared.tree.Chunk.{Chunk};
 ghost use Rattle.ntx_parse.specs.Faults.{IfRefused, IsRefused};
 ghost use Rattle.ntx_parse.specs.Grammar.{Accepts};
-ghost use Rattle.ntx_parse.specs.Input.{HaveValues, seen};
-ghost use Rattle.ntx_parse.specs.Reading.{readers, script_by};
-ghost use Rattle.ntx_parse.specs.Reads.{Reads};
-ghost use Rattle.ntx_parse.specs.Words as words;
+ghost use Rattle.ntx_parse.specs.inner.Input.{HaveValues, seen};
+ghost use Rattle.ntx_parse.specs.inner.Reading.{readers, script_by};
+ghost use Rattle.ntx_parse.specs.inner.Reads.{Reads};
+ghost use Rattle.ntx_parse.specs.inner.Room.{IsShallow, HasRoom, for_exp, for_block};
 ghost use Rattle.ntx_parse.specs.Words.{words_of};
 
 use crate::parser::Parser;
@@ -20,8 +20,8 @@ use crate::rules::Rules;
 use crate::word::{Word, words_of};
 use ntx_num::Fail;
 use ntx_syntax::{
-    Block, Chunk, Exp, SyntaxFault, SyntaxWhy, Token, numerals_have_values, texts_have_values,
-    tokens_stand_in_order,
+    Block, Chunk, Exp, SyntaxFault, SyntaxWhy, Token, line_ends, numerals_have_values,
+    texts_have_values, tokens_stand_in_order,
 };
 use std::alloc::Global;
 
@@ -37,8 +37,8 @@ fn exp(
     place: Place,
     precedence: Precedence,
 ) -> Result<Exp, Fail<SyntaxFault>>
-    requires shallow { place.nesting ≤ 201 }
-    requires room { 405 ≤ depth + 2 * place.nesting }
+    requires shallow { IsShallow place }
+    requires room { HasRoom for_exp depth place }
     ensures { Reads (λ n. (readers n).exp place precedence parser.old.words) parser.old result parser.new }
 {
     Rules {
@@ -58,8 +58,8 @@ fn block(
     depth: u64,
     place: Place,
 ) -> Result<Block, Fail<SyntaxFault>>
-    requires shallow { place.nesting ≤ 201 }
-    requires room { 406 ≤ depth + 2 * place.nesting }
+    requires shallow { IsShallow place }
+    requires room { HasRoom for_block depth place }
     ensures { Reads (λ n. (readers n).block place parser.old.words) parser.old result parser.new }
 {
     Rules {
@@ -75,7 +75,7 @@ fn block(
 fn last_line(bytes: &[u8]) -> u64
     ensures { result ≡ 1 + line_ends bytes.now }
 {
-    1 + bytes.iter().filter(|b| **b == b'\n').count() as u64
+    1 + line_ends(bytes) as u64
 }
 
 /// The block of a script of these words, with this last line.
@@ -132,18 +132,3 @@ pub fn parse(alloc: Global, bytes: &[u8], tokens: &[Token]) -> Result<Chunk, Fai
     let block = whole(alloc, words.as_slice(), last_line(bytes))?;
     Ok(Chunk { block })
 }
-
-/// No script has two trees.
-pub fn scripts_have_one_tree()
-    ensures { (words : List words.Word) (a b : Chunk) → Accepts words a → Accepts words b → a ≡ b }
-{}
-
-/// No script has two faults.
-pub fn scripts_have_one_fault()
-    ensures { (bytes : List ℕ) (words : List words.Word) (a b : declared.SyntaxFault) → IsRefused bytes words a → IsRefused bytes words b → a ≡ b }
-{}
-
-/// No script that has a fault has a tree.
-pub fn refused_scripts_have_no_tree()
-    ensures { (bytes : List ℕ) (words : List words.Word) (chunk : Chunk) (fault : declared.SyntaxFault) → Accepts words chunk → IsRefused bytes words fault → ⊥ }
-{}

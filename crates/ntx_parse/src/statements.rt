@@ -2,27 +2,28 @@
 
 ghost use Rattle.std.specs.Prelude.{◌≡◌, ◌≤◌, ◌<◌, ◌+◌, ◌*◌, length, [], ◌∷◌, Some, OnOk};
 ghost use Rattle.ntx_syntax.specs.declared.tree.StatKind.TheVariants as stat;
-ghost use Rattle.ntx_parse.specs.Nests.{Nests};
-ghost use Rattle.ntx_parse.specs.Reading as reading;
-ghost use Rattle.ntx_parse.specs.Reading.{readers};
-ghost use Rattle.ntx_parse.specs.Reads.{Reads};
+ghost use Rattle.ntx_parse.specs.inner.Nests.{Nests};
+ghost use Rattle.ntx_parse.specs.inner.Reading as reading;
+ghost use Rattle.ntx_parse.specs.inner.Reading.{readers};
+ghost use Rattle.ntx_parse.specs.inner.Reads.{Reads};
+ghost use Rattle.ntx_parse.specs.inner.Room.{IsShallow, HasRoom, for_exp};
 
+use crate::list::push;
 use crate::parser::Parser;
 use crate::place::{Place, within};
 use crate::precedence::Precedence;
 use crate::rules::Rules;
-use crate::terminal::Terminal;
 use ntx_num::Fail;
-use ntx_syntax::{Block, Exp, IfArm, StatKind, SyntaxFault, SyntaxWhy};
-use sqlite_items::Items;
+use ntx_syntax::{Block, Exp, IfArm, StatKind, SyntaxFault, SyntaxWhy, Terminal};
+use sqlite_items::{Boxed, Items};
 use std::alloc::Global;
 
 /// `;`
 fn empty(parser: &mut Parser<'_>, place: Place) -> Result<StatKind, Fail<SyntaxFault>>
-    ensures reads { Reads (λ _. reading.and_then (reading.taken place parser.old.words) (λ _ rest. reading.read stat.Empty rest)) parser.old result parser.new }
+    ensures reads { Reads (λ _. reading.and_then (reading.take_word place parser.old.words) (λ _ rest. reading.read stat.Empty rest)) parser.old result parser.new }
     ensures shorter { OnOk result (length parser.new.words < length parser.old.words) }
 {
-    parser.taken(place)?;
+    parser.take_word(place)?;
     Ok(StatKind::Empty)
 }
 
@@ -32,7 +33,7 @@ fn break_stat(parser: &mut Parser<'_>, place: Place) -> Result<StatKind, Fail<Sy
     ensures shorter { OnOk result (length parser.new.words < length parser.old.words) }
 {
     let fault = parser.fault(SyntaxWhy::Break);
-    parser.taken(place)?;
+    parser.take_word(place)?;
     if place.in_loop {
         Ok(StatKind::Break)
     } else {
@@ -52,8 +53,8 @@ impl<
         begins: Terminal,
     ) -> Result<StatKind, Fail<SyntaxFault>>
         requires nests { Nests self.now.depth (E.pre self.now.exp) (E.post self.now.exp) (B.pre self.now.block) (B.post self.now.block) }
-        requires shallow { place.nesting ≤ 201 }
-        requires room { 405 ≤ self.now.depth + 2 * place.nesting }
+        requires shallow { IsShallow place }
+        requires room { HasRoom for_exp self.now.depth place }
         ensures reads { Reads (λ n. reading.kind_at (readers n) place begins parser.old.words) parser.old result parser.new }
         ensures shorter { OnOk result (length parser.new.words < length parser.old.words) }
     {
@@ -74,12 +75,12 @@ impl<
     /// `do block end`
     fn do_block(&self, parser: &mut Parser<'_>, place: Place) -> Result<StatKind, Fail<SyntaxFault>>
         requires nests { Nests self.now.depth (E.pre self.now.exp) (E.post self.now.exp) (B.pre self.now.block) (B.post self.now.block) }
-        requires shallow { place.nesting ≤ 201 }
-        requires room { 405 ≤ self.now.depth + 2 * place.nesting }
+        requires shallow { IsShallow place }
+        requires room { HasRoom for_exp self.now.depth place }
         ensures reads { Reads (λ n. reading.read_do (readers n) place parser.old.words) parser.old result parser.new }
         ensures shorter { OnOk result (length parser.new.words < length parser.old.words) }
     {
-        parser.taken(place)?;
+        parser.take_word(place)?;
         let body = self.block_to_end(parser, place, within(place))?;
         Ok(StatKind::Do(body))
     }
@@ -87,15 +88,15 @@ impl<
     /// `if exp then block {elseif exp then block} [else block] end`
     fn if_stat(&self, parser: &mut Parser<'_>, place: Place) -> Result<StatKind, Fail<SyntaxFault>>
         requires nests { Nests self.now.depth (E.pre self.now.exp) (E.post self.now.exp) (B.pre self.now.block) (B.post self.now.block) }
-        requires shallow { place.nesting ≤ 201 }
-        requires room { 405 ≤ self.now.depth + 2 * place.nesting }
+        requires shallow { IsShallow place }
+        requires room { HasRoom for_exp self.now.depth place }
         ensures reads { Reads (λ n. reading.read_if (readers n) place parser.old.words) parser.old result parser.new }
         ensures shorter { OnOk result (length parser.new.words < length parser.old.words) }
     {
         let first = self.arm(parser, place)?;
         let arms = self.arms_behind(parser, place, first)?;
         let other = self.other(parser, place)?;
-        parser.expected(place, Terminal::End)?;
+        parser.expect_word(place, Terminal::End)?;
         Ok(StatKind::If(arms, other))
     }
 
@@ -107,14 +108,14 @@ impl<
         first: IfArm,
     ) -> Result<Items<IfArm>, Fail<SyntaxFault>>
         requires nests { Nests self.now.depth (E.pre self.now.exp) (E.post self.now.exp) (B.pre self.now.block) (B.post self.now.block) }
-        requires shallow { place.nesting ≤ 201 }
-        requires room { 405 ≤ self.now.depth + 2 * place.nesting }
+        requires shallow { IsShallow place }
+        requires room { HasRoom for_exp self.now.depth place }
         ensures { Reads (λ n. (readers n).arms place (first ∷ []) parser.old.words) parser.old result parser.new }
     {
         let mut arms = Items::new(self.alloc);
-        arms.push(first)?;
+        push(self.alloc, &mut arms, first)?;
         while parser.begins(Terminal::Elseif) {
-            arms.push(self.arm(parser, place)?)?;
+            push(self.alloc, &mut arms, self.arm(parser, place)?)?;
         }
         Ok(arms)
     }
@@ -122,15 +123,15 @@ impl<
     /// `if exp then block`, or the same with `elseif`.
     fn arm(&self, parser: &mut Parser<'_>, place: Place) -> Result<IfArm, Fail<SyntaxFault>>
         requires nests { Nests self.now.depth (E.pre self.now.exp) (E.post self.now.exp) (B.pre self.now.block) (B.post self.now.block) }
-        requires shallow { place.nesting ≤ 201 }
-        requires room { 405 ≤ self.now.depth + 2 * place.nesting }
+        requires shallow { IsShallow place }
+        requires room { HasRoom for_exp self.now.depth place }
         ensures reads { Reads (λ n. reading.read_arm (readers n) place parser.old.words) parser.old result parser.new }
         ensures shorter { OnOk result (length parser.new.words < length parser.old.words) }
         ensures within { OnOk result (place.nesting ≤ 200) }
     {
-        parser.taken(place)?;
+        parser.take_word(place)?;
         let condition = self.exp(parser, place, Precedence::Or)?;
-        parser.expected(place, Terminal::Then)?;
+        parser.expect_word(place, Terminal::Then)?;
         let block = self.block(parser, within(place))?;
         Ok(IfArm { condition, block })
     }
@@ -140,17 +141,17 @@ impl<
         &self,
         parser: &mut Parser<'_>,
         place: Place,
-    ) -> Result<Option<Block>, Fail<SyntaxFault>>
+    ) -> Result<Option<Boxed<Block>>, Fail<SyntaxFault>>
         requires nests { Nests self.now.depth (E.pre self.now.exp) (E.post self.now.exp) (B.pre self.now.block) (B.post self.now.block) }
-        requires shallow { place.nesting ≤ 201 }
-        requires room { 405 ≤ self.now.depth + 2 * place.nesting }
+        requires shallow { IsShallow place }
+        requires room { HasRoom for_exp self.now.depth place }
         ensures { Reads (λ n. reading.else_behind (readers n) place parser.old.words) parser.old result parser.new }
     {
         if !parser.begins(Terminal::Else) {
             return Ok(None);
         }
-        parser.taken(place)?;
-        let block = self.block(parser, within(place))?;
+        parser.take_word(place)?;
+        let block = self.boxed_block(parser, within(place))?;
         Ok(Some(block))
     }
 }

@@ -1,18 +1,19 @@
 //! Tables.
 
 ghost use Rattle.std.specs.Prelude.{◌≡◌, ◌≤◌, ◌<◌, ◌+◌, ◌*◌, length, [], ◌∷◌, Some, OnOk};
-ghost use Rattle.ntx_parse.specs.Nests.{Nests};
-ghost use Rattle.ntx_parse.specs.Reading as reading;
-ghost use Rattle.ntx_parse.specs.Reading.{readers};
-ghost use Rattle.ntx_parse.specs.Reads.{Reads};
+ghost use Rattle.ntx_parse.specs.inner.Nests.{Nests};
+ghost use Rattle.ntx_parse.specs.inner.Reading as reading;
+ghost use Rattle.ntx_parse.specs.inner.Reading.{readers};
+ghost use Rattle.ntx_parse.specs.inner.Reads.{Reads};
+ghost use Rattle.ntx_parse.specs.inner.Room.{IsShallow, IsShallowPart, HasRoom, for_exp};
 
+use crate::list::push;
 use crate::parser::Parser;
 use crate::place::{Place, within};
 use crate::precedence::Precedence;
 use crate::rules::Rules;
-use crate::terminal::Terminal;
 use ntx_num::Fail;
-use ntx_syntax::{Block, Exp, Field, SyntaxFault};
+use ntx_syntax::{Block, Exp, Field, SyntaxFault, Terminal};
 use sqlite_items::Items;
 use std::alloc::Global;
 
@@ -27,13 +28,13 @@ impl<
         place: Place,
     ) -> Result<Items<Field>, Fail<SyntaxFault>>
         requires nests { Nests self.now.depth (E.pre self.now.exp) (E.post self.now.exp) (B.pre self.now.block) (B.post self.now.block) }
-        requires shallow { place.nesting ≤ 202 }
-        requires room { 405 ≤ self.now.depth + 2 * place.nesting }
+        requires shallow { IsShallowPart place }
+        requires room { HasRoom for_exp self.now.depth place }
         ensures { Reads (λ n. reading.read_table (readers n) place parser.old.words) parser.old result parser.new }
     {
-        parser.expected(place, Terminal::LeftBrace)?;
+        parser.expect_word(place, Terminal::LeftBrace)?;
         let fields = self.fields(parser, place)?;
-        parser.expected(place, Terminal::RightBrace)?;
+        parser.expect_word(place, Terminal::RightBrace)?;
         Ok(fields)
     }
 
@@ -44,17 +45,17 @@ impl<
         place: Place,
     ) -> Result<Items<Field>, Fail<SyntaxFault>>
         requires nests { Nests self.now.depth (E.pre self.now.exp) (E.post self.now.exp) (B.pre self.now.block) (B.post self.now.block) }
-        requires shallow { place.nesting ≤ 201 }
-        requires room { 405 ≤ self.now.depth + 2 * place.nesting }
+        requires shallow { IsShallow place }
+        requires room { HasRoom for_exp self.now.depth place }
         ensures { Reads (λ n. (readers n).fields place [] parser.old.words) parser.old result parser.new }
     {
         let mut fields = Items::new(self.alloc);
         while !parser.begins(Terminal::RightBrace) {
-            fields.push(self.field(parser, place)?)?;
+            push(self.alloc, &mut fields, self.field(parser, place)?)?;
             if !parser.begins_separator() {
                 return Ok(fields);
             }
-            parser.taken(place)?;
+            parser.take_word(place)?;
         }
         Ok(fields)
     }
@@ -62,19 +63,19 @@ impl<
     /// `[ exp ] = exp`, `Name = exp` or `exp`.
     fn field(&self, parser: &mut Parser<'_>, place: Place) -> Result<Field, Fail<SyntaxFault>>
         requires nests { Nests self.now.depth (E.pre self.now.exp) (E.post self.now.exp) (B.pre self.now.block) (B.post self.now.block) }
-        requires shallow { place.nesting ≤ 201 }
-        requires room { 405 ≤ self.now.depth + 2 * place.nesting }
+        requires shallow { IsShallow place }
+        requires room { HasRoom for_exp self.now.depth place }
         ensures { Reads (λ n. reading.read_field (readers n) place parser.old.words) parser.old result parser.new }
     {
         if parser.begins(Terminal::LeftBracket) {
             let key = self.index(parser, within(place))?;
-            parser.expected(place, Terminal::Assign)?;
-            let value = self.exp(parser, place, Precedence::Or)?;
+            parser.expect_word(place, Terminal::Assign)?;
+            let value = self.boxed_exp(parser, place, Precedence::Or)?;
             Ok(Field::Keyed(key, value))
         } else if parser.names_a_field() {
             let name = parser.name(self.alloc, place)?;
-            parser.expected(place, Terminal::Assign)?;
-            let value = self.exp(parser, place, Precedence::Or)?;
+            parser.expect_word(place, Terminal::Assign)?;
+            let value = self.boxed_exp(parser, place, Precedence::Or)?;
             Ok(Field::Named(name, value))
         } else {
             let value = self.exp(parser, place, Precedence::Or)?;

@@ -8,15 +8,20 @@ mod show;
 
 use crate::parse;
 use ntx_num::Fail;
-use ntx_syntax::{SyntaxFault, SyntaxWhy, tokens};
+use ntx_syntax::{Chunk, SyntaxFault, SyntaxWhy, tokens};
 use show::shown;
 use std::alloc::Global;
 use std::process::Abort;
 
+/// The tree of a script, or its fault.
+fn parsed(alloc: Global, text: &[u8]) -> Result<Chunk, Fail<SyntaxFault>> {
+    let tokens = tokens(alloc, text)?;
+    parse(alloc, text, tokens.as_slice())
+}
+
 /// The tree of a script as a text, or its fault.
 fn read(alloc: Global, text: &[u8]) -> Result<Vec<u8>, Fail<SyntaxFault>> {
-    let tokens = tokens(alloc, text)?;
-    let chunk = parse(alloc, text, tokens.as_slice())?;
+    let chunk = parsed(alloc, text)?;
     Ok(shown(alloc, &chunk)?)
 }
 

@@ -1,12 +1,13 @@
 //! The words of a script.
 
-ghost use Rattle.std.specs.Prelude.{◌≡◌, ◌≤◌, length, map, IfOk};
+ghost use Rattle.std.specs.Prelude.{◌≡◌, ◌≤◌, length, map, slice_range, IfOk, Some};
 ghost use Rattle.ntx_syntax.specs.Lexes.{StandInOrder};
+ghost use Rattle.ntx_syntax.specs.Pieces.{piece_of};
+ghost use Rattle.ntx_syntax.specs.declared.piece.Piece.TheVariants as piece;
 ghost use Rattle.ntx_parse.specs.Words as words;
-ghost use Rattle.ntx_parse.specs.Input.{seen};
+ghost use Rattle.ntx_parse.specs.inner.Input.{seen};
 
-use crate::terminal::{Terminal, terminal_of};
-use ntx_syntax::Token;
+use ntx_syntax::{Terminal, Token, terminal_of};
 use std::alloc::{AllocError, Global};
 
 /// A token: what it is to the grammar, the bytes that spell it, and its line, from 1.
@@ -24,6 +25,7 @@ pub struct Word<'a> {
 fn word_of<'a>(bytes: &'a [u8], token: Token) -> Word<'a>
     requires start { token.start ≤ token.end }
     requires end { token.end ≤ length bytes.now }
+    requires spells { piece_of (slice_range bytes.now token.start token.end) ≡ Some (piece.Token token.sort) }
     ensures { seen result ≡ words.word_of bytes.now token }
 {
     let spelled = &bytes[token.start as usize..token.end as usize];

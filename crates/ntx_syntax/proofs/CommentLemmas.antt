@@ -3,15 +3,16 @@ use Rattle.std.proofs.Common.{◌≡◌, ℕ, zero, suc, ◌+◌, ◌-◌, ◌<�
 use Rattle.std.specs.Prelude.{slice_index, nat_eq, option_map, not, ◌==◌}
 use Rattle.std.specs.List.{prefix_len, list_all}
 use Rattle.std.specs.Option.{option_eq}
-use Rattle.std.proofs.lemmas.Bool.{false≢true, cases_Bool, cases_lt, ne_eqb, eq-eqb, eqb-true, and_parts}
+use Rattle.std.proofs.lemmas.Bool.{false≢true, cases_Bool, cases_lt, ne_eqb, eq-eqb, eqb-true, and_parts, false_from_ne_true}
 use Rattle.std.proofs.lemmas.List.{at_drop_more, length-take-le, length-drop, drop-take}
 use Rattle.std.proofs.lemmas.List.Sums.{prefix_len-le-length}
+use Rattle.std.proofs.Math.Bool.{and-false}
 use Rattle.ntx_syntax.specs.declared.fault.SyntaxWhy.TheVariants as why
 use Rattle.ntx_syntax.specs.declared.piece.Piece.{Piece}
 use Rattle.ntx_syntax.specs.declared.piece.Piece.TheVariants.{Gap, Wrong}
 use Rattle.ntx_syntax.specs.Bytes.{is_line_end}
 use Rattle.ntx_syntax.specs.Pieces.{bracket_level, is_level, ends_at_bracket, long_comment_piece, comment_piece_at, comment_piece, begins_comment, piece_if}
-use Rattle.ntx_syntax.specs.Front.{IsFrontOf, IsCommentRest, bracketed_len}
+use Rattle.ntx_syntax.specs.inner.Front.{IsFrontOf, IsCommentRest, bracketed_len}
 use Rattle.ntx_syntax.proofs.RunLemmas.{list_all-take, list_all-take_past, prefix_len-take, slice_index-take, slice_index-take_past}
 use Rattle.ntx_syntax.proofs.OptionLemmas.{is_at, is_at-zero, is_at-suc, map-suc_more, choice_some, eqb_comm}
 
@@ -107,12 +108,8 @@ bracketed-take level (b ∷ bytes) (suc m) h =
     ∙ bracketed-take level bytes m (omega arith) ∙ sym (is_at-suc m (bracketed_len level bytes)) ∙ sym whole)
     (cases_Bool (is_level level (bracket_level 93 (b ∷ bytes))))
   where
-    false_unless : (t : Bool) → (t ≡ true → ⊥) → t ≡ false
-    false_unless true f = absurd (f refl)
-    false_unless false f = refl
-
     not_in_front : is_level level (bracket_level 93 (b ∷ bytes)) ≡ false → is_level level (bracket_level 93 (b ∷ take m bytes)) ≡ false
-    not_in_front not_here = false_unless (is_level level (bracket_level 93 (b ∷ take m bytes))) (λ front. false≢true (sym not_here ∙ level_to level (bracket_level 93 (b ∷ bytes)) (bracket_in_front 93 level b bytes m refl (level_from level (bracket_level 93 (b ∷ take m bytes)) front)).0))
+    not_in_front not_here = false_from_ne_true (is_level level (bracket_level 93 (b ∷ take m bytes))) (λ front. false≢true (sym not_here ∙ level_to level (bracket_level 93 (b ∷ bytes)) (bracket_in_front 93 level b bytes m refl (level_from level (bracket_level 93 (b ∷ take m bytes)) front)).0))
 
     closed_here : bracket_level 93 (b ∷ bytes) ≡ Some level → ends_at_bracket level (b ∷ take m bytes) ≡ nat_eq (level + 2) (suc m)
     closed_here bracket = ⊎_elim
@@ -239,9 +236,5 @@ is_level-eq level (Some n) = refl
 
 pub two_dashes : (bytes : List ℕ) → begins_comment bytes ≡ true → 2 ≤ length bytes
 two_dashes [] h = absurd (false≢true h)
-two_dashes (a ∷ []) h = absurd (false≢true (sym (and_false (nat_eq a 45)) ∙ h))
-  where
-    and_false : (x : Bool) → (x && false) ≡ false
-    and_false true = refl
-    and_false false = refl
+two_dashes (a ∷ []) h = absurd (false≢true (sym (and-false (nat_eq a 45)) ∙ h))
 two_dashes (a ∷ b ∷ bytes) h = omega arith

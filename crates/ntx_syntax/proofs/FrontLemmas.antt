@@ -8,7 +8,7 @@ use Rattle.ntx_syntax.specs.declared.piece.Piece.{Piece}
 use Rattle.ntx_syntax.specs.declared.piece.Piece.TheVariants.{Gap}
 use Rattle.ntx_syntax.specs.Bytes.{is_blank, begins_name, is_quote}
 use Rattle.ntx_syntax.specs.Pieces.{piece_of, piece_if, word_piece, numeral_piece, text_piece, comment_piece, begins_comment, symbol_piece}
-use Rattle.ntx_syntax.specs.Front.{IsFrontOf, IsFront}
+use Rattle.ntx_syntax.specs.inner.Front.{IsFrontOf, IsFront}
 
 abbrev pub choice : Bool → Bool → Bool → Bool → Bool → (gap word numeral text comment symbol : Option Piece) → Option Piece
 choice blank name digit quote dashes gap word numeral text comment symbol =

@@ -8,6 +8,7 @@ use Rattle.std.proofs.lemmas.List.Sums.{sum_by-append}
 use Rattle.std.proofs.Math.Seq.{take-append-add, take-append_seam}
 use Rattle.ntx_num.specs.Answer.{Answers, result_map}
 use Rattle.ntx_num.specs.declared.answer.Fail.{Fail}
+use Rattle.std.proofs.Math.Bool.{and-false}
 use Rattle.ntx_syntax.specs.declared.token.Token as token
 use Rattle.ntx_syntax.specs.declared.token.Sort.TheVariants as sort
 use Rattle.ntx_syntax.specs.declared.fault.SyntaxFault.{SyntaxFault}
@@ -17,7 +18,7 @@ use Rattle.ntx_syntax.specs.declared.piece.Piece.TheVariants.{Gap, Token, Wrong}
 use Rattle.ntx_syntax.specs.Bytes.{is_blank, is_line_end, begins_name, is_quote}
 use Rattle.ntx_syntax.specs.Values.{numeral_value, text_value}
 use Rattle.ntx_syntax.specs.Pieces.{piece_of, piece_if, word_sort, word_piece, numeral_piece, is_spoiled, text_piece, comment_piece, begins_comment, symbol_piece}
-use Rattle.ntx_syntax.specs.Front.{IsFront}
+use Rattle.ntx_syntax.specs.inner.Front.{IsFront}
 use Rattle.ntx_syntax.specs.Lexes.{IsLongestPiece, IsCut, line_ends, said, tokens_of, Lexes, IsRefused, parts_of, lexed_of, StandInOrder, CutIsOne, LexesAsComputed, IsRefusedAsComputed, LexesOnce, TokensStandInOrder}
 use Rattle.ntx_syntax.proofs.WordLemmas.{continues}
 use Rattle.ntx_syntax.proofs.SymbolLemmas.{symbol_piece-one}
@@ -43,11 +44,7 @@ quote_alone : (b : ℕ) → text_piece (b ∷ []) ≡ None → ⊥
 quote_alone b e = either_piece (is_some (text_value (b ∷ []))) true (Token sort.Text) (Wrong why.Text) refl e
 
 no_dashes : (b : ℕ) → begins_comment (b ∷ []) ≡ false
-no_dashes b = and_false (nat_eq b 45)
-  where
-    and_false : (x : Bool) → (x && false) ≡ false
-    and_false true = refl
-    and_false false = refl
+no_dashes b = and-false (nat_eq b 45)
 
 one_of : {X : Type 0} (blank name digit quote dashes : Bool) (gap word numeral text comment symbol : Option X) → dashes ≡ false → (blank ≡ true → gap ≡ None → ⊥) → (name ≡ true → word ≡ None → ⊥) → (digit ≡ true → numeral ≡ None → ⊥) → (text ≡ None → ⊥) → (symbol ≡ None → ⊥) → cond blank gap (cond name word (cond digit numeral (cond quote text (cond dashes comment symbol)))) ≡ None → ⊥
 one_of true name digit quote dashes gap word numeral text comment symbol d g w n t s e = g refl e

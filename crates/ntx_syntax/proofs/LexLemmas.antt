@@ -12,7 +12,7 @@ use Rattle.ntx_syntax.specs.declared.piece.Piece.TheVariants as piece
 use Rattle.ntx_syntax.specs.declared.token.Sort.{Sort}
 use Rattle.ntx_syntax.specs.declared.fault.SyntaxWhy.{SyntaxWhy}
 use Rattle.ntx_syntax.specs.Pieces.{piece_of}
-use Rattle.ntx_syntax.specs.Front.{IsFront}
+use Rattle.ntx_syntax.specs.inner.Front.{IsFront}
 use Rattle.ntx_syntax.specs.Lexes.{longest_front, cut_from, parts_of, tokens_of, said, line_ends}
 
 longest_from : (o : Option Piece) (n len : ℕ) (bytes : List ℕ) → (o ≡ None → longest_front n bytes ≡ len) → ((piece : Piece) → o ≡ Some piece → suc n ≡ len) → cond (is_some o) (suc n) (longest_front n bytes) ≡ len

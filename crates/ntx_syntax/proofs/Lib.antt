@@ -7,5 +7,6 @@ pub mod OptionLemmas
 pub mod RunLemmas
 pub mod SymbolLemmas
 pub mod TextLemmas
+pub mod TokenLemmas
 pub mod ValueLemmas
 pub mod WordLemmas

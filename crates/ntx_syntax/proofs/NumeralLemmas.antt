@@ -4,17 +4,18 @@ use Rattle.std.specs.Prelude.{slice_index, is_some, nat_lt, nat_eq}
 use Rattle.std.specs.List.{prefix_len, list_all}
 use Rattle.std.specs.Char.{is_ascii_digit, is_ascii_hexdigit, digit_value}
 use Rattle.std.specs.Str.Parse.{digits_value, digits_value_after}
-use Rattle.std.proofs.lemmas.Bool.{false≢true, cases_eq, cases_lt, eqb-true, and_parts, le-ltb}
+use Rattle.std.proofs.lemmas.Bool.{false≢true, cases_eq, cases_lt, eqb-true, and_parts, le-ltb, or_from, or_left, or_right, false_from_ne_true}
 use Rattle.std.proofs.lemmas.Bool.Decides.{nat_tests}
 use Rattle.std.proofs.lemmas.List.{length-take-le, take-take, get_or_past, at_drop_more}
 use Rattle.std.proofs.lemmas.List.Sums.{prefix_len-le-length}
+use Rattle.std.proofs.Math.Bool.{and-false}
 use Rattle.ntx_syntax.specs.declared.token.Sort.TheVariants.{Numeral}
 use Rattle.ntx_syntax.specs.declared.fault.SyntaxWhy.TheVariants as why
 use Rattle.ntx_syntax.specs.declared.piece.Piece.TheVariants.{Token, Wrong}
 use Rattle.ntx_syntax.specs.Bytes.{spoils_numeral}
 use Rattle.ntx_syntax.specs.Values.{is_decimal, is_hexadecimal, numeral_value}
 use Rattle.ntx_syntax.specs.Pieces.{numeral_piece, is_spoiled, piece_if}
-use Rattle.ntx_syntax.specs.Front.{IsFrontOf, EndsForm, begins_hexadecimal}
+use Rattle.ntx_syntax.specs.inner.Front.{IsFrontOf, EndsForm, begins_hexadecimal}
 use Rattle.ntx_syntax.proofs.RunLemmas.{list_all-take, list_all-take_past, slice_index-take}
 
 -- ---- values
@@ -52,18 +53,11 @@ too_large_after n i digits all is within large =
 abbrev has_form : List ℕ → Bool
 has_form bytes = is_decimal bytes || is_hexadecimal bytes
 
-decimal_is : (d : ℕ) (ds : List ℕ) → is_decimal (d ∷ ds) ≡ list_all is_ascii_digit (d ∷ ds)
-decimal_is d ds = refl
-
 -- a front with some bytes is decimal where all of them are digits
 decimal-take : (n : ℕ) (bytes : List ℕ) → 0 < n → n ≤ length bytes → is_decimal (take n bytes) ≡ list_all is_ascii_digit (take n bytes)
 decimal-take zero bytes some within = absurd (omega arith)
 decimal-take (suc n) [] some within = absurd (omega arith)
 decimal-take (suc n) (d ∷ ds) some within = refl
-
-and_false : (x : Bool) → (x && false) ≡ false
-and_false true = refl
-and_false false = refl
 
 -- what has a hexadecimal form begins with `0x` and a digit
 pub hexadecimal_begins : (bytes : List ℕ) → is_hexadecimal bytes ≡ true → begins_hexadecimal bytes ≡ true
@@ -75,21 +69,14 @@ hexadecimal_begins (o ∷ x ∷ d ∷ ds) h = (and_parts _ _ h).0
 begins-take : (n : ℕ) (bytes : List ℕ) → begins_hexadecimal (take n bytes) ≡ true → begins_hexadecimal bytes ≡ true
 begins-take zero bytes h = absurd (false≢true h)
 begins-take (suc zero) [] h = absurd (false≢true h)
-begins-take (suc zero) (o ∷ bytes) h = absurd (false≢true (sym (and_false _) ∙ h))
+begins-take (suc zero) (o ∷ bytes) h = absurd (false≢true (sym (and-false _) ∙ h))
 begins-take (suc (suc zero)) [] h = absurd (false≢true h)
-begins-take (suc (suc zero)) (o ∷ []) h = absurd (false≢true (sym (and_false _) ∙ h))
-begins-take (suc (suc zero)) (o ∷ x ∷ bytes) h = absurd (false≢true (sym (and_false _) ∙ h))
+begins-take (suc (suc zero)) (o ∷ []) h = absurd (false≢true (sym (and-false _) ∙ h))
+begins-take (suc (suc zero)) (o ∷ x ∷ bytes) h = absurd (false≢true (sym (and-false _) ∙ h))
 begins-take (suc (suc (suc n))) [] h = absurd (false≢true h)
 begins-take (suc (suc (suc n))) (o ∷ []) h = h
 begins-take (suc (suc (suc n))) (o ∷ x ∷ []) h = h
 begins-take (suc (suc (suc n))) (o ∷ x ∷ d ∷ ds) h = h
-
-false_unless : (b : Bool) → (b ≡ true → ⊥) → b ≡ false
-false_unless true h = absurd (h refl)
-false_unless false h = refl
-
-or_both : (x y : Bool) → x ≡ false → y ≡ false → (x || y) ≡ false
-or_both x y p q = rw (p, q)
 
 -- ---- the end of a numeral
 
@@ -100,13 +87,6 @@ some_digits (b ∷ bytes) h = rw h (omega arith)
 both_true : (x y : Bool) → x ≡ true → y ≡ true → (x && y) ≡ true
 both_true x y p q = rw (p, q) refl
 
-or_left : (x y : Bool) → x ≡ true → (x || y) ≡ true
-or_left x y p = rw p refl
-
-or_right : (x y : Bool) → y ≡ true → (x || y) ≡ true
-or_right true y p = refl
-or_right false y p = p
-
 pub decimal_ends : (bytes : List ℕ) (len : ℕ) → is_ascii_digit (slice_index bytes 0) ≡ true → begins_hexadecimal bytes ≡ false → len ≡ prefix_len is_ascii_digit bytes → EndsForm bytes len
 decimal_ends bytes len digit plain len_is =
     let some : 0 < len = omega (arith, len_is, some_digits bytes digit) in
@@ -115,9 +95,9 @@ decimal_ends bytes len digit plain len_is =
       some = some;
       within = within;
       form = or_left _ _ (decimal-take len bytes some within ∙ list_all-take is_ascii_digit len bytes (omega (arith, len_is)));
-      past = λ n more whole. or_both _ _
+      past = λ n more whole. or_from _ _
           (decimal-take n bytes (omega arith) whole ∙ list_all-take_past is_ascii_digit n bytes (omega (arith, len_is)) whole)
-          (false_unless _ (λ hexadecimal. false≢true (sym plain ∙ begins-take n bytes (hexadecimal_begins (take n bytes) hexadecimal))));
+          (false_from_ne_true _ (λ hexadecimal. false≢true (sym plain ∙ begins-take n bytes (hexadecimal_begins (take n bytes) hexadecimal))));
     }
 
 -- The digits before an `x` are not more than one.
@@ -147,8 +127,8 @@ hexadecimal_form o x d ds (suc (suc (suc n))) begins is =
 
 pub hexadecimal_ends : (bytes : List ℕ) (len : ℕ) → begins_hexadecimal bytes ≡ true → len ≡ 2 + prefix_len is_ascii_hexdigit (drop 2 bytes) → EndsForm bytes len
 hexadecimal_ends [] len begins len_is = absurd (false≢true begins)
-hexadecimal_ends (o ∷ []) len begins len_is = absurd (false≢true (sym (and_false _) ∙ begins))
-hexadecimal_ends (o ∷ x ∷ []) len begins len_is = absurd (false≢true (sym (and_false _) ∙ begins))
+hexadecimal_ends (o ∷ []) len begins len_is = absurd (false≢true (sym (and-false _) ∙ begins))
+hexadecimal_ends (o ∷ x ∷ []) len begins len_is = absurd (false≢true (sym (and-false _) ∙ begins))
 hexadecimal_ends (o ∷ x ∷ d ∷ ds) len begins len_is =
     let parts = and_parts (nat_eq o 48 && nat_eq x 120) (is_ascii_hexdigit d) begins in
     let digits : len ≡ 3 + prefix_len is_ascii_hexdigit ds = len_is ∙ ap (λ t. 2 + cond t (1 + prefix_len is_ascii_hexdigit ds) 0) parts.1 ∙ omega arith in
@@ -159,7 +139,7 @@ hexadecimal_ends (o ∷ x ∷ d ∷ ds) len begins len_is =
       some = omega arith;
       within = omega arith;
       form = or_right _ _ (hexadecimal_form o x d ds len begins digits);
-      past = λ n more whole. or_both _ _
+      past = λ n more whole. or_from _ _
           (decimal-take n (o ∷ x ∷ d ∷ ds) (omega arith) whole ∙ list_all-take_past is_ascii_digit n (o ∷ x ∷ d ∷ ds) (omega (arith, short)) whole)
           (hexadecimal_past o x d ds n begins (omega arith) whole);
     }
@@ -270,8 +250,8 @@ some_of b x o h = rw h refl
 
 pub hexadecimal_value : (bytes : List ℕ) (len : ℕ) → begins_hexadecimal bytes ≡ true → len ≡ 2 + prefix_len is_ascii_hexdigit (drop 2 bytes) → true ≡ is_some (numeral_value (take len bytes))
 hexadecimal_value [] len begins len_is = absurd (false≢true begins)
-hexadecimal_value (o ∷ []) len begins len_is = absurd (false≢true (sym (and_false _) ∙ begins))
-hexadecimal_value (o ∷ x ∷ []) len begins len_is = absurd (false≢true (sym (and_false _) ∙ begins))
+hexadecimal_value (o ∷ []) len begins len_is = absurd (false≢true (sym (and-false _) ∙ begins))
+hexadecimal_value (o ∷ x ∷ []) len begins len_is = absurd (false≢true (sym (and-false _) ∙ begins))
 hexadecimal_value (o ∷ x ∷ d ∷ ds) len begins len_is =
     let parts = and_parts (nat_eq o 48 && nat_eq x 120) (is_ascii_hexdigit d) begins in
     let digits : len ≡ 3 + prefix_len is_ascii_hexdigit ds = len_is ∙ ap (λ t. 2 + cond t (1 + prefix_len is_ascii_hexdigit ds) 0) parts.1 ∙ omega arith in
@@ -288,5 +268,5 @@ decimal_value_some bytes len digit plain len_is =
     let some : 0 < len = omega (arith, len_is, some_digits bytes digit) in
     let within : len ≤ length bytes = omega (arith, len_is, prefix_len-le-length is_ascii_digit bytes) in
     value_of_digits (is_hexadecimal (take len bytes)) (is_decimal (take len bytes)) _ _ _ _
-    (false_unless _ (λ hexadecimal. false≢true (sym plain ∙ begins-take len bytes (hexadecimal_begins (take len bytes) hexadecimal))))
+    (false_from_ne_true _ (λ hexadecimal. false≢true (sym plain ∙ begins-take len bytes (hexadecimal_begins (take len bytes) hexadecimal))))
     (decimal-take len bytes some within ∙ list_all-take is_ascii_digit len bytes (omega (arith, len_is)))

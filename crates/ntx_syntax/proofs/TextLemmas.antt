@@ -14,7 +14,7 @@ use Rattle.ntx_syntax.specs.declared.piece.Piece.TheVariants.{Token, Wrong}
 use Rattle.ntx_syntax.specs.Bytes.{is_quote, is_line_end}
 use Rattle.ntx_syntax.specs.Values.{plain_escape, decimal_escape, hexadecimal_escape, escape_of, escape, characters, if_empty, text_value}
 use Rattle.ntx_syntax.specs.Pieces.{text_piece, piece_if}
-use Rattle.ntx_syntax.specs.Front.{IsFrontOf, quoted_len}
+use Rattle.ntx_syntax.specs.inner.Front.{IsFrontOf, quoted_len}
 use Rattle.ntx_syntax.proofs.RunLemmas.{slice_index-take}
 use Rattle.ntx_syntax.proofs.OptionLemmas.{is_at, is_at-zero, is_at-suc, is_some-map, map-zero, map-suc, map-suc_more, map-more, same_choice}
 

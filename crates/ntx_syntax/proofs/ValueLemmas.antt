@@ -5,7 +5,7 @@ use Rattle.std.specs.List.{list_all}
 use Rattle.std.specs.Char.{is_ascii_digit, is_ascii_hexdigit, digit_value}
 use Rattle.std.specs.Int.{w64, cast_signed}
 use Rattle.std.specs.Str.Parse.{digits_value, digits_value_after}
-use Rattle.std.proofs.lemmas.Bool.{false≢true, cases_lt, and_parts, eq-eqb, ltb-true}
+use Rattle.std.proofs.lemmas.Bool.{false≢true, cases_lt, and_parts, eq-eqb, ltb-true, false_from_ne_true}
 use Rattle.std.proofs.lemmas.List.{at_drop_more, append-nil, drop-drop, drop_all}
 use Rattle.std.proofs.lemmas.Nat.{mul-mod_first}
 use Rattle.std.proofs.Math.Nat.{add-mod, add-mul-mod_self_right}
@@ -16,11 +16,8 @@ use Rattle.ntx_syntax.specs.declared.piece.Piece.{Piece}
 use Rattle.ntx_syntax.specs.declared.piece.Piece.TheVariants.{Gap, Token, Wrong}
 use Rattle.ntx_syntax.specs.Bytes.{is_quote, is_line_end, is_blank, begins_name, continues_name}
 use Rattle.ntx_syntax.specs.Values.{is_decimal, is_hexadecimal, numeral_value, text_value, characters, escape, if_empty}
-use Rattle.ntx_syntax.specs.Pieces.{piece_of, piece_if, is_among, keywords, symbols, refused_symbols, word_sort, word_piece, numeral_piece, is_spoiled, text_piece, comment_piece, comment_piece_at, long_comment_piece, ends_at_bracket, bracket_level, begins_comment, symbol_piece}
-use Rattle.ntx_syntax.specs.Front.{begins_hexadecimal, character}
-use Rattle.ntx_syntax.specs.Lexes.{NumeralsHaveValues, TextsHaveValues}
+use Rattle.ntx_syntax.specs.inner.Front.{begins_hexadecimal, character}
 use Rattle.ntx_syntax.proofs.NumeralLemmas.{hexadecimal_begins, x_is_no_digit}
-use Rattle.ntx_syntax.proofs.FrontLemmas.{choice, piece_of-cons}
 
 -- ---- hexadecimal digits, modulo 2 ^ 64
 
@@ -93,12 +90,8 @@ PlainValue bytes = cond (is_decimal bytes && nat_lt (digits_value 10 bytes) (2 ^
 pub begun_value : (bytes : List ℕ) → begins_hexadecimal bytes ≡ true → IsSome (numeral_value bytes) → numeral_value bytes ≡ Some (cast_signed w64 (digits_value 16 (drop 2 bytes) % 2 ^ 64))
 begun_value bytes begins some = ap (λ t. cond t (Some (cast_signed w64 (digits_value 16 (drop 2 bytes) % 2 ^ 64))) (PlainValue bytes)) (hexadecimal_whole bytes begins some)
 
-false_unless : (t : Bool) → (t ≡ true → ⊥) → t ≡ false
-false_unless true f = absurd (f refl)
-false_unless false f = refl
-
 not_hexadecimal : (bytes : List ℕ) → begins_hexadecimal bytes ≡ false → is_hexadecimal bytes ≡ false
-not_hexadecimal bytes plain = false_unless (is_hexadecimal bytes) (λ h. false≢true (sym plain ∙ hexadecimal_begins bytes h))
+not_hexadecimal bytes plain = false_from_ne_true (is_hexadecimal bytes) (λ h. false≢true (sym plain ∙ hexadecimal_begins bytes h))
 
 plain_value : (bytes : List ℕ) → begins_hexadecimal bytes ≡ false → numeral_value bytes ≡ PlainValue bytes
 plain_value bytes plain = ap (λ t. cond t (Some (cast_signed w64 (digits_value 16 (drop 2 bytes) % 2 ^ 64))) (PlainValue bytes)) (not_hexadecimal bytes plain)
@@ -238,90 +231,3 @@ text_opens (quote ∷ bytes) some = opened (is_quote quote) (characters quote 0 
     opened true None h = refl
     opened true (Some others) h = refl
     opened false o h = absurd (false≢true h)
-
--- ---- what spells a numeral or a text has a value
-
-only_numeral : (p : Piece) (blank name digit quote dashes : Bool) (gap word numeral text comment symbol : Option Piece) → choice blank name digit quote dashes gap word numeral text comment symbol ≡ Some p → (gap ≡ Some p → ⊥) → (word ≡ Some p → ⊥) → (text ≡ Some p → ⊥) → (comment ≡ Some p → ⊥) → (symbol ≡ Some p → ⊥) → numeral ≡ Some p
-only_numeral p true name digit quote dashes gap word numeral text comment symbol h g w t c s = absurd (g h)
-only_numeral p false true digit quote dashes gap word numeral text comment symbol h g w t c s = absurd (w h)
-only_numeral p false false true quote dashes gap word numeral text comment symbol h g w t c s = h
-only_numeral p false false false true dashes gap word numeral text comment symbol h g w t c s = absurd (t h)
-only_numeral p false false false false true gap word numeral text comment symbol h g w t c s = absurd (c h)
-only_numeral p false false false false false gap word numeral text comment symbol h g w t c s = absurd (s h)
-
-only_text : (p : Piece) (blank name digit quote dashes : Bool) (gap word numeral text comment symbol : Option Piece) → choice blank name digit quote dashes gap word numeral text comment symbol ≡ Some p → (gap ≡ Some p → ⊥) → (word ≡ Some p → ⊥) → (numeral ≡ Some p → ⊥) → (comment ≡ Some p → ⊥) → (symbol ≡ Some p → ⊥) → text ≡ Some p
-only_text p true name digit quote dashes gap word numeral text comment symbol h g w n c s = absurd (g h)
-only_text p false true digit quote dashes gap word numeral text comment symbol h g w n c s = absurd (w h)
-only_text p false false true quote dashes gap word numeral text comment symbol h g w n c s = absurd (n h)
-only_text p false false false true dashes gap word numeral text comment symbol h g w n c s = h
-only_text p false false false false true gap word numeral text comment symbol h g w n c s = absurd (c h)
-only_text p false false false false false gap word numeral text comment symbol h g w n c s = absurd (s h)
-
-not_if : (t : Bool) (q p : Piece) → (q ≡ p → ⊥) → piece_if t q ≡ Some p → ⊥
-not_if true q p differ h = differ (same q p h)
-  where
-    same : (q p : Piece) → Some q ≡ Some p → q ≡ p
-    same q p h = cc
-not_if false q p differ h = cc
-
-not_either : (t u : Bool) (q r p : Piece) → (q ≡ p → ⊥) → (r ≡ p → ⊥) → cond t (Some q) (piece_if u r) ≡ Some p → ⊥
-not_either true u q r p differ other h = not_if true q p differ h
-not_either false u q r p differ other h = not_if u r p other h
-
-not_comment : (o : Option ℕ) (bytes : List ℕ) (p : Piece) → (Gap ≡ p → ⊥) → (Wrong why.Comment ≡ p → ⊥) → comment_piece_at o bytes ≡ Some p → ⊥
-not_comment None bytes p differ other h = not_if (list_all (λ b. not (is_line_end b)) bytes) Gap p differ h
-not_comment (Some level) bytes p differ other h = not_long (drop (level + 2) bytes) h
-  where
-    not_long : (rest : List ℕ) → long_comment_piece level rest ≡ Some p → ⊥
-    not_long [] h = not_if true (Wrong why.Comment) p other h
-    not_long (b ∷ rest) h = not_if (ends_at_bracket level (b ∷ rest)) Gap p differ h
-
-not_symbol : (t u v : Bool) (p : Piece) → (Token Symbol ≡ p → ⊥) → (Wrong why.Symbol ≡ p → ⊥) → (Wrong why.Byte ≡ p → ⊥) → cond t (Some (Token Symbol)) (cond u (Some (Wrong why.Symbol)) (piece_if v (Wrong why.Byte))) ≡ Some p → ⊥
-not_symbol true u v p differ other third h = not_if true (Token Symbol) p differ h
-not_symbol false u v p differ other third h = not_either u v (Wrong why.Symbol) (Wrong why.Byte) p other third h
-
-no_symbol : (bytes : List ℕ) (p : Piece) → (Token Symbol ≡ p → ⊥) → (Wrong why.Symbol ≡ p → ⊥) → (Wrong why.Byte ≡ p → ⊥) → symbol_piece bytes ≡ Some p → ⊥
-unfolding symbol_piece
-no_symbol bytes p differ other third h = not_symbol (is_among symbols bytes) (is_among refused_symbols bytes) (nat_eq (length bytes) 1) p differ other third h
-
-word_is_other : (t : Bool) → Token (cond t Keyword Name) ≡ Token Numeral → ⊥
-word_is_other true h = cc
-word_is_other false h = cc
-
-word_is_no_text : (t : Bool) → Token (cond t Keyword Name) ≡ Token sort.Text → ⊥
-word_is_no_text true h = cc
-word_is_no_text false h = cc
-
-numeral_some : (t u : Bool) → cond t (Some (Token Numeral)) (piece_if u (Wrong why.Number)) ≡ Some (Token Numeral) → t ≡ true
-numeral_some true u h = refl
-numeral_some false u h = absurd (not_if u (Wrong why.Number) (Token Numeral) (λ e. cc) h)
-
-text_some : (t u : Bool) → cond t (Some (Token sort.Text)) (piece_if u (Wrong why.Text)) ≡ Some (Token sort.Text) → t ≡ true
-text_some true u h = refl
-text_some false u h = absurd (not_if u (Wrong why.Text) (Token sort.Text) (λ e. cc) h)
-
-nothing : (p : Piece) → piece_of [] ≡ Some p → ⊥
-unfolding piece_of
-nothing p h = cc
-
-pub numerals_have_values : NumeralsHaveValues
-numerals_have_values [] h = absurd (nothing (Token Numeral) h)
-numerals_have_values (b ∷ bytes) h = numeral_some (is_some (numeral_value (b ∷ bytes))) (is_decimal (b ∷ bytes) || is_spoiled (b ∷ bytes))
-    (only_numeral (Token Numeral) (is_blank b) (begins_name b) (is_ascii_digit b) (is_quote b) (begins_comment (b ∷ bytes)) (piece_if (nat_eq (length bytes) 0) Gap) (word_piece (b ∷ bytes)) (numeral_piece (b ∷ bytes)) (text_piece (b ∷ bytes)) (comment_piece (drop 1 bytes)) (symbol_piece (b ∷ bytes))
-    (sym (piece_of-cons b bytes) ∙ h)
-    (not_if (nat_eq (length bytes) 0) Gap (Token Numeral) (λ e. cc))
-    (not_if (list_all continues_name (b ∷ bytes)) (Token (word_sort (b ∷ bytes))) (Token Numeral) (word_is_other (is_among keywords (b ∷ bytes))))
-    (not_either (is_some (text_value (b ∷ bytes))) (nat_eq (length (b ∷ bytes)) 1) (Token sort.Text) (Wrong why.Text) (Token Numeral) (λ e. cc) (λ e. cc))
-    (not_comment (bracket_level 91 (drop 1 bytes)) (drop 1 bytes) (Token Numeral) (λ e. cc) (λ e. cc))
-    (no_symbol (b ∷ bytes) (Token Numeral) (λ e. cc) (λ e. cc) (λ e. cc)))
-
-pub texts_have_values : TextsHaveValues
-texts_have_values [] h = absurd (nothing (Token sort.Text) h)
-texts_have_values (b ∷ bytes) h = text_some (is_some (text_value (b ∷ bytes))) (nat_eq (length (b ∷ bytes)) 1)
-    (only_text (Token sort.Text) (is_blank b) (begins_name b) (is_ascii_digit b) (is_quote b) (begins_comment (b ∷ bytes)) (piece_if (nat_eq (length bytes) 0) Gap) (word_piece (b ∷ bytes)) (numeral_piece (b ∷ bytes)) (text_piece (b ∷ bytes)) (comment_piece (drop 1 bytes)) (symbol_piece (b ∷ bytes))
-    (sym (piece_of-cons b bytes) ∙ h)
-    (not_if (nat_eq (length bytes) 0) Gap (Token sort.Text) (λ e. cc))
-    (not_if (list_all continues_name (b ∷ bytes)) (Token (word_sort (b ∷ bytes))) (Token sort.Text) (word_is_no_text (is_among keywords (b ∷ bytes))))
-    (not_either (is_some (numeral_value (b ∷ bytes))) (is_decimal (b ∷ bytes) || is_spoiled (b ∷ bytes)) (Token Numeral) (Wrong why.Number) (Token sort.Text) (λ e. cc) (λ e. cc))
-    (not_comment (bracket_level 91 (drop 1 bytes)) (drop 1 bytes) (Token sort.Text) (λ e. cc) (λ e. cc))
-    (no_symbol (b ∷ bytes) (Token sort.Text) (λ e. cc) (λ e. cc) (λ e. cc)))

@@ -9,7 +9,7 @@ use Rattle.ntx_syntax.specs.declared.token.Sort.{Sort}
 use Rattle.ntx_syntax.specs.declared.piece.Piece.TheVariants.{Token}
 use Rattle.ntx_syntax.specs.Bytes.{begins_name, continues_name}
 use Rattle.ntx_syntax.specs.Pieces.{word_sort, word_piece, piece_if}
-use Rattle.ntx_syntax.specs.Front.{IsFrontOf}
+use Rattle.ntx_syntax.specs.inner.Front.{IsFrontOf}
 use Rattle.ntx_syntax.proofs.RunLemmas.{list_all-take, list_all-take_past}
 
 -- `||` of more tests

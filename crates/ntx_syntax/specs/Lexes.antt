@@ -9,6 +9,7 @@ use Rattle.ntx_syntax.specs.declared.piece.Piece.{Piece}
 use Rattle.ntx_syntax.specs.declared.piece.Piece.TheVariants.{Gap, Token, Wrong}
 use Rattle.ntx_syntax.specs.declared.token.Sort.TheVariants as sort
 use Rattle.ntx_syntax.specs.Bytes.{is_line_end}
+use Rattle.ntx_syntax.specs.Terminals.{keywords, symbols, entry_of}
 use Rattle.ntx_syntax.specs.Values.{numeral_value, text_value}
 use Rattle.ntx_syntax.specs.Pieces.{piece_of}
 
@@ -115,3 +116,10 @@ NumeralsHaveValues = (bytes : List ℕ) → piece_of bytes ≡ Some (Token sort.
 
 abbrev pub TextsHaveValues : Type 0
 TextsHaveValues = (bytes : List ℕ) → piece_of bytes ≡ Some (Token sort.Text) → IsSome (text_value bytes)
+
+-- What spells a keyword or a symbol is in its table.
+abbrev pub KeywordsAreListed : Type 0
+KeywordsAreListed = (bytes : List ℕ) → piece_of bytes ≡ Some (Token sort.Keyword) → IsSome (entry_of keywords bytes)
+
+abbrev pub SymbolsAreListed : Type 0
+SymbolsAreListed = (bytes : List ℕ) → piece_of bytes ≡ Some (Token sort.Symbol) → IsSome (entry_of symbols bytes)

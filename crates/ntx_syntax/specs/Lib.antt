@@ -1,6 +1,14 @@
+-- the classes of bytes
 pub mod Bytes
-pub mod Front
-pub mod Lexes
-pub mod Pieces
+-- the terminals, with the tables of keywords and symbols
+pub mod Terminals
+-- what numerals and texts stand for
 pub mod Values
+-- what bytes spell that stand alone
+pub mod Pieces
+-- the tokens of a script, where it is refused, and its laws
+pub mod Lexes
+-- the names of the reasons
 pub mod Why
+-- what private calls say among themselves
+pub mod inner

@@ -13,6 +13,7 @@ use Rattle.ntx_syntax.specs.declared.fault.SyntaxWhy.TheVariants as why
 use Rattle.ntx_syntax.specs.declared.piece.Piece.{Piece}
 use Rattle.ntx_syntax.specs.declared.piece.Piece.TheVariants.{Gap, Token, Wrong}
 use Rattle.ntx_syntax.specs.Bytes.{is_blank, is_line_end, begins_name, continues_name, spoils_numeral, is_quote}
+use Rattle.ntx_syntax.specs.Terminals.{keywords, symbols, entry_of}
 use Rattle.ntx_syntax.specs.Values.{is_decimal, is_hexadecimal, numeral_value, text_value}
 
 -- this piece, if the test holds
@@ -21,14 +22,8 @@ piece_if test piece = if test then Some piece else None
 
 -- ---- names
 
-unfoldable pub keywords : List (List ℕ)
-keywords = codes "and" ∷ codes "break" ∷ codes "do" ∷ codes "else" ∷ codes "elseif" ∷ codes "end" ∷ codes "false" ∷ codes "for" ∷ codes "function" ∷ codes "goto" ∷ codes "if" ∷ codes "in" ∷ codes "local" ∷ codes "nil" ∷ codes "not" ∷ codes "or" ∷ codes "repeat" ∷ codes "return" ∷ codes "then" ∷ codes "true" ∷ codes "until" ∷ codes "while" ∷ []
-
-abbrev pub is_among : List (List ℕ) → List ℕ → Bool
-is_among words bytes = list_any (λ word. bytes_eq word bytes) words
-
 abbrev pub word_sort : List ℕ → Sort
-word_sort bytes = if is_among keywords bytes then Keyword else Name
+word_sort bytes = if is_some (entry_of keywords bytes) then Keyword else Name
 
 -- letters, digits and `_`, the first of which is no digit
 abbrev pub word_piece : List ℕ → Option Piece
@@ -88,8 +83,8 @@ begins_comment bytes = slice_index bytes 0 == 45 && slice_index bytes 1 == 45
 
 -- ---- symbols
 
-unfoldable pub symbols : List (List ℕ)
-symbols = codes "+" ∷ codes "-" ∷ codes "*" ∷ codes "//" ∷ codes "%" ∷ codes "&" ∷ codes "~" ∷ codes "|" ∷ codes "<<" ∷ codes ">>" ∷ codes "#" ∷ codes "==" ∷ codes "~=" ∷ codes "<=" ∷ codes ">=" ∷ codes "<" ∷ codes ">" ∷ codes "=" ∷ codes "(" ∷ codes ")" ∷ codes "{" ∷ codes "}" ∷ codes "[" ∷ codes "]" ∷ codes ";" ∷ codes "," ∷ codes "." ∷ codes ".." ∷ []
+abbrev pub is_among : List (List ℕ) → List ℕ → Bool
+is_among words bytes = list_any (λ word. bytes_eq word bytes) words
 
 -- symbols and beginnings of long brackets of Lua that this language does not have
 unfoldable pub refused_symbols : List (List ℕ)
@@ -98,7 +93,7 @@ refused_symbols = codes "..." ∷ codes "::" ∷ codes ":" ∷ codes "/" ∷ cod
 -- Any other byte is wrong by itself.
 unfoldable pub symbol_piece : List ℕ → Option Piece
 symbol_piece bytes =
-    if is_among symbols bytes then Some (Token Symbol)
+    if is_some (entry_of symbols bytes) then Some (Token Symbol)
     else (if is_among refused_symbols bytes then Some (Wrong why.Symbol)
     else piece_if (length bytes == 1) (Wrong why.Byte))
 

@@ -4,7 +4,7 @@ ghost use Rattle.std.specs.Prelude.{◌≡◌, ◌≢◌, ◌<◌, ◌≤◌, le
 ghost use Rattle.std.specs.List.{prefix_len};
 ghost use Rattle.std.specs.Char.{is_ascii_hexdigit, digit_value};
 ghost use Rattle.ntx_syntax.specs.Bytes as class;
-ghost use Rattle.ntx_syntax.specs.Front.{is_in};
+ghost use Rattle.ntx_syntax.specs.inner.Front.{is_in};
 
 /// A class of bytes of which a piece has a run.
 #[derive(Clone, Copy, Debug)]

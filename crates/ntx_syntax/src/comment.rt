@@ -2,7 +2,7 @@
 
 ghost use Rattle.std.specs.Prelude.{◌≡◌, ◌<◌, ◌≤◌, ◌+◌, ◌^◌, length, drop, IfSome, true};
 ghost use Rattle.ntx_syntax.specs.Pieces.{bracket_level, begins_comment, comment_piece};
-ghost use Rattle.ntx_syntax.specs.Front.{IsFrontOf, IsCommentRest, bracketed_len};
+ghost use Rattle.ntx_syntax.specs.inner.Front.{IsFrontOf, IsCommentRest, bracketed_len};
 
 use crate::bytes::{Class, byte, run};
 use crate::fault::SyntaxWhy;

@@ -36,3 +36,13 @@ pub fn numerals_have_values()
 pub fn texts_have_values()
     ensures { lexes.TextsHaveValues }
 {}
+
+/// What spells a keyword is in the table of keywords.
+pub fn keywords_are_listed()
+    ensures { lexes.KeywordsAreListed }
+{}
+
+/// What spells a symbol is in the table of symbols.
+pub fn symbols_are_listed()
+    ensures { lexes.SymbolsAreListed }
+{}

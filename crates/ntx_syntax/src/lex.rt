@@ -3,7 +3,7 @@
 ghost use Rattle.std.specs.Prelude.{◌≡◌, ◌<◌, ◌≤◌, ℕ, List, length, IfOk};
 ghost use Rattle.ntx_num.specs.Answer.{Answers, result_map};
 ghost use Rattle.ntx_syntax.specs.Lexes.{lexed_of, line_ends, Lexes, IsRefused, StandInOrder};
-ghost use Rattle.ntx_syntax.specs.Front.{IsFront};
+ghost use Rattle.ntx_syntax.specs.inner.Front.{IsFront};
 
 use crate::bytes::{begins_name, is_blank, is_quote};
 use crate::comment::{begins_comment, comment};
@@ -39,7 +39,7 @@ fn front(bytes: &[u8]) -> (Piece, usize)
 }
 
 /// How many lines end in these bytes.
-fn line_ends(bytes: &[u8]) -> usize
+pub fn line_ends(bytes: &[u8]) -> usize
     ensures value { result ≡ line_ends bytes.now }
     ensures within { result ≤ length bytes.now }
 {
@@ -75,8 +75,10 @@ fn lex(alloc: Global, bytes: &[u8]) -> Result<Vec<Token>, Fail<SyntaxFault>>
 
 /// The tokens of a script (Lua 5.3 Reference Manual, section 3.1), each with its slice of the bytes and its line.
 ///
-/// The script is refused at the first place where something may not stand in it, with the line on which that begins:
-/// Byte, Number, Text, Comment or Symbol.
+/// # Refusals
+///
+/// A script is refused at the first place where something may not stand in it, with the line on which that begins: Byte,
+/// Number, Text, Comment or Symbol.
 pub fn tokens(alloc: Global, bytes: &[u8]) -> Result<Vec<Token>, Fail<SyntaxFault>>
     // What it gives are the script's tokens, and each stands in the script.
     ensures lexes { IfOk result (λ tokens. Lexes bytes.now tokens.items) }

@@ -17,6 +17,7 @@ mod lex;
 mod numeral;
 mod piece;
 mod symbol;
+mod terminal;
 mod text;
 mod token;
 mod tree;
@@ -24,12 +25,13 @@ mod word;
 
 pub use fault::{SyntaxFault, SyntaxWhy};
 pub use laws::{
-    cut_is_one, is_refused_as_computed, lexes_as_computed, lexes_once, numerals_have_values,
-    texts_have_values, tokens_stand_in_order,
+    cut_is_one, is_refused_as_computed, keywords_are_listed, lexes_as_computed, lexes_once,
+    numerals_have_values, symbols_are_listed, texts_have_values, tokens_stand_in_order,
 };
-pub use lex::tokens;
+pub use lex::{line_ends, tokens};
 pub use numeral::numeral_value;
 pub use piece::Piece;
+pub use terminal::{Terminal, terminal_of};
 pub use text::text_value;
 pub use token::{Sort, Token};
 pub use tree::{

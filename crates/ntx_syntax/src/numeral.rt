@@ -6,7 +6,7 @@ ghost use Rattle.std.specs.Char.{is_ascii_digit, is_ascii_hexdigit};
 ghost use Rattle.std.specs.Str.Parse.{digits_value};
 ghost use Rattle.ntx_syntax.specs.Values.{numeral_value};
 ghost use Rattle.ntx_syntax.specs.Pieces.{numeral_piece};
-ghost use Rattle.ntx_syntax.specs.Front.{IsFrontOf, EndsForm, begins_hexadecimal};
+ghost use Rattle.ntx_syntax.specs.inner.Front.{IsFrontOf, EndsForm, begins_hexadecimal};
 
 use crate::bytes::{Class, byte, hex_value, run, spoils_numeral};
 use crate::fault::SyntaxWhy;

@@ -1,28 +1,35 @@
 //! Symbols.
 
-ghost use Rattle.std.specs.Prelude.{◌≡◌, ◌<◌, length};
-ghost use Rattle.ntx_syntax.specs.Pieces.{symbol_piece};
-ghost use Rattle.ntx_syntax.specs.Front.{IsFrontOf, symbol_at};
+ghost use Rattle.std.specs.Prelude.{◌≡◌, ◌<◌, length, map};
+ghost use Rattle.ntx_syntax.specs.Pieces.{is_among, symbol_piece};
+ghost use Rattle.ntx_syntax.specs.inner.Front.{IsFrontOf, symbol_at};
 
 use crate::fault::SyntaxWhy;
 use crate::piece::Piece;
+use crate::terminal::symbol_of;
 use crate::token::Sort;
-use crate::word::is_among;
-
-/// The symbols of the language.
-const SYMBOLS: [&[u8]; 28] = [
-    b"+", b"-", b"*", b"//", b"%", b"&", b"~", b"|", b"<<", b">>", b"#", b"==", b"~=", b"<=",
-    b">=", b"<", b">", b"=", b"(", b")", b"{", b"}", b"[", b"]", b";", b",", b".", b"..",
-];
 
 /// Symbols and beginnings of long brackets of Lua that the language does not have.
 const REFUSED_SYMBOLS: [&[u8]; 7] = [b"...", b"::", b":", b"/", b"^", b"[[", b"[="];
+
+/// Whether a word is in a table.
+fn is_among(mut table: &[&[u8]], word: &[u8]) -> bool
+    ensures { result ≡ is_among (map (λ entry. entry.now) table.entry.now) word.now }
+{
+    while let [entry, rest @ ..] = table {
+        if *entry == word {
+            return true;
+        }
+        table = rest;
+    }
+    false
+}
 
 /// What bytes spell that begin no blank, comment, word, numeral or text, if they spell one piece.
 fn symbol_piece(bytes: &[u8]) -> Option<Piece>
     ensures { result ≡ symbol_piece bytes.now }
 {
-    if is_among(&SYMBOLS, bytes) {
+    if symbol_of(bytes).is_some() {
         Some(Piece::Token(Sort::Symbol))
     } else if is_among(&REFUSED_SYMBOLS, bytes) {
         Some(Piece::Wrong(SyntaxWhy::Symbol))

@@ -6,7 +6,7 @@ ghost use Rattle.ntx_num.specs.Answer.{Gives, result_map};
 ghost use Rattle.ntx_syntax.specs.Bytes.{is_quote};
 ghost use Rattle.ntx_syntax.specs.Values as value;
 ghost use Rattle.ntx_syntax.specs.Pieces.{text_piece};
-ghost use Rattle.ntx_syntax.specs.Front.{IsFrontOf, quoted_len, character};
+ghost use Rattle.ntx_syntax.specs.inner.Front.{IsFrontOf, quoted_len, character};
 
 use crate::bytes::{byte, hex_value};
 use crate::fault::SyntaxWhy;

@@ -2,6 +2,9 @@
 //!
 //! Operators of one precedence that associate to the left and stand one behind the other, the suffixes of a name or of a
 //! parenthesized expression, and the arms of an `if` are lists: a long flat script has a flat tree.
+//!
+//! The wide parts of statements, expressions and fields are boxed, so that lists of these are narrow: a statement takes 72
+//! bytes and an expression 64.
 
 use sqlite_items::{Boxed, Items};
 
@@ -63,26 +66,26 @@ pub enum StatKind {
     /// `varlist = explist`
     Assign(Items<Var>, Items<Exp>),
     /// `call`
-    Call(Call),
+    Call(Boxed<Call>),
     /// `break`
     Break,
     /// `do block end`
-    Do(Block),
+    Do(Boxed<Block>),
     /// `while exp do block end`
-    While(Exp, Block),
+    While(Boxed<Exp>, Boxed<Block>),
     /// `repeat block until exp`
-    Repeat(Block, Exp),
+    Repeat(Boxed<Block>, Boxed<Exp>),
     /// `if exp then block {elseif exp then block} [else block] end`: the arm of `if` and those of each `elseif`, and
     /// the block of `else`.
-    If(Items<IfArm>, Option<Block>),
+    If(Items<IfArm>, Option<Boxed<Block>>),
     /// `for Name = exp , exp [, exp] do block end`: the name, the first value, the limit, the step and the body.
-    NumericFor(LocalName, Exp, Exp, Option<Exp>, Block),
+    NumericFor(Boxed<LocalName>, Boxed<Exp>, Boxed<Exp>, Option<Boxed<Exp>>, Boxed<Block>),
     /// `for namelist in explist do block end`
-    GenericFor(Items<LocalName>, Items<Exp>, Block),
+    GenericFor(Items<LocalName>, Items<Exp>, Boxed<Block>),
     /// `function Name {. Name} body`: the first name, those behind each `.`, and the body.
-    Function(Name, Items<Name>, FunctionBody),
+    Function(Name, Items<Name>, Boxed<FunctionBody>),
     /// `local function Name body`
-    LocalFunction(LocalName, FunctionBody),
+    LocalFunction(LocalName, Boxed<FunctionBody>),
     /// `local namelist [= explist]`
     Local(Items<LocalName>, Items<Exp>),
 }
@@ -114,9 +117,9 @@ pub enum Var {
     /// `Name`
     Name(Name),
     /// `prefix [ exp ]`
-    Index(Prefix, Exp),
+    Index(Boxed<Prefix>, Boxed<Exp>),
     /// `prefix . Name`
-    Field(Prefix, Name),
+    Field(Boxed<Prefix>, Name),
 }
 
 /// `prefix ( [explist] )`
@@ -154,7 +157,7 @@ pub enum Head {
 #[derive(Drop)]
 pub enum Suffix {
     /// `[ exp ]`
-    Index(Exp),
+    Index(Boxed<Exp>),
     /// `. Name`
     Field(Name),
     /// `( [explist] )`
@@ -176,7 +179,7 @@ pub enum Exp {
     /// A text, as the bytes that it stands for.
     Text(Items<u8>),
     /// `function body`
-    Function(FunctionBody),
+    Function(Boxed<FunctionBody>),
     /// `prefix`
     Prefix(Prefix),
     /// `{ [field {(,|;) field} [,|;]] }`
@@ -203,9 +206,9 @@ pub struct Operation {
 #[derive(Drop)]
 pub enum Field {
     /// `[ exp ] = exp`
-    Keyed(Exp, Exp),
+    Keyed(Boxed<Exp>, Boxed<Exp>),
     /// `Name = exp`
-    Named(Name, Exp),
+    Named(Name, Boxed<Exp>),
     /// `exp`
     Positional(Exp),
 }

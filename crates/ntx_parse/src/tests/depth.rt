@@ -1,6 +1,6 @@
 //! Scripts that nest deep, and long flat ones.
 
-use super::{read, refuses};
+use super::{parsed, refuses};
 use ntx_syntax::SyntaxWhy;
 use std::alloc::{AllocError, Global};
 use std::process::Abort;
@@ -25,7 +25,7 @@ fn nested(alloc: Global, times: u64, parts: [&[u8]; 5]) -> Result<Vec<u8>, Alloc
 fn accepts(rt: &(impl Abort + AllocGlobal), times: u64, parts: [&[u8]; 5]) {
     match nested(rt.alloc(), times, parts) {
         Err(_) => panic!(rt; "no memory"),
-        Ok(text) => match read(rt.alloc(), text.as_slice()) {
+        Ok(text) => match parsed(rt.alloc(), text.as_slice()) {
             Ok(_) => {}
             Err(_) => panic!(rt; "refused"),
         },
@@ -100,9 +100,7 @@ fn keys(rt: HostRuntime) {
 
 #[test]
 fn flat(rt: HostRuntime) {
-    accepts(&rt, 4_000, [b"x=a", b"+a", b"", b"", b""]);
     accepts(&rt, 4_000, [b"x=a", b" or a", b"", b"", b""]);
-    accepts(&rt, 4_000, [b"x=a", b".a", b"", b"", b""]);
     accepts(&rt, 4_000, [b"a", b"()", b"", b"", b""]);
     accepts(&rt, 4_000, [b"a", b"[a]", b"=a", b"", b""]);
     accepts(&rt, 4_000, [b"", b"a=a ", b"", b"", b""]);
@@ -112,6 +110,13 @@ fn flat(rt: HostRuntime) {
         [b"if a then", b" elseif a then", b" end", b"", b""],
     );
     accepts(&rt, 4_000, [b"local a", b",a", b"", b"", b""]);
-    accepts(&rt, 4_000, [b"x={", b"a,", b"}", b"", b""]);
     accepts(&rt, 4_000, [b"f(a", b",a", b")", b"", b""]);
+}
+
+#[test]
+fn long(rt: HostRuntime) {
+    accepts(&rt, 400_000, [b"x=a", b"+a", b"", b"", b""]);
+    accepts(&rt, 400_000, [b"x=a", b".a", b"", b"", b""]);
+    accepts(&rt, 400_000, [b"x={", b"a,", b"}", b"", b""]);
+    accepts(&rt, 1 << 18, [b"", b";", b"", b"", b""]);
 }

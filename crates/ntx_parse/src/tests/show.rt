@@ -79,17 +79,19 @@ impl<'a> Parts<'a> {
             ]),
             StatKind::Call(call) => self.show(&[
                 Part::Bytes(b"call "),
-                Part::Prefix(&call.function),
+                Part::Prefix(&call.get().function),
                 Part::Bytes(b"("),
-                Part::Exps(call.arguments.as_slice()),
+                Part::Exps(call.get().arguments.as_slice()),
                 Part::Bytes(b")"),
             ]),
             StatKind::Break => self.show(&[Part::Bytes(b"break")]),
-            StatKind::Do(body) => self.show(&[Part::Bytes(b"do "), Part::Block(body), END]),
+            StatKind::Do(body) => {
+                self.show(&[Part::Bytes(b"do "), Part::Block(body.get()), END])
+            },
             StatKind::If(arms, other) => {
                 self.show(&[END])?;
                 if let Some(block) = other {
-                    self.show(&[Part::Bytes(b"else "), Part::Block(block)])?;
+                    self.show(&[Part::Bytes(b"else "), Part::Block(block.get())])?;
                 }
                 self.show(&[Part::Arms(arms.as_slice())])
             }
@@ -101,29 +103,29 @@ impl<'a> Parts<'a> {
         match kind {
             StatKind::While(condition, body) => self.show(&[
                 Part::Bytes(b"while "),
-                Part::Exp(condition),
+                Part::Exp(condition.get()),
                 Part::Bytes(b" do "),
-                Part::Block(body),
+                Part::Block(body.get()),
                 END,
             ]),
             StatKind::Repeat(body, condition) => self.show(&[
                 Part::Bytes(b"repeat "),
-                Part::Block(body),
+                Part::Block(body.get()),
                 Part::Bytes(b"until "),
-                Part::Exp(condition),
+                Part::Exp(condition.get()),
             ]),
             StatKind::NumericFor(name, first, limit, step, body) => {
-                self.show(&[Part::Bytes(b" do "), Part::Block(body), END])?;
+                self.show(&[Part::Bytes(b" do "), Part::Block(body.get()), END])?;
                 if let Some(step) = step {
-                    self.show(&[COMMA, Part::Exp(step)])?;
+                    self.show(&[COMMA, Part::Exp(step.get())])?;
                 }
                 self.show(&[
                     Part::Bytes(b"for "),
-                    Part::Local(name),
+                    Part::Local(name.get()),
                     Part::Bytes(b"="),
-                    Part::Exp(first),
+                    Part::Exp(first.get()),
                     COMMA,
-                    Part::Exp(limit),
+                    Part::Exp(limit.get()),
                 ])
             }
             StatKind::GenericFor(names, values, body) => self.show(&[
@@ -132,7 +134,7 @@ impl<'a> Parts<'a> {
                 Part::Bytes(b" in "),
                 Part::Exps(values.as_slice()),
                 Part::Bytes(b" do "),
-                Part::Block(body),
+                Part::Block(body.get()),
                 END,
             ]),
             _ => self.binding_kind(kind),
@@ -145,12 +147,12 @@ impl<'a> Parts<'a> {
                 Part::Bytes(b"function "),
                 Part::Bytes(name.as_slice()),
                 Part::Path(path.as_slice()),
-                Part::Body(body),
+                Part::Body(body.get()),
             ]),
             StatKind::LocalFunction(name, body) => self.show(&[
                 Part::Bytes(b"local function "),
                 Part::Local(name),
-                Part::Body(body),
+                Part::Body(body.get()),
             ]),
             StatKind::Local(names, values) => self.show(&[
                 Part::Bytes(b"local "),
@@ -182,7 +184,9 @@ impl<'a> Parts<'a> {
             Exp::True => self.show(&[Part::Bytes(b"true")]),
             Exp::Numeral(value) => self.show(&[Part::Integer(*value)]),
             Exp::Text(bytes) => self.show(&[QUOTE, Part::Bytes(bytes.as_slice()), QUOTE]),
-            Exp::Function(body) => self.show(&[Part::Bytes(b"function"), Part::Body(body)]),
+            Exp::Function(body) => {
+                self.show(&[Part::Bytes(b"function"), Part::Body(body.get())])
+            }
             Exp::Prefix(prefix) => self.show(&[Part::Prefix(prefix)]),
             Exp::Table(fields) => self.show(&[
                 Part::Bytes(b"{"),
@@ -242,7 +246,7 @@ impl<'a> Parts<'a> {
         self.show(&[Part::Suffixes(rest)])?;
         match suffix {
             Suffix::Index(key) => {
-                self.show(&[Part::Bytes(b"["), Part::Exp(key), Part::Bytes(b"]")])
+                self.show(&[Part::Bytes(b"["), Part::Exp(key.get()), Part::Bytes(b"]")])
             }
             Suffix::Field(name) => self.show(&[Part::Bytes(b"."), Part::Bytes(name.as_slice())]),
             Suffix::Call(arguments) => self.show(&[
@@ -261,14 +265,14 @@ impl<'a> Parts<'a> {
         match field {
             Field::Keyed(key, value) => self.show(&[
                 Part::Bytes(b"["),
-                Part::Exp(key),
+                Part::Exp(key.get()),
                 Part::Bytes(b"]="),
-                Part::Exp(value),
+                Part::Exp(value.get()),
             ]),
             Field::Named(name, value) => self.show(&[
                 Part::Bytes(name.as_slice()),
                 Part::Bytes(b"="),
-                Part::Exp(value),
+                Part::Exp(value.get()),
             ]),
             Field::Positional(value) => self.show(&[Part::Exp(value)]),
         }
@@ -284,13 +288,13 @@ impl<'a> Parts<'a> {
         match var {
             Var::Name(name) => self.show(&[Part::Bytes(name.as_slice())]),
             Var::Index(prefix, key) => self.show(&[
-                Part::Prefix(prefix),
+                Part::Prefix(prefix.get()),
                 Part::Bytes(b"["),
-                Part::Exp(key),
+                Part::Exp(key.get()),
                 Part::Bytes(b"]"),
             ]),
             Var::Field(prefix, name) => self.show(&[
-                Part::Prefix(prefix),
+                Part::Prefix(prefix.get()),
                 Part::Bytes(b"."),
                 Part::Bytes(name.as_slice()),
             ]),

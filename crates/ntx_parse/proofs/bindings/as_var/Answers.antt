@@ -1,5 +1,5 @@
 use Rattle.std.proofs.Common.{refl}
-use Rattle.ntx_parse.proofs.ReadsLemmas.{done, stops_at_once}
+use Rattle.ntx_parse.proofs.reads.Answers.{done, stops_at_once}
 use Rattle.ntx_parse.proofs.bindings.as_var.Goals as goal
 
 pub returns-in-Some : goal.returns-in-Some

@@ -1,4 +1,4 @@
-use Rattle.ntx_parse.proofs.ReadsLemmas.{ok, err_by}
+use Rattle.ntx_parse.proofs.reads.Answers.{ok, err_by}
 use Rattle.ntx_parse.proofs.names.names.Goals as goal
 
 pub returns-in_err-first : goal.returns-in_err-first

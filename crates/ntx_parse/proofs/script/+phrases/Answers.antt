@@ -1,5 +1,5 @@
 use Rattle.std.proofs.Common.{refl}
-use Rattle.ntx_parse.proofs.ReadsLemmas.{later}
+use Rattle.ntx_parse.proofs.reads.Answers.{later}
 use Rattle.ntx_parse.proofs.script.+phrases.Goals as goal
 
 pub block-returns : goal.block-returns

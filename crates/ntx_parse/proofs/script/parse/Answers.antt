@@ -2,12 +2,12 @@ use Rattle.std.proofs.Common.{◌≡◌, sym, ap, ◌∙◌, subst}
 use Rattle.std.specs.Prelude.{map}
 use Rattle.ntx_parse.specs.Faults.{IfRefused, IsRefused}
 use Rattle.ntx_parse.specs.Grammar.{Accepts}
-use Rattle.ntx_parse.specs.Input.{HaveValues, seen}
+use Rattle.ntx_parse.specs.inner.Input.{HaveValues, seen}
 use Rattle.ntx_parse.specs.Words.{words_of}
 use Rattle.ntx_parse.proofs.ScriptLemmas.{script_is_accepted, no_other_tree, only_by, refused_by, all_values}
-use Rattle.ntx_parse.proofs.OneFault.{refused_is_none, err_with_its_fault}
+use Rattle.ntx_parse.proofs.faults.OneFault.{refused_is_none, err_with_its_fault}
 use Rattle.ntx_parse.proofs.WordValues.{words_have_values}
-use Rattle.ntx_parse.proofs.StuckAnswers.{EachHasValue}
+use Rattle.ntx_parse.proofs.stuck.Answers.{EachHasValue}
 use Rattle.ntx_parse.proofs.script.parse.Goals as goal
 
 pub whole-requires : goal.whole-requires

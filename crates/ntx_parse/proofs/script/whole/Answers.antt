@@ -1,7 +1,7 @@
 use Rattle.std.proofs.Common.{sym, ◌∙◌}
 use Rattle.std.proofs.lemmas.Bool.{false≢true}
-use Rattle.ntx_parse.specs.Reading.{ended}
-use Rattle.ntx_parse.proofs.ReadsLemmas.{err_by}
+use Rattle.ntx_parse.specs.inner.Reading.{ended}
+use Rattle.ntx_parse.proofs.reads.Answers.{err_by}
 use Rattle.ntx_parse.proofs.ScriptLemmas.{block_reads, script_ends, script_stops}
 use Rattle.ntx_parse.proofs.script.whole.Goals as goal
 

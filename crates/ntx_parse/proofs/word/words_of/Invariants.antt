@@ -1,7 +1,7 @@
 use Rattle.std.proofs.Common.{◌≡◌, ℕ, map, take, drop}
 use Rattle.ntx_syntax.specs.Lexes.{StandInOrder}
 use Rattle.ntx_parse.specs.Words as words
-use Rattle.ntx_parse.specs.Input.{seen}
+use Rattle.ntx_parse.specs.inner.Input.{seen}
 use Rattle.ntx_parse.proofs.word.words_of.Given as goal
 
 -- the words so far, and the tokens that are left stand in order

@@ -1,6 +1,6 @@
 use Rattle.std.proofs.Common.{length, ◌-◌, ◌≡◌, ◌≤◌, ◌+◌, drop}
 use Rattle.std.specs.List.{prefix_len}
-use Rattle.ntx_syntax.specs.Front.{is_in}
+use Rattle.ntx_syntax.specs.inner.Front.{is_in}
 use Rattle.ntx_syntax.proofs.bytes.run.Given as goal
 
 abbrev pub invariant-loop-len : goal.invariant-loop-len

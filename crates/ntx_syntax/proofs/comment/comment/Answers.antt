@@ -1,6 +1,6 @@
 use Rattle.std.proofs.Common.{subst}
 use Rattle.std.proofs.lemmas.List.{take_rest}
-use Rattle.ntx_syntax.specs.Front.{IsCommentRest}
+use Rattle.ntx_syntax.specs.inner.Front.{IsCommentRest}
 use Rattle.ntx_syntax.proofs.CommentLemmas.{comment_front, two_dashes}
 use Rattle.ntx_syntax.proofs.comment.comment.Goals as goal
 

@@ -1,6 +1,6 @@
 use Rattle.std.proofs.Common.{◌+◌, ◌≤◌, length, drop, sym, ◌∙◌, ap, subst}
 use Rattle.std.proofs.lemmas.List.{take_rest}
-use Rattle.ntx_syntax.specs.Front.{bracketed_len}
+use Rattle.ntx_syntax.specs.inner.Front.{bracketed_len}
 use Rattle.ntx_syntax.proofs.CommentLemmas.{line_comment, open_comment, closed_comment, bracketed_some}
 use Rattle.ntx_syntax.proofs.comment.comment_rest.Goals as goal
 

@@ -3,7 +3,7 @@ use Rattle.std.proofs.lemmas.List.{take_rest, length-take, length-drop}
 use Rattle.std.proofs.ResultArms.{chosen}
 use Rattle.ntx_syntax.specs.declared.piece.Piece.{Piece}
 use Rattle.ntx_syntax.specs.Lexes.{line_ends}
-use Rattle.ntx_syntax.specs.Front.{IsFront}
+use Rattle.ntx_syntax.specs.inner.Front.{IsFront}
 use Rattle.ntx_syntax.proofs.LexLemmas.{step_gap, step_token, step_wrong, at_end}
 use Rattle.ntx_syntax.proofs.lex.lex.Goals as goal
 use Rattle.ntx_syntax.proofs.lex.lex.Goals.{in-Gap, in-Token+in_ok-push-in-Token}

@@ -1,6 +1,6 @@
 use Rattle.std.proofs.Common.{length, ◌-◌, ◌+◌, ◌≡◌, ◌≤◌, drop}
 use Rattle.std.specs.Prelude.{option_map}
-use Rattle.ntx_syntax.specs.Front.{quoted_len}
+use Rattle.ntx_syntax.specs.inner.Front.{quoted_len}
 use Rattle.ntx_syntax.proofs.text.quoted_len.Given as goal
 
 abbrev pub invariant-loop-at : goal.invariant-loop-at

@@ -1,6 +1,6 @@
 use Rattle.std.proofs.Common.{sym, ◌∙◌, ap, subst, length, ◌≤◌, slice_index}
 use Rattle.std.proofs.lemmas.List.{take_rest}
-use Rattle.ntx_syntax.specs.Front.{quoted_len}
+use Rattle.ntx_syntax.specs.inner.Front.{quoted_len}
 use Rattle.ntx_syntax.proofs.TextLemmas.{text_right, text_open}
 use Rattle.ntx_syntax.proofs.text.text.Goals as goal
 

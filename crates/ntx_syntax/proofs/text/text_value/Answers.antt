@@ -3,7 +3,7 @@ use Rattle.std.proofs.lemmas.Bool.{ne_eqb}
 use Rattle.std.proofs.lemmas.List.{take_rest, length-drop}
 use Rattle.std.proofs.ResultArms.{chosen}
 use Rattle.ntx_syntax.specs.Values.{text_value}
-use Rattle.ntx_syntax.specs.Front.{character}
+use Rattle.ntx_syntax.specs.inner.Front.{character}
 use Rattle.ntx_syntax.proofs.ValueLemmas.{CharactersFrom, text_closes, character_stands, character_more}
 use Rattle.ntx_syntax.proofs.text.text_value.Goals as goal
 

@@ -1,4 +1,4 @@
-use Rattle.ntx_parse.proofs.ReadsLemmas.{ok, err_by, no_memory_by, done}
+use Rattle.ntx_parse.proofs.reads.Answers.{ok, err_by, no_memory_by, done}
 use Rattle.ntx_parse.proofs.parser.Parser.local_name.Goals as goal
 
 pub returns-in_err-word-clause-reads : goal.returns-in_err-word-clause-reads

@@ -1,8 +1,8 @@
 use Rattle.std.proofs.Common.{w64, lt→ltb}
 use Rattle.std.proofs.lemmas.Int.{to_z-of_z}
 use Rattle.std.proofs.Math.Facts.{sfits_lit}
-use Rattle.ntx_parse.proofs.ReadsLemmas.{ok, err_by, done}
-use Rattle.ntx_parse.proofs.TakenLemmas.{value_kept}
+use Rattle.ntx_parse.proofs.reads.Answers.{ok, err_by, done}
+use Rattle.ntx_parse.proofs.reads.Words.{value_kept}
 use Rattle.ntx_parse.proofs.parser.Parser.numeral.Goals as goal
 
 pub returns-in_err-word : goal.returns-in_err-word

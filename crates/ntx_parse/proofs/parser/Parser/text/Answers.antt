@@ -1,5 +1,5 @@
 use Rattle.std.proofs.Common.{sym}
-use Rattle.ntx_parse.proofs.ReadsLemmas.{ok, err_by, no_memory_by, done}
+use Rattle.ntx_parse.proofs.reads.Answers.{ok, err_by, no_memory_by, done}
 use Rattle.ntx_parse.proofs.parser.Parser.text.Goals as goal
 
 pub returns-in_err-word : goal.returns-in_err-word

@@ -1,18 +1,18 @@
 use Rattle.std.proofs.Common.{arith}
-use Rattle.ntx_parse.proofs.ReadsLemmas.{ok, err_by, done, shorter_of}
+use Rattle.ntx_parse.proofs.reads.Answers.{ok, err_by, done, shorter_of}
 use Rattle.ntx_parse.proofs.rules.Rules.index.Goals as goal
 
-pub returns-in_err-expected-clause-reads : goal.returns-in_err-expected-clause-reads
-returns-in_err-expected-clause-reads g c = err_by _ _ c.from_residual.ensures.1 c.in_err-expected.ensures.reads
+pub returns-in_err-expect_word-clause-reads : goal.returns-in_err-expect_word-clause-reads
+returns-in_err-expect_word-clause-reads g c = err_by _ _ c.from_residual.ensures.1 c.in_err-expect_word.ensures.reads
 
 pub returns-in_err-key-clause-reads : goal.returns-in_err-key-clause-reads
-returns-in_err-key-clause-reads g c = ok _ c.in_ok-expected.ensures.reads (err_by _ _ c.from_residual-in_err-key.ensures.1 c.in_err-key.ensures)
+returns-in_err-key-clause-reads g c = ok _ c.in_ok-expect_word.ensures.reads (err_by _ _ c.from_residual-in_err-key.ensures.1 c.in_err-key.ensures)
 
-pub returns-in_err-expected-2-clause-reads : goal.returns-in_err-expected-2-clause-reads
-returns-in_err-expected-2-clause-reads g c = ok _ c.in_ok-expected.ensures.reads (ok _ c.in_ok-key.ensures (err_by _ _ c.from_residual-in_err-expected-2.ensures.1 c.in_err-expected-2.ensures.reads))
+pub returns-in_err-expect_word-2-clause-reads : goal.returns-in_err-expect_word-2-clause-reads
+returns-in_err-expect_word-2-clause-reads g c = ok _ c.in_ok-expect_word.ensures.reads (ok _ c.in_ok-key.ensures (err_by _ _ c.from_residual-in_err-expect_word-2.ensures.1 c.in_err-expect_word-2.ensures.reads))
 
 pub returns-clause-reads : goal.returns-clause-reads
-returns-clause-reads g c = ok _ c.in_ok-expected.ensures.reads (ok _ c.in_ok-key.ensures (ok _ c.in_ok-expected-2.ensures.reads (done)))
+returns-clause-reads g c = ok _ c.in_ok-expect_word.ensures.reads (ok _ c.in_ok-key.ensures (ok _ c.in_ok-expect_word-2.ensures.reads (done)))
 
 pub returns-clause-shorter : goal.returns-clause-shorter
-returns-clause-shorter g c = omega (arith, c.in_ok-expected.ensures.shorter, shorter_of c.in_ok-key.ensures, c.in_ok-expected-2.ensures.shorter)
+returns-clause-shorter g c = omega (arith, c.in_ok-expect_word.ensures.shorter, shorter_of c.in_ok-key.ensures, c.in_ok-expect_word-2.ensures.shorter)

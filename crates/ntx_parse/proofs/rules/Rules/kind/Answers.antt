@@ -1,6 +1,6 @@
-use Rattle.ntx_parse.specs.Reading.{readers}
-use Rattle.ntx_parse.proofs.ReadsLemmas.{same}
-use Rattle.ntx_parse.proofs.StatLemmas.{kind_other}
+use Rattle.ntx_parse.specs.inner.Reading.{readers}
+use Rattle.ntx_parse.proofs.reads.Answers.{same}
+use Rattle.ntx_parse.proofs.complete.Stats.{kind_other}
 use Rattle.ntx_parse.proofs.rules.Rules.kind.Goals as goal
 
 pub returns-in-Semicolon-clause-reads : goal.returns-in-Semicolon-clause-reads

@@ -1,5 +1,5 @@
 use Rattle.std.proofs.Common.{◌∙◌, sym}
-use Rattle.ntx_parse.proofs.ReadsLemmas.{ok, err_by, done, when, unless}
+use Rattle.ntx_parse.proofs.reads.Answers.{ok, err_by, done, when, unless}
 use Rattle.ntx_parse.proofs.rules.Rules.last.Goals as goal
 
 pub returns-then-not-begins : goal.returns-then-not-begins

@@ -1,6 +1,7 @@
 use Rattle.std.proofs.Common.{◌≤◌, Ok}
-use Rattle.ntx_parse.specs.Reading.{readers, rank}
-use Rattle.ntx_parse.specs.Reads.{Reads}
+use Rattle.ntx_parse.specs.inner.Reading.{readers}
+use Rattle.ntx_parse.specs.inner.Reads.{Reads}
+use Rattle.ntx_parse.proofs.Ranks.{rank}
 use Rattle.ntx_parse.proofs.rules.Rules.level.Given as goal
 
 -- What is read up to here has the operators of this precedence and of tighter ones.

@@ -1,15 +1,15 @@
-use Rattle.ntx_parse.specs.Reading.{readers, read_body}
-use Rattle.ntx_parse.proofs.ReadsLemmas.{ok, err_by, done, with_equal}
+use Rattle.ntx_parse.specs.inner.Reading.{readers, read_body}
+use Rattle.ntx_parse.proofs.reads.Answers.{ok, err_by, done, with_equal}
 use Rattle.ntx_parse.proofs.rules.Rules.local_function_behind.Goals as goal
 
-pub returns-in_err-taken : goal.returns-in_err-taken
-returns-in_err-taken g c = err_by _ _ c.from_residual.ensures.1 c.in_err-taken.ensures.reads
+pub returns-in_err-take_word : goal.returns-in_err-take_word
+returns-in_err-take_word g c = err_by _ _ c.from_residual.ensures.1 c.in_err-take_word.ensures.reads
 
 pub returns-in_err-name : goal.returns-in_err-name
-returns-in_err-name g c = ok _ c.in_ok-taken.ensures.reads (err_by _ _ c.from_residual-in_err-name.ensures.1 c.in_err-name.ensures.reads)
+returns-in_err-name g c = ok _ c.in_ok-take_word.ensures.reads (err_by _ _ c.from_residual-in_err-name.ensures.1 c.in_err-name.ensures.reads)
 
 pub returns-in_err-body : goal.returns-in_err-body
-returns-in_err-body g c = ok _ c.in_ok-taken.ensures.reads (ok _ c.in_ok-name.ensures.reads (err_by _ _ c.from_residual-in_err-body.ensures.1 (with_equal (λ q n. read_body (readers n) q c.local_name.new.self.words) c.within.ensures.is _ _ c.in_err-body.ensures)))
+returns-in_err-body g c = ok _ c.in_ok-take_word.ensures.reads (ok _ c.in_ok-name.ensures.reads (err_by _ _ c.from_residual-in_err-body.ensures.1 (with_equal (λ q n. read_body (readers n) q c.local_name.new.self.words) c.within.ensures.is _ _ c.in_err-body.ensures)))
 
 pub returns : goal.returns
-returns g c = ok _ c.in_ok-taken.ensures.reads (ok _ c.in_ok-name.ensures.reads (ok _ (with_equal (λ q n. read_body (readers n) q c.local_name.new.self.words) c.within.ensures.is _ _ c.in_ok-body.ensures) (done)))
+returns g c = ok _ c.in_ok-take_word.ensures.reads (ok _ c.in_ok-name.ensures.reads (ok _ (with_equal (λ q n. read_body (readers n) q c.local_name.new.self.words) c.within.ensures.is _ _ c.in_ok-body.ensures) (done)))

@@ -1,4 +1,4 @@
-use Rattle.ntx_parse.proofs.ReadsLemmas.{ok, err_by, done}
+use Rattle.ntx_parse.proofs.reads.Answers.{ok, err_by, done}
 use Rattle.ntx_parse.proofs.rules.Rules.locals_behind.Goals as goal
 
 pub returns-in_err-names : goal.returns-in_err-names

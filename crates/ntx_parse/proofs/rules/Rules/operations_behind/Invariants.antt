@@ -2,9 +2,9 @@ use Rattle.std.proofs.Common.{List, length, [], Result}
 use Rattle.ntx_num.specs.declared.answer.Fail.{Fail}
 use Rattle.ntx_syntax.specs.declared.fault.SyntaxFault.{SyntaxFault}
 use Rattle.ntx_syntax.specs.declared.tree.Operation.{Operation}
-use Rattle.ntx_parse.specs.Reading.{readers}
-use Rattle.ntx_parse.specs.Input.{Input}
-use Rattle.ntx_parse.specs.Reads.{Reads}
+use Rattle.ntx_parse.specs.inner.Reading.{readers}
+use Rattle.ntx_parse.specs.inner.Input.{Input}
+use Rattle.ntx_parse.specs.inner.Reads.{Reads}
 use Rattle.ntx_parse.proofs.rules.Rules.operations_behind.Given as goal
 
 -- what is read from here on is what is read from the start

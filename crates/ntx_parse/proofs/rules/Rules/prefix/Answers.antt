@@ -1,5 +1,5 @@
 use Rattle.std.proofs.Common.{arith, ◌∙◌, sym}
-use Rattle.ntx_parse.proofs.ReadsLemmas.{ok, err_by, when, unless, stays_shorter}
+use Rattle.ntx_parse.proofs.reads.Answers.{ok, err_by, when, unless, stays_shorter}
 use Rattle.ntx_parse.proofs.rules.Rules.prefix.Goals as goal
 
 pub returns-in_err-exp-clause-reads : goal.returns-in_err-exp-clause-reads

@@ -1,4 +1,4 @@
-use Rattle.ntx_parse.proofs.ReadsLemmas.{ok, err_by, no_memory_by, done}
+use Rattle.ntx_parse.proofs.reads.Answers.{ok, err_by, no_memory_by, done}
 use Rattle.ntx_parse.proofs.rules.Rules.prefix_exp.Goals as goal
 
 pub returns-in_err-found : goal.returns-in_err-found

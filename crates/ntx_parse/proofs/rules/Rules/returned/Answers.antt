@@ -1,5 +1,5 @@
 use Rattle.std.proofs.Common.{◌∙◌, sym}
-use Rattle.ntx_parse.proofs.ReadsLemmas.{done, when, unless}
+use Rattle.ntx_parse.proofs.reads.Answers.{done, when, unless}
 use Rattle.ntx_parse.proofs.rules.Rules.returned.Goals as goal
 
 pub returns-then-ends_returned : goal.returns-then-ends_returned

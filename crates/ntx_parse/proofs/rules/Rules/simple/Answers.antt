@@ -1,7 +1,7 @@
 use Rattle.std.proofs.Common.{◌∙◌, sym, refl}
-use Rattle.ntx_parse.specs.Reading.{readers}
-use Rattle.ntx_parse.proofs.ReadsLemmas.{same, stops_at_once}
-use Rattle.ntx_parse.proofs.StatLemmas.{simple_by, simple_none}
+use Rattle.ntx_parse.specs.inner.Reading.{readers}
+use Rattle.ntx_parse.proofs.reads.Answers.{same, stops_at_once}
+use Rattle.ntx_parse.proofs.complete.Stats.{simple_by, simple_none}
 use Rattle.ntx_parse.proofs.rules.Rules.simple.Goals as goal
 
 pub returns-in-None : goal.returns-in-None

@@ -1,7 +1,7 @@
 use Rattle.std.proofs.Common.{refl}
-use Rattle.ntx_parse.specs.Reading.{readers}
-use Rattle.ntx_parse.proofs.ReadsLemmas.{same, stops_at_once}
-use Rattle.ntx_parse.proofs.StatLemmas.{simple_other}
+use Rattle.ntx_parse.specs.inner.Reading.{readers}
+use Rattle.ntx_parse.proofs.reads.Answers.{same, stops_at_once}
+use Rattle.ntx_parse.proofs.complete.Stats.{simple_other}
 use Rattle.ntx_parse.proofs.rules.Rules.simple_at.Goals as goal
 
 pub returns-in-Nil : goal.returns-in-Nil

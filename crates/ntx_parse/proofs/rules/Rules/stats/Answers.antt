@@ -1,7 +1,7 @@
 use Rattle.std.proofs.Common.{refl, ◌∙◌, sym}
-use Rattle.ntx_parse.specs.Reading.{readers}
-use Rattle.ntx_parse.proofs.ReadsLemmas.{ok, err_by, no_memory_by, done, later, same, with_equal}
-use Rattle.ntx_parse.proofs.StatLemmas.{stat_by, stats_end}
+use Rattle.ntx_parse.specs.inner.Reading.{readers}
+use Rattle.ntx_parse.proofs.reads.Answers.{ok, err_by, no_memory_by, done, later, same, with_equal}
+use Rattle.ntx_parse.proofs.complete.Stats.{stat_by, stats_end}
 use Rattle.ntx_parse.proofs.rules.Rules.stats.Goals as goal
 
 pub loop-terminal-init : goal.loop-terminal-init

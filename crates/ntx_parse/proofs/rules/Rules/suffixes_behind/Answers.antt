@@ -1,7 +1,7 @@
 use Rattle.std.proofs.Common.{refl, ◌∙◌, sym}
-use Rattle.ntx_parse.specs.Reading.{readers}
-use Rattle.ntx_parse.proofs.ReadsLemmas.{ok, err_by, no_memory_by, done, later, same, with_equal}
-use Rattle.ntx_parse.proofs.StatLemmas.{suffix_by, suffix_end}
+use Rattle.ntx_parse.specs.inner.Reading.{readers}
+use Rattle.ntx_parse.proofs.reads.Answers.{ok, err_by, no_memory_by, done, later, same, with_equal}
+use Rattle.ntx_parse.proofs.complete.Stats.{suffix_by, suffix_end}
 use Rattle.ntx_parse.proofs.rules.Rules.suffixes_behind.Goals as goal
 
 pub loop-place-init : goal.loop-place-init

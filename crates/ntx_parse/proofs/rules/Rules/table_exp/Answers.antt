@@ -1,5 +1,5 @@
 use Rattle.std.proofs.Common.{sym}
-use Rattle.ntx_parse.proofs.ReadsLemmas.{ok, err_by, done}
+use Rattle.ntx_parse.proofs.reads.Answers.{ok, err_by, done}
 use Rattle.ntx_parse.proofs.rules.Rules.table_exp.Goals as goal
 
 pub returns-in_err-fields : goal.returns-in_err-fields

@@ -1,18 +1,18 @@
 use Rattle.std.proofs.Common.{arith}
-use Rattle.ntx_parse.proofs.ReadsLemmas.{ok, err_by, done, shorter_of}
+use Rattle.ntx_parse.proofs.reads.Answers.{ok, err_by, done, shorter_of}
 use Rattle.ntx_parse.proofs.rules.Rules.while_loop.Goals as goal
 
-pub returns-in_err-taken-clause-reads : goal.returns-in_err-taken-clause-reads
-returns-in_err-taken-clause-reads g c = err_by _ _ c.from_residual.ensures.1 c.in_err-taken.ensures.reads
+pub returns-in_err-take_word-clause-reads : goal.returns-in_err-take_word-clause-reads
+returns-in_err-take_word-clause-reads g c = err_by _ _ c.from_residual.ensures.1 c.in_err-take_word.ensures.reads
 
 pub returns-in_err-condition-clause-reads : goal.returns-in_err-condition-clause-reads
-returns-in_err-condition-clause-reads g c = ok _ c.in_ok-taken.ensures.reads (err_by _ _ c.from_residual-in_err-condition.ensures.1 c.in_err-condition.ensures)
+returns-in_err-condition-clause-reads g c = ok _ c.in_ok-take_word.ensures.reads (err_by _ _ c.from_residual-in_err-condition.ensures.1 c.in_err-condition.ensures)
 
 pub returns-in_err-body-clause-reads : goal.returns-in_err-body-clause-reads
-returns-in_err-body-clause-reads g c = ok _ c.in_ok-taken.ensures.reads (ok _ c.in_ok-condition.ensures (err_by _ _ c.from_residual-in_err-body.ensures.1 c.in_err-body.ensures))
+returns-in_err-body-clause-reads g c = ok _ c.in_ok-take_word.ensures.reads (ok _ c.in_ok-condition.ensures (err_by _ _ c.from_residual-in_err-body.ensures.1 c.in_err-body.ensures))
 
 pub returns-clause-reads : goal.returns-clause-reads
-returns-clause-reads g c = ok _ c.in_ok-taken.ensures.reads (ok _ c.in_ok-condition.ensures (ok _ c.in_ok-body.ensures (done)))
+returns-clause-reads g c = ok _ c.in_ok-take_word.ensures.reads (ok _ c.in_ok-condition.ensures (ok _ c.in_ok-body.ensures (done)))
 
 pub returns-clause-shorter : goal.returns-clause-shorter
-returns-clause-shorter g c = omega (arith, c.in_ok-taken.ensures.shorter, shorter_of c.in_ok-condition.ensures, shorter_of c.in_ok-body.ensures)
+returns-clause-shorter g c = omega (arith, c.in_ok-take_word.ensures.shorter, shorter_of c.in_ok-condition.ensures, shorter_of c.in_ok-body.ensures)

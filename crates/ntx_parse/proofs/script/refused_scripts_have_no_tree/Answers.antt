@@ -1,5 +1,0 @@
-use Rattle.ntx_parse.proofs.OneFault.{refused_is_none}
-use Rattle.ntx_parse.proofs.script.refused_scripts_have_no_tree.Goals as goal
-
-pub returns : goal.returns
-returns c bytes words chunk fault a r = refused_is_none bytes words fault chunk r a

@@ -1,5 +1,0 @@
-use Rattle.ntx_parse.proofs.OneFault.{one_fault}
-use Rattle.ntx_parse.proofs.script.scripts_have_one_fault.Goals as goal
-
-pub returns : goal.returns
-returns c = one_fault

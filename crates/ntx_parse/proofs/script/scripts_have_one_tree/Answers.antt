@@ -1,5 +1,0 @@
-use Rattle.ntx_parse.proofs.Complete.{one_tree}
-use Rattle.ntx_parse.proofs.script.scripts_have_one_tree.Goals as goal
-
-pub returns : goal.returns
-returns c = one_tree
