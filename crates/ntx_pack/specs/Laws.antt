@@ -1,6 +1,6 @@
 -- Laws of packing ("TeX: The Program", sections 625, 634 and 649 to 679).
 --     VerticalListsStack       the height and depth of a vertical list grow as TeX builds them
---     BoxesAreSized            a box has the size that was target_size for, and its other two sizes from its list
+--     BoxesAreSized            a box has the size that was asked for, and its other two sizes from its list
 --     NaturalBoxesAreUnset     a box of the natural size of its list leaves its glue alone
 --     SetSizesGrow             in output an item more at the end has its size from the running total before it
 --     SetSizesAddUp            in output items are together larger by the shortfall, where glue makes up for it, of at most 10^9
