@@ -15,7 +15,7 @@ use Rattle.ntx_nodes.specs.declared.kind.Way.TheVariants.{Plain}
 use Rattle.ntx_nodes.specs.declared.node.Node.{Node}
 use Rattle.ntx_nodes.specs.declared.trouble.Trouble.{Trouble}
 use Rattle.ntx_nodes.proofs.Walks.{nat_eq_same}
-use Rattle.ntx_nodes.proofs.Turns.{passes}
+use Rattle.ntx_nodes.proofs.Fuel.{passes}
 use Rattle.ntx_nodes.proofs.WalkSteps.{whole_None}
 use Rattle.ntx_lists.specs.Lists.{next_of}
 use Rattle.ntx_lists.specs.Copies.{copy_before, list_copy, tree_copy, with_copies, moved_on, room, why_no_more, Left, copies_left, copy_list_step, copy_tree_step, Unfinished, Copies}

@@ -19,7 +19,7 @@ use Rattle.ntx_nodes.specs.declared.node.Node.{Node}
 use Rattle.ntx_nodes.specs.declared.trouble.Trouble.{Trouble}
 use Rattle.ntx_nodes.specs.declared.trouble.Trouble.TheVariants.{NodesFull, NamesOut}
 use Rattle.ntx_nodes.proofs.Walks.{is_reached-append}
-use Rattle.ntx_nodes.proofs.Turns.{Extends, extends_on}
+use Rattle.ntx_nodes.proofs.Fuel.{Extends, extends_on}
 use Rattle.ntx_lists.specs.Trees.{inner_of_found, inner_at}
 use Rattle.ntx_lists.specs.Copies.{moved_on, room, why_no_more}
 use Rattle.ntx_lists.specs.Copying.{bare, AllLive, Made, MakesRest, FreesRun, LinksRest, LeavesCopies, CopiesNode}

@@ -10,7 +10,7 @@ use Rattle.ntx_num.specs.Answer.{result_and_then}
 use Rattle.ntx_num.specs.Dimension.{max_nodes}
 use Rattle.ntx_nodes.specs.Heap.{Heap, IsLawful, is_live, name_limit}
 use Rattle.ntx_nodes.specs.Steps.{next_name}
-use Rattle.ntx_nodes.specs.Walk.{is_reached, walk, turns_of, walk_from, plain_walk, tree_walk, inner_lists}
+use Rattle.ntx_nodes.specs.Walk.{is_reached, walk, fuel_of, walk_from, plain_walk, tree_walk, inner_lists}
 use Rattle.ntx_nodes.specs.Walker.{whole_walk}
 use Rattle.ntx_nodes.specs.WalkLaws.{AreFresh, LeadsTo, LeadsOn}
 use Rattle.ntx_nodes.specs.declared.fields.Contents.{Contents}
@@ -23,7 +23,7 @@ use Rattle.ntx_nodes.specs.declared.node.Node.{Node}
 use Rattle.ntx_nodes.specs.declared.trouble.Trouble.{Trouble}
 use Rattle.ntx_nodes.specs.declared.trouble.Trouble.TheVariants.{NodesFull, NamesOut}
 use Rattle.ntx_nodes.proofs.Walks.{nat_eq_same, is_reached-append}
-use Rattle.ntx_nodes.proofs.Turns.{Extends, extends_on, turns_enough}
+use Rattle.ntx_nodes.proofs.Fuel.{Extends, extends_on, fuel_enough}
 use Rattle.ntx_nodes.proofs.SoundWalks.{sound_walk}
 use Rattle.ntx_lists.specs.Copies.{copy_name, copied_link, copied_lists, with_lists, list_copy, tree_copy, copy_before, with_copies, moved_on, room, why_no_more, Left, copies_left, copy_list_step, copy_tree_step}
 use Rattle.ntx_lists.specs.Copying.{AllLive}
@@ -84,8 +84,8 @@ list_alike heap head names e =
           );
     }
 
-more_turns : (heap : Heap) (copy : Copier) (names : List ℕ) → IsLawful heap → AllLive heap names → turns_of heap + length names ≡ turns_of (with_copies heap copy names)
-more_turns heap copy names lawful live =
+more_fuel : (heap : Heap) (copy : Copier) (names : List ℕ) → IsLawful heap → AllLive heap names → fuel_of heap + length names ≡ fuel_of (with_copies heap copy names)
+more_fuel heap copy names lawful live =
     let len : map.len (with_copies heap copy names).nodes ≡ map.len heap.nodes + length names = copies_len heap copy names lawful live in
     omega arith
 
@@ -96,10 +96,10 @@ list_copied heap head names lawful e =
     let live : AllLive heap names = live_on heap [] head 0 names (none_live heap) e in
     let at : heap.next ≡ heap.next + 0 = omega arith in
     let begins : copied_link heap.next names head ≡ option_map (λ _. heap.next) head = link_at heap heap.next heap.next [] head 0 names [] names e (sym (append-nil names)) at in
-    let sims : (way : Way) (k : ListKind) (reached : List ℕ) → walk_from heap way head k ≡ Ok reached → Sim heap.next names [] reached (walk new way (turns_of heap + length names) [] (copied_link heap.next names head) 0 k) =
-    λ way k reached x. walk_alike heap new heap.next names [] (list_alike heap head names e) way (turns_of heap + length names) [] head 0 k reached (within_none names) s.begins (turns_enough heap way (length names) [] head 0 k ∙ x) in
+    let sims : (way : Way) (k : ListKind) (reached : List ℕ) → walk_from heap way head k ≡ Ok reached → Sim heap.next names [] reached (walk new way (fuel_of heap + length names) [] (copied_link heap.next names head) 0 k) =
+    λ way k reached x. walk_alike heap new heap.next names [] (list_alike heap head names e) way (fuel_of heap + length names) [] head 0 k reached (within_none names) s.begins (fuel_enough heap way (length names) [] head 0 k ∙ x) in
     record {
-      walks = λ way k reached x. (λ i. walk new way (sym (more_turns heap (list_copy heap.next names) names lawful live) i) [] (sym begins i) 0 k) ∙ (sims way k reached x).is;
+      walks = λ way k reached x. (λ i. walk new way (sym (more_fuel heap (list_copy heap.next names) names lawful live) i) [] (sym begins i) 0 k) ∙ (sims way k reached x).is;
       as_many = λ way k reached x. copies_length heap.next names reached (sims way k reached x).within.inside;
       all = ap (λ x. copies_of heap.next x x) s.added ∙ copies_all heap heap.next [] s.more s.fresh ∙ (λ i. names_from (sym at i) (length (sym s.added i)));
     }
@@ -155,9 +155,9 @@ list_in : (heap : Heap) (n : ℕ) (copy : Copier) (names r reached : List ℕ) (
     → Sim heap.next names (n ∷ []) reached (whole_walk (with_copies heap copy names) Plain (copies_of heap.next names r) (copied_link heap.next names to) 1 H)
 list_in heap n copy names r reached to like lawful live within leads e =
     let new : Heap = with_copies heap copy names in
-    let s = walk_alike heap new heap.next names (n ∷ []) like Plain (turns_of heap + length names) r to 1 H reached within leads (turns_enough heap Plain (length names) r to 1 H ∙ e) in
+    let s = walk_alike heap new heap.next names (n ∷ []) like Plain (fuel_of heap + length names) r to 1 H reached within leads (fuel_enough heap Plain (length names) r to 1 H ∙ e) in
     record {
-      is = ap (λ t. walk new Plain t (copies_of heap.next names r) (copied_link heap.next names to) 1 H) (sym (more_turns heap copy names lawful live)) ∙ s.is;
+      is = ap (λ t. walk new Plain t (copies_of heap.next names r) (copied_link heap.next names to) 1 H) (sym (more_fuel heap copy names lawful live)) ∙ s.is;
       within = s.within;
     }
 

@@ -9,7 +9,7 @@ use Rattle.ntx_nodes.specs.WalkLaws.{AreFresh}
 use Rattle.ntx_nodes.specs.declared.kind.ListKind.TheVariants.{H}
 use Rattle.ntx_nodes.specs.declared.kind.Way.TheVariants.{Plain}
 use Rattle.ntx_nodes.proofs.Walks.{nat_eq_same, is_reached-append}
-use Rattle.ntx_nodes.proofs.Turns.{passes, Extends}
+use Rattle.ntx_nodes.proofs.Fuel.{passes, Extends}
 use Rattle.ntx_nodes.proofs.SoundWalks.{sound_walk}
 use Rattle.ntx_lists.specs.Copies.{copy_name, copied_link}
 use Rattle.ntx_lists.specs.Copying.{AllLive, link_to}

@@ -17,7 +17,7 @@ use Rattle.ntx_nodes.specs.declared.node.Node.{Node}
 use Rattle.ntx_nodes.specs.declared.trouble.Trouble.{Trouble}
 use Rattle.ntx_num.proofs.Answers.{same_Ok, mapped_Ok, went_Ok}
 use Rattle.ntx_nodes.proofs.Walks.{nat_eq_same, is_reached-append, node_reached_Ok}
-use Rattle.ntx_nodes.proofs.Turns.{Walker, passes}
+use Rattle.ntx_nodes.proofs.Fuel.{Walker, passes}
 use Rattle.ntx_nodes.proofs.SoundWalks.{leads_none}
 use Rattle.ntx_lists.specs.Copies.{copy_name, copied_link, copied_lists, with_lists, list_copy}
 use Rattle.ntx_lists.specs.CopyLaws.{names_from, with_name, copies_of}
@@ -250,16 +250,16 @@ enter_alike heap new first names start like way w v sims r n d k entry within he
     ∙ ap (result_map {B = Node × List ℕ} (λ x. (copy, x))) lists in
     subst (Enters heap new way first names start r v n d k) m.gives (record { c = a.0; name = a.1; enters = both; within = t.within; leads = a.3.next })
 
-pub walk_alike : (heap new : Heap) (first : ℕ) (names start : List ℕ) → Alike heap new first names start → (way : Way) (turns : ℕ) → Sims first names start (λ r to d k. walk heap way turns r to d k) (λ r to d k. walk new way turns r to d k)
+pub walk_alike : (heap new : Heap) (first : ℕ) (names start : List ℕ) → Alike heap new first names start → (way : Way) (fuel : ℕ) → Sims first names start (λ r to d k. walk heap way fuel r to d k) (λ r to d k. walk new way fuel r to d k)
 walk_alike heap new first names start like way zero r to d k reached within leads e = sim_same first names start r reached within e
-walk_alike heap new first names start like way (suc turns) r None d k reached within leads e = sim_same first names start r reached within e
-walk_alike heap new first names start like way (suc turns) r (Some n) d k reached within leads e =
-    let w : Walker = λ r to d k. walk heap way turns r to d k in
-    let v : Walker = λ r to d k. walk new way turns r to d k in
-    let went = went_Ok {A = Node × List ℕ} (λ entry. walk heap way turns entry.1 entry.0.fields.next d k) (enter heap way w r n d k) reached e in
-    let x = enter_alike heap new first names start like way w v (walk_alike heap new first names start like way turns) r n d k went.value within (leads n refl) went.is in
-    let rest = walk_alike heap new first names start like way turns went.value.1 went.value.0.fields.next d k reached x.within x.leads went.gives in
+walk_alike heap new first names start like way (suc fuel) r None d k reached within leads e = sim_same first names start r reached within e
+walk_alike heap new first names start like way (suc fuel) r (Some n) d k reached within leads e =
+    let w : Walker = λ r to d k. walk heap way fuel r to d k in
+    let v : Walker = λ r to d k. walk new way fuel r to d k in
+    let went = went_Ok {A = Node × List ℕ} (λ entry. walk heap way fuel entry.1 entry.0.fields.next d k) (enter heap way w r n d k) reached e in
+    let x = enter_alike heap new first names start like way w v (walk_alike heap new first names start like way fuel) r n d k went.value within (leads n refl) went.is in
+    let rest = walk_alike heap new first names start like way fuel went.value.1 went.value.0.fields.next d k reached x.within x.leads went.gives in
     record {
-      is = ap (λ o. walk new way (suc turns) (copies_of first names r) o d k) x.name ∙ ap (λ y. result_and_then y (λ (entry : Node × List ℕ). walk new way turns entry.1 entry.0.fields.next d k)) x.enters ∙ rest.is;
+      is = ap (λ o. walk new way (suc fuel) (copies_of first names r) o d k) x.name ∙ ap (λ y. result_and_then y (λ (entry : Node × List ℕ). walk new way fuel entry.1 entry.0.fields.next d k)) x.enters ∙ rest.is;
       within = rest.within;
     }

@@ -19,7 +19,7 @@ use Rattle.ntx_nodes.specs.declared.kind.ListKind.TheVariants.{H}
 use Rattle.ntx_nodes.specs.declared.kind.Way.TheVariants.{Plain}
 use Rattle.ntx_nodes.specs.declared.node.Node.{Node}
 use Rattle.ntx_nodes.specs.declared.trouble.Trouble.{Trouble}
-use Rattle.ntx_nodes.proofs.Turns.{passes, Extends, extends_on}
+use Rattle.ntx_nodes.proofs.Fuel.{passes, Extends, extends_on}
 use Rattle.ntx_nodes.proofs.WalkSteps.{whole_None}
 use Rattle.ntx_lists.specs.Lists.{next_of}
 use Rattle.ntx_lists.specs.Survey.{IsLiveLink}

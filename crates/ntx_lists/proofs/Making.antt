@@ -15,9 +15,9 @@ use Rattle.ntx_nodes.specs.declared.kind.Way.TheVariants.{Plain}
 use Rattle.ntx_nodes.specs.declared.node.Node.{Node}
 use Rattle.ntx_nodes.specs.declared.trouble.Trouble.{Trouble}
 use Rattle.ntx_num.proofs.Answers.{same_Ok, mapped_Ok}
-use Rattle.ntx_nodes.proofs.Turns.{passes, Extends, extends_on, walk_extends}
+use Rattle.ntx_nodes.proofs.Fuel.{passes, Extends, extends_on, walk_extends}
 use Rattle.ntx_nodes.proofs.WalkSteps.{whole_None}
-use Rattle.ntx_nodes.specs.Walk.{turns_of}
+use Rattle.ntx_nodes.specs.Walk.{fuel_of}
 use Rattle.ntx_lists.specs.Lists.{next_of}
 use Rattle.ntx_lists.specs.Trees.{inner_of_found, inner_at}
 use Rattle.ntx_lists.specs.Copying.{bare, Stops, Made, Makes, MakesRest}
@@ -27,7 +27,7 @@ use Rattle.ntx_lists.proofs.CopyMaps.{given, copies_below, one_copy_more}
 
 -- ---- where a name stands among those that a walk reaches
 pub extends_whole : (heap : Heap) (r : List ℕ) (to : Option ℕ) (d : ℕ) (names : List ℕ) → whole_walk heap Plain r to d H ≡ Ok names → Extends r names
-extends_whole heap r to d names e = walk_extends heap Plain (turns_of heap) r to d H names e
+extends_whole heap r to d names e = walk_extends heap Plain (fuel_of heap) r to d H names e
 
 pub extends_three : (heap : Heap) (d : ℕ) (i : InnerLists) (r names : List ℕ) → Three heap d i r names → Extends r names
 extends_three heap d i r names t =

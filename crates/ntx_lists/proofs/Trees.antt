@@ -10,7 +10,7 @@ use Rattle.ntx_num.specs.Answer.{result_map, result_and_then, StepsAtOnce}
 use Rattle.ntx_nodes.specs.Heap.{Heap, Names}
 use Rattle.ntx_nodes.specs.Steps.{of_found, visit_step, free_one_step}
 use Rattle.std.proofs.lemmas.Bool.{leb-false}
-use Rattle.ntx_nodes.specs.Walk.{is_reached, is_too_deep, max_depth, inner_lists, entered, node_reached, in_turn, enter, walk, turns_of, plain_walk, tree_walk}
+use Rattle.ntx_nodes.specs.Walk.{is_reached, is_too_deep, max_depth, inner_lists, entered, node_reached, in_turn, enter, walk, fuel_of, plain_walk, tree_walk}
 use Rattle.ntx_nodes.specs.Walker.{Marks, whole_walk, unvisited, WalksOn}
 use Rattle.ntx_nodes.specs.declared.kind.ListKind.{ListKind}
 use Rattle.ntx_nodes.specs.declared.kind.ListKind.TheVariants.{H}
@@ -22,19 +22,19 @@ use Rattle.ntx_num.proofs.Answers.{same_Ok, mapped_Ok, went_Ok}
 use Rattle.ntx_nodes.proofs.Oks.{at_Ok}
 use Rattle.ntx_lists.proofs.Places.{one_mark}
 use Rattle.ntx_nodes.proofs.Walks.{unvisited_less, failing-le, node_reached_Ok}
-use Rattle.ntx_nodes.proofs.Turns.{then_same, passes}
+use Rattle.ntx_nodes.proofs.Fuel.{then_same, passes}
 use Rattle.ntx_nodes.proofs.WalkSteps.{whole, whole_None, whole_Some}
 use Rattle.ntx_lists.specs.Lists.{next_of}
 use Rattle.ntx_lists.specs.Trees.{nodes_without, without, inner_of_found, inner_at, Frees, free_tree_step, flush_list_step}
 use Rattle.ntx_nodes.specs.declared.inner.InnerLists.{InnerLists}
 
 -- ---- the kind of a list makes no difference where kinds are not tested
-kind_free : (heap : Heap) (turns : ℕ) (r : List ℕ) (n : Option ℕ) (d : ℕ) (k j : ListKind) → walk heap Plain turns r n d k ≡ walk heap Plain turns r n d j
+kind_free : (heap : Heap) (fuel : ℕ) (r : List ℕ) (n : Option ℕ) (d : ℕ) (k j : ListKind) → walk heap Plain fuel r n d k ≡ walk heap Plain fuel r n d j
 kind_free heap zero r n d k j = refl
-kind_free heap (suc turns) r None d k j = refl
-kind_free heap (suc turns) r (Some n) d k j =
-    then_same {A = Node × List ℕ} (enter heap Plain (λ b to i l. walk heap Plain turns b to i l) r n d k) (enter heap Plain (λ b to i l. walk heap Plain turns b to i l) r n d j)
-    (λ entry. walk heap Plain turns entry.1 entry.0.fields.next d k) (λ entry. walk heap Plain turns entry.1 entry.0.fields.next d j) refl (λ entry _. kind_free heap turns entry.1 entry.0.fields.next d k j)
+kind_free heap (suc fuel) r None d k j = refl
+kind_free heap (suc fuel) r (Some n) d k j =
+    then_same {A = Node × List ℕ} (enter heap Plain (λ b to i l. walk heap Plain fuel b to i l) r n d k) (enter heap Plain (λ b to i l. walk heap Plain fuel b to i l) r n d j)
+    (λ entry. walk heap Plain fuel entry.1 entry.0.fields.next d k) (λ entry. walk heap Plain fuel entry.1 entry.0.fields.next d j) refl (λ entry _. kind_free heap fuel entry.1 entry.0.fields.next d k j)
 
 -- a list that does not lie too deep
 pub not_deep : (depth : ℕ) → is_too_deep Plain depth ≡ false → depth ≤ max_depth
@@ -55,7 +55,7 @@ abbrev pub deeper : Heap → ℕ → Lister
 deeper heap d r to k = whole_walk heap Plain r to (d + 1) k
 
 pub lists_of : (heap : Heap) (d : ℕ) (c : Contents) (r : List ℕ) → in_turn (deeper heap d) r (inner_lists c) ≡ three_of (deeper heap d) r (inner_lists c)
-lists_of heap d c r = lists_in_turn (deeper heap d) (λ b to k j. kind_free heap (turns_of heap) b to (d + 1) k j) (inner_lists c) r
+lists_of heap d c r = lists_in_turn (deeper heap d) (λ b to k j. kind_free heap (fuel_of heap) b to (d + 1) k j) (inner_lists c) r
 
 -- ---- a walk that ends well, node by node
 pub record Three (heap : Heap) (d : ℕ) (i : InnerLists) (r names : List ℕ) : Type 0 where

@@ -8,7 +8,7 @@ use Rattle.std.specs.FinMap as map
 use Rattle.ntx_num.specs.Answer.{result_map, result_and_then}
 use Rattle.ntx_nodes.specs.Heap.{Heap}
 use Rattle.ntx_nodes.specs.Steps.{at, put_fields}
-use Rattle.ntx_nodes.specs.Walk.{is_reached, walk, turns_of, flat_walk}
+use Rattle.ntx_nodes.specs.Walk.{is_reached, walk, fuel_of, flat_walk}
 use Rattle.ntx_nodes.specs.declared.kind.ListKind.TheVariants.{H}
 use Rattle.ntx_nodes.specs.declared.kind.Way.TheVariants.{Flat}
 use Rattle.ntx_nodes.specs.declared.node.Node.{Node}
@@ -54,7 +54,7 @@ length_answer head heap = result_map length (flat_walk heap head)
 
 -- The list at a head, along which the walk must not come to these names: Loop, where it does.
 abbrev pub list_beside : Heap → List ℕ → ℕ → Result (List ℕ) Trouble
-list_beside heap others head = result_map (drop (length others)) (walk heap Flat (turns_of heap) others (Some head) 0 H)
+list_beside heap others head = result_map (drop (length others)) (walk heap Flat (fuel_of heap) others (Some head) 0 H)
 
 -- the same of a list in which cur is
 abbrev pub list_with : Heap → List ℕ → ℕ → ℕ → Result (List ℕ) Trouble

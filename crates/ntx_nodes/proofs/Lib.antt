@@ -10,7 +10,7 @@ pub mod Writes
 pub mod Fills
 pub mod Passes
 pub mod Walks
-pub mod Turns
+pub mod Fuel
 pub mod WalkSteps
 pub mod WholeWalks
 pub mod SoundWalks

@@ -5,7 +5,7 @@ use Rattle.std.specs.FinMap as map
 use Rattle.std.proofs.lemmas.Bool.{eqb-true, or_left, or_cases}
 use Rattle.ntx_num.specs.Answer.{result_and_then}
 use Rattle.ntx_nodes.specs.Heap.{Heap}
-use Rattle.ntx_nodes.specs.Walk.{is_reached, entered, node_reached, walk, turns_of}
+use Rattle.ntx_nodes.specs.Walk.{is_reached, entered, node_reached, walk, fuel_of}
 use Rattle.ntx_nodes.specs.Walker.{whole_walk}
 use Rattle.ntx_nodes.specs.WalkLaws.{AreFresh, LeadsTo, LeadsOn, IsClosed, Sound}
 use Rattle.ntx_nodes.specs.declared.kind.ListKind.{ListKind}
@@ -15,7 +15,7 @@ use Rattle.ntx_nodes.specs.declared.node.Node.{Node}
 use Rattle.ntx_nodes.specs.declared.trouble.Trouble.{Trouble}
 use Rattle.ntx_num.proofs.Answers.{same_Ok, went_Ok}
 use Rattle.ntx_nodes.proofs.Walks.{is_reached-append}
-use Rattle.ntx_nodes.proofs.Turns.{passes, unreached, unreached_less, unreached_falls, unreached_most, Extends, extends_on, last_reached}
+use Rattle.ntx_nodes.proofs.Fuel.{passes, unreached, unreached_less, unreached_falls, unreached_most, Extends, extends_on, last_reached}
 use Rattle.ntx_nodes.proofs.WalkSteps.{whole_None, whole_at, whole_refused}
 
 -- ---- lists of names
@@ -130,5 +130,5 @@ sound_below heap way (suc u) r None d k names lt e =
 sound_below heap way (suc u) r (Some n) d k names lt e = sound_at heap way u (sound_below heap way u) r n d k names (node_reached heap way r n d k) lt e refl
 
 -- Every walk that ends well is sound.
-pub sound_walk : (heap : Heap) (way : Way) (r : List ℕ) (head : Option ℕ) (d : ℕ) (k : ListKind) (names : List ℕ) → walk heap way (turns_of heap) r head d k ≡ Ok names → Sound heap way r head names
-sound_walk heap way r head d k names e = sound_below heap way (turns_of heap) r head d k names (unreached_most heap r) e
+pub sound_walk : (heap : Heap) (way : Way) (r : List ℕ) (head : Option ℕ) (d : ℕ) (k : ListKind) (names : List ℕ) → walk heap way (fuel_of heap) r head d k ≡ Ok names → Sound heap way r head names
+sound_walk heap way r head d k names e = sound_below heap way (fuel_of heap) r head d k names (unreached_most heap r) e

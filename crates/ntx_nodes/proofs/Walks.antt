@@ -99,10 +99,10 @@ pub node_reached_Ok : (heap : Heap) (way : Way) (before : List ℕ) (n depth : �
 node_reached_Ok heap way before n depth k node live new shallow kinds = rw (live, new, shallow, kinds) refl
 
 -- ---- a walker comes to a node
-pub comes : (heap : Heap) (way : Way) (n depth : ℕ) (k : ListKind) (v w : Names) (told heard : Option (List ℕ)) (fields : Fields) (onward : Onward) (first : Bool)
-    → fields_answer n heap ≡ Ok fields → visit_step n heap v ≡ Ok (first, w) → first ≡ true → is_too_deep way depth ≡ false → admits way k (kind_of fields.contents) ≡ true → heard ≡ option_map (λ names. names ++ n ∷ []) told
-    → onward ≡ onward_of way fields → Comes heap way n depth k v told w heard onward × (unvisited heap w < unvisited heap v) × Keeps v w
-comes heap way n depth k v w told heard fields onward first finds visits is_first shallow kinds hears goes =
+pub comes : (heap : Heap) (way : Way) (n depth : ℕ) (k : ListKind) (v w : Names) (old_names new_names : Option (List ℕ)) (fields : Fields) (onward : Onward) (first : Bool)
+    → fields_answer n heap ≡ Ok fields → visit_step n heap v ≡ Ok (first, w) → first ≡ true → is_too_deep way depth ≡ false → admits way k (kind_of fields.contents) ≡ true → new_names ≡ option_map (λ names. names ++ n ∷ []) old_names
+    → onward ≡ onward_of way fields → Comes heap way n depth k v old_names w new_names onward × (unvisited heap w < unvisited heap v) × Keeps v w
+comes heap way n depth k v w old_names new_names fields onward first finds visits is_first shallow kinds hears goes =
     let found = at_Ok {A = Fields} heap n (λ node. Ok node.fields) fields finds in
     let seen = at_Ok {A = Bool × Names} heap n (λ _. Ok (not (set.contains v n), set.insert v n)) (first, w) visits in
     let new : set.contains v n ≡ false = not_true (set.contains v n) (ap (λ p. p.0) (same_Ok _ _ seen.gives) ∙ is_first) in

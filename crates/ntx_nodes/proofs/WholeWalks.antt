@@ -30,29 +30,29 @@ pub visited_from : (heap h : Heap) (way : Way) (head : Option ℕ) (k : ListKind
     → (r ≡ result_map (λ _. tt) (walk_from heap way head k)) × IfOk (walk_from heap way head k) (λ names. Marks w names)
 visited_from heap h way head k v w r same e walks = visited_case heap way head k v w r e (subst (λ x. WalksOn x way head 0 k v w r) same walks)
 
-some_same : (items more : List ℕ) (heard : Option (List ℕ)) → option_map (λ _. items) heard ≡ heard → heard ≡ Some more → items ≡ more
+some_same : (items more : List ℕ) (new_names : Option (List ℕ)) → option_map (λ _. items) new_names ≡ new_names → new_names ≡ Some more → items ≡ more
 some_same items more None e f = cc
 some_same items more (Some x) e f = cc
 
--- the names that a walker told, after those before
-pub names_told : (heap : Heap) (way : Way) (head : Option ℕ) (d : ℕ) (k : ListKind) (v w : Names) (told heard : Option (List ℕ)) (start items : List ℕ) → told ≡ Some start → Ends heap way head d k v told w heard
-    → option_map (λ _. items) heard ≡ heard → NamesOn heap way head d k v start w (Ok items)
-names_told heap way head d k v w told heard start items begun ends kept before marks =
+-- the names that a walker collects, after those before
+pub names_told : (heap : Heap) (way : Way) (head : Option ℕ) (d : ℕ) (k : ListKind) (v w : Names) (old_names new_names : Option (List ℕ)) (start items : List ℕ) → old_names ≡ Some start → Ends heap way head d k v old_names w new_names
+    → option_map (λ _. items) new_names ≡ new_names → NamesOn heap way head d k v start w (Ok items)
+names_told heap way head d k v w old_names new_names start items begun ends kept before marks =
     let m = ends before marks in
-    let more : heard ≡ Some (start ++ m.0) = m.3 ∙ ap (option_map (λ names. names ++ m.0)) begun in
-    (m.0, m.1, m.2, some_same items (start ++ m.0) heard kept more)
+    let more : new_names ≡ Some (start ++ m.0) = m.3 ∙ ap (option_map (λ names. names ++ m.0)) begun in
+    (m.0, m.1, m.2, some_same items (start ++ m.0) new_names kept more)
 
-pub names_stopped : (heap : Heap) (way : Way) (head : Option ℕ) (d : ℕ) (k : ListKind) (v w : Names) (told heard : Option (List ℕ)) (start : List ℕ) (why : Fail Trouble) → Walks heap way head d k v told w heard (Err why)
+pub names_stopped : (heap : Heap) (way : Way) (head : Option ℕ) (d : ℕ) (k : ListKind) (v w : Names) (old_names new_names : Option (List ℕ)) (start : List ℕ) (why : Fail Trouble) → Walks heap way head d k v old_names w new_names (Err why)
     → NamesOn heap way head d k v start w (Err why)
-names_stopped heap way head d k v w told heard start (Is why) stops = stops
-names_stopped heap way head d k v w told heard start NoMemory stops = tt
+names_stopped heap way head d k v w old_names new_names start (Is why) stops = stops
+names_stopped heap way head d k v w old_names new_names start NoMemory stops = tt
 
 names_case : (heap : Heap) (way : Way) (head : Option ℕ) (k : ListKind) (v w : Names) (r : Result (List ℕ) (Fail Trouble)) → v ≡ set.empty → NamesOn heap way head 0 k v [] w r → Answers r (walk_from heap way head k)
 names_case heap way head k v w (Ok items) e names = let m = names [] (no_marks v e) in m.1 ∙ ap Ok (sym m.3)
 names_case heap way head k v w (Err (Is why)) e stops = stops [] (no_marks v e)
 names_case heap way head k v w (Err NoMemory) e names = tt
 
-pub names_from : (heap h : Heap) (way : Way) (head : Option ℕ) (k : ListKind) (v w : Names) (told : List ℕ) (r : Result (List ℕ) (Fail Trouble)) → h ≡ heap → v ≡ set.empty → told ≡ [] → NamesOn h way head 0 k v told w r
+pub names_from : (heap h : Heap) (way : Way) (head : Option ℕ) (k : ListKind) (v w : Names) (old_names : List ℕ) (r : Result (List ℕ) (Fail Trouble)) → h ≡ heap → v ≡ set.empty → old_names ≡ [] → NamesOn h way head 0 k v old_names w r
     → Answers r (walk_from heap way head k)
-names_from heap h way head k v w told r same e nothing names =
+names_from heap h way head k v w old_names r same e nothing names =
     names_case heap way head k v w r e (subst (λ x. NamesOn x way head 0 k v [] w r) same (subst (λ x. NamesOn h way head 0 k v x w r) nothing names))

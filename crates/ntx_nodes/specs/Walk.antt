@@ -86,21 +86,21 @@ enter heap way walk reached n depth k =
     result_map (λ names. (node, names)) (in_turn (λ before to inner. walk before to (depth + 1) inner) (reached ++ n ∷ []) (entered way node.fields.contents)))
 
 -- The walk of a list of kind k at this depth: at each node the tests, then its lists, and then what follows it in its own list.
--- It ends, since each turn adds a live name that was not reached before: more turns than there are live nodes change nothing.
+-- It ends, since each turn adds a live name that was not reached before: more fuel than there are live nodes changes nothing.
 abbrev pub walk : Heap → Way → ℕ → List ℕ → Option ℕ → ℕ → ListKind → Result (List ℕ) Trouble
 walk heap way zero reached n depth k = Ok reached
-walk heap way (suc turns) reached None depth k = Ok reached
-walk heap way (suc turns) reached (Some n) depth k =
-    result_and_then (enter heap way (λ before to inner_depth inner. walk heap way turns before to inner_depth inner) reached n depth k) (λ entry.
-    walk heap way turns entry.1 entry.0.fields.next depth k)
+walk heap way (suc fuel) reached None depth k = Ok reached
+walk heap way (suc fuel) reached (Some n) depth k =
+    result_and_then (enter heap way (λ before to inner_depth inner. walk heap way fuel before to inner_depth inner) reached n depth k) (λ entry.
+    walk heap way fuel entry.1 entry.0.fields.next depth k)
 
--- turns enough for every walk through the heap
-abbrev pub turns_of : Heap → ℕ
-turns_of heap = map.len heap.nodes + 1
+-- fuel enough for every walk through the heap
+abbrev pub fuel_of : Heap → ℕ
+fuel_of heap = map.len heap.nodes + 1
 
 -- The names that a walk reaches, in its order, or the first trouble: of the list at a head, where it is one of this kind,
 abbrev pub walk_from : Heap → Way → Option ℕ → ListKind → Result (List ℕ) Trouble
-walk_from heap way head k = walk heap way (turns_of heap) [] head 0 k
+walk_from heap way head k = walk heap way (fuel_of heap) [] head 0 k
 
 -- with kinds tested,
 abbrev pub checked_walk : Heap → Option ℕ → ListKind → Result (List ℕ) Trouble
@@ -116,4 +116,4 @@ flat_walk heap head = walk_from heap Flat head H
 
 -- and of one node with its inner lists, without what follows it.
 abbrev pub tree_walk : Heap → ℕ → Result (List ℕ) Trouble
-tree_walk heap n = result_map (λ entry. entry.1) (enter heap Plain (λ before to depth k. walk heap Plain (turns_of heap) before to depth k) [] n 0 H)
+tree_walk heap n = result_map (λ entry. entry.1) (enter heap Plain (λ before to depth k. walk heap Plain (fuel_of heap) before to depth k) [] n 0 H)

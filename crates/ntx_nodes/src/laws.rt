@@ -6,7 +6,7 @@ ghost use Rattle.ntx_nodes.specs.FieldTable.{held, ReadsAs, accepts};
 ghost use Rattle.ntx_nodes.specs.Fields.{kind_of, field_of, with_field};
 ghost use Rattle.ntx_nodes.specs.Heap.{Heap, IsLawful};
 ghost use Rattle.ntx_nodes.specs.Passes.{IsStep, AreSteps};
-ghost use Rattle.ntx_nodes.specs.Walk.{walk, turns_of};
+ghost use Rattle.ntx_nodes.specs.Walk.{walk, fuel_of};
 ghost use Rattle.ntx_nodes.specs.WalkLaws.{Sound};
 ghost use Rattle.ntx_nodes.specs.declared.field.Field.{Field};
 ghost use Rattle.ntx_nodes.specs.declared.field.FieldValue.{FieldValue};
@@ -31,10 +31,10 @@ pub fn steps_keep_heaps_lawful()
 /// Does nothing. Its contract tells what each walk that ends well has reached: live names, none twice and none of those
 /// before it, the head among them, and with each the nodes to which the walk goes on from it.
 pub fn walks_are_sound()
-    ensures { (heap : Heap) (way : Way) (before : List ℕ) (head : Option ℕ) (depth : ℕ) (k : ListKind) (names : List ℕ) → walk heap way (turns_of heap) before head depth k ≡ Ok names → Sound heap way before head names }
+    ensures { (heap : Heap) (way : Way) (before : List ℕ) (head : Option ℕ) (depth : ℕ) (k : ListKind) (names : List ℕ) → walk heap way (fuel_of heap) before head depth k ≡ Ok names → Sound heap way before head names }
 {}
 
-/// Does nothing. Its contract tells that more turns than there are live nodes change nothing.
-pub fn turns_are_enough()
-    ensures { (heap : Heap) (way : Way) (more : ℕ) (before : List ℕ) (head : Option ℕ) (depth : ℕ) (k : ListKind) → walk heap way (turns_of heap + more) before head depth k ≡ walk heap way (turns_of heap) before head depth k }
+/// Does nothing. Its contract tells that more fuel than there are live nodes changes nothing.
+pub fn fuel_is_enough()
+    ensures { (heap : Heap) (way : Way) (more : ℕ) (before : List ℕ) (head : Option ℕ) (depth : ℕ) (k : ListKind) → walk heap way (fuel_of heap + more) before head depth k ≡ walk heap way (fuel_of heap) before head depth k }
 {}

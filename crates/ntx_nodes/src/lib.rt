@@ -33,9 +33,7 @@ pub use field::{Field, FieldValue};
 pub use fields::{Contents, Fields};
 pub use inner::InnerLists;
 pub use kind::{Kind, ListKind, MAX_DEPTH, Way};
-pub use laws::{
-    fields_follow_the_table, steps_keep_heaps_lawful, turns_are_enough, walks_are_sound,
-};
+pub use laws::{fields_follow_the_table, fuel_is_enough, steps_keep_heaps_lawful, walks_are_sound};
 pub use node::Node;
 pub use nodes::Nodes;
 pub use plain::PlainHeap;

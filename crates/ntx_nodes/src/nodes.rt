@@ -24,7 +24,7 @@ pub trait Nodes: Drop {
     /// The names visited since the walk began.
     ghost visited: { Self → Names };
 
-    /// How many nodes of a kind can be made without running out of memory. A call that makes no node never lowers it.
+    /// How many nodes of a kind can be made without running out of memory. The calls other than `make` and `copy_one` never lower it.
     ghost spare_of: { Self → Kind → ℕ };
 
     /// Whether a copy has attributes of its own, for which it takes memory.

@@ -23,7 +23,7 @@ impl Model for Reached {
 }
 
 impl Reached {
-    /// After names that were told before.
+    /// After names that were collected before.
     pub fn after(names: Vec<u64>) -> Reached
         ensures { result ≡ Some names.items }
     {
@@ -31,7 +31,7 @@ impl Reached {
     }
 
     /// Nobody asks.
-    pub fn unasked() -> Reached
+    pub fn uncollected() -> Reached
         ensures { result ≡ None }
     {
         Reached { names: None }
@@ -41,7 +41,7 @@ impl Reached {
     pub fn take(&mut self, name: u64) -> Result<(), NoMemory>
         ensures ok { OnOk result (self.new ≡ option_map (λ names. names ++ name ∷ []) self.old) }
         ensures err { OnErr result (self.new ≡ self.old) }
-        ensures unasked { self.old ≡ None → IsOk result }
+        ensures uncollected { self.old ≡ None → IsOk result }
     {
         if let Some(names) = &mut self.names {
             names.push(name)?;

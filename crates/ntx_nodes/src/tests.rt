@@ -2,8 +2,8 @@
 
 use crate::{
     Contents, Field, FieldValue, Fields, Kind, ListKind, Nodes, PlainHeap, Ratio, Trouble, Way,
-    check, fields_follow_the_table, make_current, make_filled, make_like, names_on, names_reached,
-    steps_keep_heaps_lawful, turns_are_enough, visit_list, visit_on, walks_are_sound,
+    check, fields_follow_the_table, fuel_is_enough, make_current, make_filled, make_like, names_on,
+    names_reached, steps_keep_heaps_lawful, visit_list, visit_on, walks_are_sound,
 };
 use ntx_num::Fail;
 use std::process::Abort;
@@ -290,7 +290,7 @@ fn a_node_that_two_boxes_share_is_a_loop(rt: HostRuntime) -> Result<(), test::Fa
     walks_are_sound();
     fields_follow_the_table();
     steps_keep_heaps_lawful();
-    turns_are_enough();
+    fuel_is_enough();
     heap.set(x, Field::List, FieldValue::Link(Some(x)))?;
     let itself = check(rt.alloc(), &mut heap, Some(x), ListKind::H);
     assert!(rt; matches!(&itself, Err(Fail::Is(Trouble::Loop(2)))));

@@ -32,7 +32,7 @@ fn reach<N: Nodes>(
     ensures shallow { OnOk result (is_too_deep way depth ≡ false) }
     ensures fewer { OnOk result (unvisited (N.heap nodes.old) (N.visited nodes.new) < unvisited (N.heap nodes.old) (N.visited nodes.old)) }
     ensures keeps { OnOk result (Keeps (N.visited nodes.old) (N.visited nodes.new)) }
-    ensures unasked { names.old ≡ None → names.new ≡ None }
+    ensures uncollected { names.old ≡ None → names.new ≡ None }
     ensures memory { names.old ≡ None → result ≢ Err Fail.NoMemory }
 {
     let fields = match nodes.fields(n) {
@@ -67,7 +67,7 @@ fn walk_along<N: Nodes>(
 ) -> Result<(), Fail<Trouble>>
     ensures same { N.heap nodes.new ≡ N.heap nodes.old }
     ensures walks { Walks (N.heap nodes.old) Flat head depth k (N.visited nodes.old) names.old (N.visited nodes.new) names.new result }
-    ensures unasked { names.old ≡ None → names.new ≡ None }
+    ensures uncollected { names.old ≡ None → names.new ≡ None }
     ensures memory { names.old ≡ None → result ≢ Err Fail.NoMemory }
 {
     let mut at = head;
@@ -91,7 +91,7 @@ fn walk_inside<N: Nodes>(
     ensures same { N.heap nodes.new ≡ N.heap nodes.old }
     ensures walks { Walks (N.heap nodes.old) way head depth k (N.visited nodes.old) names.old (N.visited nodes.new) names.new result }
     ensures keeps { OnOk result (Keeps (N.visited nodes.old) (N.visited nodes.new)) }
-    ensures unasked { names.old ≡ None → names.new ≡ None }
+    ensures uncollected { names.old ≡ None → names.new ≡ None }
     ensures memory { names.old ≡ None → result ≢ Err Fail.NoMemory }
 {
     let mut at = head;
@@ -118,7 +118,7 @@ fn walk_list<N: Nodes>(
     requires { depth ≤ max_depth + 1 }
     ensures same { N.heap nodes.new ≡ N.heap nodes.old }
     ensures walks { Walks (N.heap nodes.old) way head depth k (N.visited nodes.old) names.old (N.visited nodes.new) names.new result }
-    ensures unasked { names.old ≡ None → names.new ≡ None }
+    ensures uncollected { names.old ≡ None → names.new ≡ None }
     ensures memory { names.old ≡ None → result ≢ Err Fail.NoMemory }
 {
     match way {
@@ -129,7 +129,7 @@ fn walk_list<N: Nodes>(
 
 /// Walks a list at a depth of at most 101 from the nodes that are visited already, which count as reached. Takes no memory.
 ///
-/// Refuses as `visit_list`, with Loop too where it reaches one of them.
+/// Refuses as `visit_list`, with Loop too where it reaches one of them. A flat walk is never refused with Nest.
 pub fn visit_on<N: Nodes>(
     nodes: &mut N,
     way: Way,
@@ -141,7 +141,7 @@ pub fn visit_on<N: Nodes>(
     ensures same { N.heap nodes.new ≡ N.heap nodes.old }
     ensures walks { WalksOn (N.heap nodes.old) way head depth k (N.visited nodes.old) (N.visited nodes.new) result }
 {
-    let mut names = Reached::unasked();
+    let mut names = Reached::uncollected();
     match walk_list(nodes, way, head, depth, k, &mut names) {
         Ok(()) => Ok(()),
         Err(Fail::Is(why)) => Err(why),
@@ -158,21 +158,21 @@ pub fn names_on<N: Nodes>(
     head: Option<u64>,
     depth: u64,
     k: ListKind,
-    told: Vec<u64>,
+    old_names: Vec<u64>,
 ) -> Result<Vec<u64>, Fail<Trouble>>
     requires { depth ≤ max_depth + 1 }
     ensures same { N.heap nodes.new ≡ N.heap nodes.old }
-    ensures names { NamesOn (N.heap nodes.old) way head depth k (N.visited nodes.old) told.items (N.visited nodes.new) (result_map (λ names. names.items) result) }
+    ensures names { NamesOn (N.heap nodes.old) way head depth k (N.visited nodes.old) old_names.items (N.visited nodes.new) (result_map (λ names. names.items) result) }
 {
-    let mut names = Reached::after(told);
+    let mut names = Reached::after(old_names);
     walk_list(nodes, way, head, depth, k, &mut names)?;
     Ok(names.into_names(alloc))
 }
 
 /// Walks the list at a head, without memory, and leaves the nodes that it reaches as those visited.
 ///
-/// At each node it refuses with Stale where it is dead, Loop where the walk reached it before, Nest at depth 101, and on
-/// a checked way WrongKind where the list may not hold its kind, in this order.
+/// At each node it refuses with Stale where it is dead, Loop where the walk reached it before, Nest at depth 101 unless
+/// it is flat, and on a checked way WrongKind where the list may not hold its kind, in this order.
 pub fn visit_list<N: Nodes>(
     nodes: &mut N,
     way: Way,

@@ -9,7 +9,7 @@ use Rattle.ntx_num.specs.Answer.{result_map, result_and_then}
 use Rattle.ntx_num.specs.Dimension.{max_nodes}
 use Rattle.ntx_nodes.specs.Heap.{Heap, IsLawful, name_limit}
 use Rattle.ntx_nodes.specs.Steps.{put, next_name, making}
-use Rattle.ntx_nodes.specs.Walk.{inner_lists, checked_walk, flat_walk, turns_of}
+use Rattle.ntx_nodes.specs.Walk.{inner_lists, checked_walk, flat_walk, fuel_of}
 use Rattle.ntx_nodes.specs.declared.kind.ListKind.{ListKind}
 use Rattle.ntx_nodes.specs.declared.kind.ListKind.TheVariants.{H}
 use Rattle.ntx_nodes.specs.declared.kind.Way.TheVariants.{Checked, Flat}
@@ -19,7 +19,7 @@ use Rattle.ntx_nodes.specs.declared.node.Node.{Node}
 use Rattle.ntx_nodes.specs.declared.trouble.Trouble.{Trouble}
 use Rattle.ntx_nodes.specs.declared.trouble.Trouble.TheVariants.{NodesFull, NamesOut}
 use Rattle.ntx_num.proofs.Answers.{mapped_Ok, went_Ok, not_taken}
-use Rattle.ntx_nodes.proofs.Turns.{then_same}
+use Rattle.ntx_nodes.proofs.Fuel.{then_same}
 use Rattle.ntx_tfm.specs.Font.{FontTables}
 use Rattle.ntx_item.specs.declared.item.Item.{Item}
 use Rattle.ntx_item.specs.declared.item.Item.TheVariants.{Disc}
@@ -46,7 +46,7 @@ lacking_same heap new fonts (n ∷ ns) agree below = λ j. cond (is_missing_char
 record OneMore (heap new : Heap) : Type 0 where
   lawful : IsLawful heap
   agree : Agree heap new
-  turns : turns_of new ≡ turns_of heap + 1
+  fuel : fuel_of new ≡ fuel_of heap + 1
 
 names_in_below : (heap : Heap) (to : Option ℕ) (r : Result (List ℕ) Trouble) → IsLawful heap → flat_walk heap to ≡ r → NamesBelow heap.next (names_in r)
 names_in_below heap to (Ok names) lawful e = (reached heap Flat to H names lawful e).each
@@ -54,7 +54,7 @@ names_in_below heap to (Err why) lawful e = tt
 
 list_nodes_same : (heap new : Heap) (to : Option ℕ) → OneMore heap new → IsBelow heap.next to → list_nodes new to ≡ list_nodes heap to
 list_nodes_same heap new to more below =
-    ap (λ r. nodes_named new (names_in r)) (walk_from_same heap new Flat to H more.lawful more.agree more.turns below)
+    ap (λ r. nodes_named new (names_in r)) (walk_from_same heap new Flat to H more.lawful more.agree more.fuel below)
     ∙ nodes_same heap new (names_in (flat_walk heap to)) more.agree (names_in_below heap to (flat_walk heap to) more.lawful refl)
 
 part_same : (heap new : Heap) (fonts : List FontTables) (to : Option ℕ) → OneMore heap new → IsBelow heap.next to → part_size new fonts to ≡ part_size heap fonts to
@@ -88,7 +88,7 @@ list_items_same heap new fonts head more below = ap (map (item_of new fonts)) (l
 items_same : (heap new : Heap) (fonts : List FontTables) (head : Option ℕ) (k : ListKind) → OneMore heap new → IsBelow heap.next head → items_answer new fonts head k ≡ items_answer heap fonts head k
 items_same heap new fonts head k more below =
     then_same (checked_walk new head k) (checked_walk heap head k) (λ names. unless_missing_char (first_missing_char new fonts names) (list_items new fonts head)) (λ names. unless_missing_char (first_missing_char heap fonts names) (list_items heap fonts head))
-    (walk_from_same heap new Checked head k more.lawful more.agree more.turns below)
+    (walk_from_same heap new Checked head k more.lawful more.agree more.fuel below)
     (λ names is j. unless_missing_char (lacking_same heap new fonts names more.agree (reached heap Checked head k names more.lawful is).each j) (list_items_same heap new fonts head more below j))
 
 -- ---- the heap with a made node
@@ -110,7 +110,7 @@ one_more : (heap : Heap) (node : Node) → IsLawful heap → OneMore heap (put (
 one_more heap node lawful = record {
   lawful = lawful;
   agree = record { get = λ m lt. fin.get-insert nat_cmp_total heap.nodes heap.next node m ∙ ap (λ b. cond b (Some node) (fin.get heap.nodes m)) (unsigned_tied m heap.next ∙ other m heap.next lt) };
-  turns = ap (λ n. n + 1) (fin.len-insert nat_cmp_total heap.nodes heap.next node ∙ ap (λ b. cond b (fin.len heap.nodes) (fin.len heap.nodes + 1)) (no_next heap (fin.get heap.nodes heap.next) lawful refl));
+  fuel = ap (λ n. n + 1) (fin.len-insert nat_cmp_total heap.nodes heap.next node ∙ ap (λ b. cond b (fin.len heap.nodes) (fin.len heap.nodes + 1)) (no_next heap (fin.get heap.nodes heap.next) lawful refl));
 }
 
 -- ---- the law

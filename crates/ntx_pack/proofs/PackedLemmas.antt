@@ -69,7 +69,7 @@ never_bad (x ∷ xs) = same_branch (nat_eq (order_for (x ∷ xs) (pos 0)) 0)
 minus_same : (a b : ℤ) → a ≡ b → a -ℤ b ≡ pos 0
 minus_same a b e = omega (arith, ints)
 
--- where the size that is target_size for is the natural one
+-- where the size aimed at is the natural one
 pub unset_if : (direction : Direction) (to : PackTo) (items : List Item) (box : Packed) → target_size to (along direction (natural_size direction items)) ≡ along direction (natural_size direction items) → packed direction to items ≡ Ok box → IsNatural direction items box
 unset_if direction to items box wish e =
     let n : Size = natural_size direction items in

@@ -6,7 +6,7 @@ use Rattle.ntx_num.specs.Answer.{result_map}
 use Rattle.ntx_nodes.specs.Fields.{kind_of, field_of}
 use Rattle.ntx_nodes.specs.Heap.{Heap, IsLawful, is_live}
 use Rattle.ntx_nodes.specs.Steps.{of_found}
-use Rattle.ntx_nodes.specs.Walk.{inner_lists, no_lists, is_reached, is_too_deep, admits, entered, node_reached, in_turn, enter, walk, turns_of, walk_from}
+use Rattle.ntx_nodes.specs.Walk.{inner_lists, no_lists, is_reached, is_too_deep, admits, entered, node_reached, in_turn, enter, walk, fuel_of, walk_from}
 use Rattle.ntx_nodes.specs.WalkLaws.{AreFresh}
 use Rattle.ntx_nodes.specs.declared.kind.ListKind.{ListKind}
 use Rattle.ntx_nodes.specs.declared.inner.InnerLists.{InnerLists}
@@ -21,7 +21,7 @@ use Rattle.ntx_nodes.specs.declared.fields.Contents.TheVariants as contents
 use Rattle.ntx_nodes.specs.declared.node.Node.{Node}
 use Rattle.ntx_nodes.specs.declared.trouble.Trouble.{Trouble}
 use Rattle.ntx_nodes.specs.declared.trouble.Trouble.TheVariants.{Loop, Nest, WrongKind}
-use Rattle.ntx_nodes.proofs.Turns.{then_same, passes, enter_extends, walk_extends, turns_enough}
+use Rattle.ntx_nodes.proofs.Fuel.{then_same, passes, enter_extends, walk_extends, fuel_enough}
 use Rattle.ntx_nodes.proofs.SoundWalks.{sound_walk}
 use Rattle.ntx_view.proofs.Counts.{live_node}
 use Rattle.std.proofs.lemmas.Bool.{eqb-true}
@@ -83,30 +83,30 @@ reached_same heap new way r n d k agree lt =
 abbrev Turn : Type 0
 Turn = List ℕ → Option ℕ → ListKind → Result (List ℕ) Trouble
 
-turns_same : (next : ℕ) (f g : Turn) → ((r : List ℕ) (to : Option ℕ) (k : ListKind) → IsBelow next to → f r to k ≡ g r to k) → (r : List ℕ) (l : InnerLists) → AreBelow next l → in_turn f r l ≡ in_turn g r l
-turns_same next f g same r l below =
+fuel_same : (next : ℕ) (f g : Turn) → ((r : List ℕ) (to : Option ℕ) (k : ListKind) → IsBelow next to → f r to k ≡ g r to k) → (r : List ℕ) (l : InnerLists) → AreBelow next l → in_turn f r l ≡ in_turn g r l
+fuel_same next f g same r l below =
     then_same (f r l.first l.kind) (g r l.first l.kind) _ _ (same r l.first l.kind below.0) (λ a one.
     then_same (f a l.second l.kind) (g a l.second l.kind) _ _ (same a l.second l.kind below.1) (λ b two. same b l.third l.kind below.2))
 
-pub walk_same : (heap new : Heap) (way : Way) → IsLawful heap → Agree heap new → (turns : ℕ) (r : List ℕ) (to : Option ℕ) (d : ℕ) (k : ListKind) → IsBelow heap.next to → walk new way turns r to d k ≡ walk heap way turns r to d k
+pub walk_same : (heap new : Heap) (way : Way) → IsLawful heap → Agree heap new → (fuel : ℕ) (r : List ℕ) (to : Option ℕ) (d : ℕ) (k : ListKind) → IsBelow heap.next to → walk new way fuel r to d k ≡ walk heap way fuel r to d k
 walk_same heap new way lawful agree zero r to d k below = refl
-walk_same heap new way lawful agree (suc turns) r None d k below = refl
-walk_same heap new way lawful agree (suc turns) r (Some n) d k below =
-    let w : List ℕ → Option ℕ → ℕ → ListKind → Result (List ℕ) Trouble = λ b to j i. walk new way turns b to j i in
-    let v : List ℕ → Option ℕ → ℕ → ListKind → Result (List ℕ) Trouble = λ b to j i. walk heap way turns b to j i in
+walk_same heap new way lawful agree (suc fuel) r None d k below = refl
+walk_same heap new way lawful agree (suc fuel) r (Some n) d k below =
+    let w : List ℕ → Option ℕ → ℕ → ListKind → Result (List ℕ) Trouble = λ b to j i. walk new way fuel b to j i in
+    let v : List ℕ → Option ℕ → ℕ → ListKind → Result (List ℕ) Trouble = λ b to j i. walk heap way fuel b to j i in
     then_same {A = Node × List ℕ} (enter new way w r n d k) (enter heap way v r n d k) (λ entry. w entry.1 entry.0.fields.next d k) (λ entry. v entry.1 entry.0.fields.next d k)
     (then_same {B = Node × List ℕ} (node_reached new way r n d k) (node_reached heap way r n d k) _ _ (reached_same heap new way r n d k agree (below n refl)) (λ node is.
     let p = passes heap way r n d k node is in
-    ap (result_map {B = Node × List ℕ} (λ names. (node, names))) (turns_same heap.next (λ b to i. w b to (d + 1) i) (λ b to i. v b to (d + 1) i)
-    (λ b to i given. walk_same heap new way lawful agree turns b to (d + 1) i given) (r ++ n ∷ []) (entered way node.fields.contents) (links_below heap way n node lawful p.live))))
+    ap (result_map {B = Node × List ℕ} (λ names. (node, names))) (fuel_same heap.next (λ b to i. w b to (d + 1) i) (λ b to i. v b to (d + 1) i)
+    (λ b to i given. walk_same heap new way lawful agree fuel b to (d + 1) i given) (r ++ n ∷ []) (entered way node.fields.contents) (links_below heap way n node lawful p.live))))
     (λ entry is.
-    let e = enter_extends heap way v (walk_extends heap way turns) r n d k entry is in
-    walk_same heap new way lawful agree turns entry.1 entry.0.fields.next d k (next_below heap n entry.0 lawful e.0.live))
+    let e = enter_extends heap way v (walk_extends heap way fuel) r n d k entry is in
+    walk_same heap new way lawful agree fuel entry.1 entry.0.fields.next d k (next_below heap n entry.0 lawful e.0.live))
 
--- the same with the turns of the larger heap
-pub walk_from_same : (heap new : Heap) (way : Way) (to : Option ℕ) (k : ListKind) → IsLawful heap → Agree heap new → turns_of new ≡ turns_of heap + 1 → IsBelow heap.next to → walk_from new way to k ≡ walk_from heap way to k
-walk_from_same heap new way to k lawful agree turns below =
-    ap (λ t. walk new way t [] to 0 k) turns ∙ walk_same heap new way lawful agree (turns_of heap + 1) [] to 0 k below ∙ turns_enough heap way 1 [] to 0 k
+-- the same with the fuel of the larger heap
+pub walk_from_same : (heap new : Heap) (way : Way) (to : Option ℕ) (k : ListKind) → IsLawful heap → Agree heap new → fuel_of new ≡ fuel_of heap + 1 → IsBelow heap.next to → walk_from new way to k ≡ walk_from heap way to k
+walk_from_same heap new way to k lawful agree fuel below =
+    ap (λ t. walk new way t [] to 0 k) fuel ∙ walk_same heap new way lawful agree (fuel_of heap + 1) [] to 0 k below ∙ fuel_enough heap way 1 [] to 0 k
 
 -- ---- names that a walk reaches
 abbrev pub NamesBelow : ℕ → List ℕ → Type 0

@@ -8,7 +8,7 @@ use Rattle.std.proofs.lemmas.List.Sums.{sum_by-cons}
 use Rattle.ntx_num.specs.Answer.{result_and_then}
 use Rattle.ntx_num.specs.Dimension.{max_nodes}
 use Rattle.ntx_nodes.specs.Heap.{Heap, IsLawful}
-use Rattle.ntx_nodes.specs.Walk.{is_reached, inner_lists, entered, node_reached, turns_of, flat_walk, checked_walk}
+use Rattle.ntx_nodes.specs.Walk.{is_reached, inner_lists, entered, node_reached, fuel_of, flat_walk, checked_walk}
 use Rattle.ntx_nodes.specs.Walker.{whole_walk}
 use Rattle.ntx_nodes.specs.declared.inner.InnerLists.{InnerLists}
 use Rattle.ntx_nodes.specs.WalkLaws.{AreFresh, Sound}
@@ -22,7 +22,7 @@ use Rattle.ntx_nodes.specs.declared.node.Node.{Node}
 use Rattle.ntx_nodes.specs.declared.trouble.Trouble.{Trouble}
 use Rattle.std.proofs.lemmas.Bool.{or_left, or_right}
 use Rattle.ntx_num.proofs.Answers.{same_Ok, went_Ok}
-use Rattle.ntx_nodes.proofs.Turns.{passes, unreached, unreached_less, unreached_falls, unreached_most, Extends, extends_on, walk_extends}
+use Rattle.ntx_nodes.proofs.Fuel.{passes, unreached, unreached_less, unreached_falls, unreached_most, Extends, extends_on, walk_extends}
 use Rattle.ntx_nodes.proofs.Walks.{is_reached-append, node_reached_Ok}
 use Rattle.ntx_nodes.proofs.WalkSteps.{whole_None, whole_at, whole_refused}
 use Rattle.ntx_view.specs.View.{names_in, IsLiveAt, PartsEnd, PartsEndAt}
@@ -119,9 +119,9 @@ flattens_at heap u below r n d k names (Ok node) lt e is b within =
     let goes = went_Ok (λ c. whole_walk heap Checked c node.fields.next d k) (result_and_then (f r0 l.first l.kind) (λ a. result_and_then (f a l.second l.kind) (λ b. f b l.third l.kind))) names (sym (whole_at heap Checked r n d k node is) ∙ e) in
     let first = went_Ok (λ a. result_and_then (f a l.second l.kind) (λ b. f b l.third l.kind)) (f r0 l.first l.kind) goes.value goes.is in
     let second = went_Ok (λ b. f b l.third l.kind) (f first.value l.second l.kind) goes.value first.gives in
-    let x1 : Extends r0 first.value = walk_extends heap Checked (turns_of heap) r0 l.first (d + 1) l.kind first.value first.is in
-    let x2 : Extends first.value second.value = walk_extends heap Checked (turns_of heap) first.value l.second (d + 1) l.kind second.value second.is in
-    let x3 : Extends second.value goes.value = walk_extends heap Checked (turns_of heap) second.value l.third (d + 1) l.kind goes.value second.gives in
+    let x1 : Extends r0 first.value = walk_extends heap Checked (fuel_of heap) r0 l.first (d + 1) l.kind first.value first.is in
+    let x2 : Extends first.value second.value = walk_extends heap Checked (fuel_of heap) first.value l.second (d + 1) l.kind second.value second.is in
+    let x3 : Extends second.value goes.value = walk_extends heap Checked (fuel_of heap) second.value l.third (d + 1) l.kind goes.value second.gives in
     let x : Extends r0 goes.value = extends_on r0 first.value goes.value x1 (extends_on first.value second.value goes.value x2 x3) in
     let less : unreached heap r0 < unreached heap r = unreached_less heap r n node p.live p.new in
     let less1 : unreached heap first.value ≤ unreached heap r0 = unreached_falls heap r0 first.value x1 in
@@ -177,7 +177,7 @@ pub record Measured (heap : Heap) (head : Option ℕ) (names : List ℕ) : Type 
 
 pub measured : (heap : Heap) (head : Option ℕ) (k : ListKind) (names : List ℕ) → checked_walk heap head k ≡ Ok names → Measured heap head names
 measured heap head k names e =
-    let f = flattens_below heap (turns_of heap) [] head 0 k names (unreached_most heap []) e [] (none_part []) in
+    let f = flattens_below heap (fuel_of heap) [] head 0 k names (unreached_most heap []) e [] (none_part []) in
     let c : length f.fs + 0 ≤ length names = f.counts in
     let w : sum_by (weight_at heap) f.fs + 0 ≤ length names = f.weighs in
     record { along = f.fs; walks = f.walks; counts = omega arith; weighs = omega arith; parts = All-from_recursion (PartsEndAt heap) f.fs f.parts }
@@ -199,7 +199,7 @@ fresh_few heap r (n ∷ ns) fresh =
 pub sound_few : (heap : Heap) (way : Way) (head : Option ℕ) (names : List ℕ) → IsLawful heap → Sound heap way [] head names → length names ≤ max_nodes
 sound_few heap way head names lawful s =
     let f : length s.more + unreached heap ([] ++ s.more) ≤ unreached heap [] = fresh_few heap [] s.more s.fresh in
-    let most : unreached heap [] < turns_of heap = unreached_most heap [] in
+    let most : unreached heap [] < fuel_of heap = unreached_most heap [] in
     let few : map.len heap.nodes ≤ max_nodes = lawful.few in
     let same : length names ≡ length s.more = ap length s.added in
     omega arith

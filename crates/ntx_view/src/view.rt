@@ -172,8 +172,8 @@ fn items_of<N: Nodes>(
     Ok(items)
 }
 
-/// The law that boxes, rules, glue and kerns of a heap have no width, height, depth or shift beyond TeX's largest dimension,
-/// 2^30-1 scaled points, in absolute value.
+/// The law that the items of a list that [`items`] accepts, in a lawful heap, have no width, height, depth or shift beyond
+/// TeX's largest dimension, 2^30-1 scaled points, in absolute value, where they are boxes, rules, glue or kerns.
 pub fn heaps_are_measured()
     ensures { HeapsAreMeasured }
 {}

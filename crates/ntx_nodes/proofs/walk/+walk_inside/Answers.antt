@@ -30,7 +30,7 @@ loop-at-preserved g t c = record {
   same = c.walk_inside-in-Some-2.ensures.same ∙ c.walk_inside-in-Some.ensures.same ∙ c.walk_inside.ensures.same ∙ c.reach.ensures.same ∙ c.loop-at.invariant.same;
   gets = goes_on (g.N.Nodes.heap c.args.nodes.now) (g.N.Nodes.heap c.loop-at.nodes) (g.N.Nodes.heap c.reach.new.nodes) (g.N.Nodes.heap c.walk_inside.new.nodes) (g.N.Nodes.heap c.walk_inside-in-Some.new.nodes) c.args.way c.args.depth c.args.k c.args.head c.loop-at.at (g.N.Nodes.visited c.args.nodes.now) (g.N.Nodes.visited c.loop-at.nodes) (g.N.Nodes.visited c.reach.new.nodes) (g.N.Nodes.visited c.walk_inside.new.nodes) (g.N.Nodes.visited c.walk_inside-in-Some.new.nodes) (g.N.Nodes.visited c.walk_inside-in-Some-2.new.nodes) c.args.names.now c.loop-at.names c.reach.new.names c.walk_inside.new.names c.walk_inside-in-Some.new.names c.walk_inside-in-Some-2.new.names c.in-Some.n c.in_ok-onward.onward c.loop-at.invariant.same (c.reach.ensures.same ∙ c.loop-at.invariant.same) (c.walk_inside.ensures.same ∙ c.reach.ensures.same ∙ c.loop-at.invariant.same) (c.walk_inside-in-Some.ensures.same ∙ c.walk_inside.ensures.same ∙ c.reach.ensures.same ∙ c.loop-at.invariant.same) c.loop-at.invariant.gets c.in-Some.is c.in_ok-onward.ensures.reaches c.in_ok-walk_inside.ensures.walks c.in_ok-walk_inside-2.ensures.walks c.in_ok-walk_inside-3.ensures.walks;
   keeps = λ q h. c.in_ok-walk_inside-3.ensures.keeps q (c.in_ok-walk_inside-2.ensures.keeps q (c.in_ok-walk_inside.ensures.keeps q (c.in_ok-onward.ensures.keeps q (c.loop-at.invariant.keeps q h))));
-  unasked = λ e. c.walk_inside-in-Some-2.ensures.unasked (c.walk_inside-in-Some.ensures.unasked (c.walk_inside.ensures.unasked (c.reach.ensures.unasked (c.loop-at.invariant.unasked e))));
+  uncollected = λ e. c.walk_inside-in-Some-2.ensures.uncollected (c.walk_inside-in-Some.ensures.uncollected (c.walk_inside.ensures.uncollected (c.reach.ensures.uncollected (c.loop-at.invariant.uncollected e))));
 }
 
 pub loop-at-smaller : goal.loop-at-smaller

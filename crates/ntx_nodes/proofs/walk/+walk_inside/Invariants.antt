@@ -15,7 +15,7 @@ invariant-loop-at g l =
       same : heap l.nodes ≡ heap l.fn.nodes;
       gets : Gets (heap l.fn.nodes) l.way l.depth l.k l.fn.head (visited l.fn.nodes) l.fn.names l.at (visited l.nodes) l.names;
       keeps : Keeps (visited l.fn.nodes) (visited l.nodes);
-      unasked : l.fn.names ≡ None → l.names ≡ None;
+      uncollected : l.fn.names ≡ None → l.names ≡ None;
     }
 
 abbrev pub decreases-loop-at : goal.decreases-loop-at

@@ -13,5 +13,5 @@ pub loop-at-preserved : goal.loop-at-preserved
 loop-at-preserved g c = record {
   same = c.reach.ensures.same ∙ c.loop-at.invariant.same;
   gets = goes_along (g.N.Nodes.heap c.args.nodes.now) (g.N.Nodes.heap c.loop-at.nodes) c.args.depth c.args.k c.args.head c.loop-at.at (g.N.Nodes.visited c.args.nodes.now) (g.N.Nodes.visited c.loop-at.nodes) (g.N.Nodes.visited c.reach.new.nodes) c.args.names.now c.loop-at.names c.reach.new.names c.in-Some.n c.in_ok-at.field-0 c.loop-at.invariant.same c.loop-at.invariant.gets c.in-Some.is c.in_ok-at.ensures.reaches;
-  unasked = λ e. c.reach.ensures.unasked (c.loop-at.invariant.unasked e);
+  uncollected = λ e. c.reach.ensures.uncollected (c.loop-at.invariant.uncollected e);
 }

@@ -11,7 +11,7 @@ invariant-loop-at g l =
     record {
       same : heap l.nodes ≡ heap l.fn.nodes;
       gets : Gets (heap l.fn.nodes) Flat l.depth l.k l.fn.head (visited l.fn.nodes) l.fn.names l.at (visited l.nodes) l.names;
-      unasked : l.fn.names ≡ None → l.names ≡ None;
+      uncollected : l.fn.names ≡ None → l.names ≡ None;
     }
 
 abbrev pub decreases-loop-at : goal.decreases-loop-at

@@ -1,11 +1,11 @@
--- A walk with turns enough: more turns change nothing, and what it does at a node.
+-- A walk with fuel enough: more fuel changes nothing, and what it does at a node.
 use Rattle.std.proofs.Common.{◌≡◌, ℕ, zero, suc, ◌+◌, ◌≤◌, ◌<◌, List, [], ◌∷◌, ◌++◌, Bool, true, false, cond, length, Some, None, Ok, Err, refl, sym, ◌∙◌, ap, subst, append_assoc, append-nil, zero-add, suc-add, add_comm, arith}
 use Rattle.std.specs.Prelude.{Option, Result, not, ◌||◌, nat_lt}
 use Rattle.std.specs.FinMap as map
 use Rattle.ntx_num.specs.Answer.{result_map, result_and_then}
 use Rattle.ntx_nodes.specs.Fields.{kind_of}
 use Rattle.ntx_nodes.specs.Heap.{Heap}
-use Rattle.ntx_nodes.specs.Walk.{is_reached, admits, entered, node_reached, in_turn, enter, walk, turns_of, is_too_deep}
+use Rattle.ntx_nodes.specs.Walk.{is_reached, admits, entered, node_reached, in_turn, enter, walk, fuel_of, is_too_deep}
 use Rattle.ntx_nodes.specs.Walker.{failing}
 use Rattle.ntx_nodes.specs.declared.inner.InnerLists.{InnerLists}
 use Rattle.ntx_nodes.specs.declared.kind.ListKind.{ListKind}
@@ -78,7 +78,7 @@ pub unreached_less : (heap : Heap) (r : List ℕ) (n : ℕ) (node : Node) → ma
 unreached_less heap r n node live new =
     falls_at (is_reached (r ++ n ∷ [])) (is_reached r) (map.entries heap.nodes) n node (still r (n ∷ [])) (last_reached r n) new (sym (map.get-entries heap.nodes n) ∙ live)
 
-pub unreached_most : (heap : Heap) (r : List ℕ) → unreached heap r < turns_of heap
+pub unreached_most : (heap : Heap) (r : List ℕ) → unreached heap r < fuel_of heap
 unreached_most heap r =
     let most : unreached heap r ≤ length (map.entries heap.nodes) = failing-le (is_reached r) (map.entries heap.nodes) in
     let size : map.len heap.nodes ≡ length (map.entries heap.nodes) = map.len-entries heap.nodes in
@@ -95,17 +95,17 @@ enter_extends heap way w h r n d k entry e =
       subst (λ (p : Node × List ℕ). Extends (r ++ n ∷ []) p.1) m.gives (in_turn_extends f (λ b to i names x. h b to (d + 1) i names x) (r ++ n ∷ []) (entered way went.value.fields.contents) m.value m.is),
     )
 
-pub walk_extends : (heap : Heap) (way : Way) (turns : ℕ) (r : List ℕ) (n : Option ℕ) (d : ℕ) (k : ListKind) (names : List ℕ) → walk heap way turns r n d k ≡ Ok names → Extends r names
+pub walk_extends : (heap : Heap) (way : Way) (fuel : ℕ) (r : List ℕ) (n : Option ℕ) (d : ℕ) (k : ListKind) (names : List ℕ) → walk heap way fuel r n d k ≡ Ok names → Extends r names
 walk_extends heap way zero r n d k names e = extends_same r names (same_Ok r names e)
-walk_extends heap way (suc turns) r None d k names e = extends_same r names (same_Ok r names e)
-walk_extends heap way (suc turns) r (Some n) d k names e =
-    let w : Walker = λ b to j i. walk heap way turns b to j i in
-    let went = went_Ok {A = Node × List ℕ} (λ entry. walk heap way turns entry.1 entry.0.fields.next d k) (enter heap way w r n d k) names e in
-    let entry = enter_extends heap way w (walk_extends heap way turns) r n d k went.value went.is in
+walk_extends heap way (suc fuel) r None d k names e = extends_same r names (same_Ok r names e)
+walk_extends heap way (suc fuel) r (Some n) d k names e =
+    let w : Walker = λ b to j i. walk heap way fuel b to j i in
+    let went = went_Ok {A = Node × List ℕ} (λ entry. walk heap way fuel entry.1 entry.0.fields.next d k) (enter heap way w r n d k) names e in
+    let entry = enter_extends heap way w (walk_extends heap way fuel) r n d k went.value went.is in
     extends_on r (r ++ n ∷ []) names (record { more = n ∷ []; is = refl })
-    (extends_on (r ++ n ∷ []) went.value.1 names entry.1 (walk_extends heap way turns went.value.1 went.value.0.fields.next d k names went.gives))
+    (extends_on (r ++ n ∷ []) went.value.1 names entry.1 (walk_extends heap way fuel went.value.1 went.value.0.fields.next d k names went.gives))
 
--- ---- more turns change nothing
+-- ---- more fuel changes nothing
 pointwise : {A B E : Type 0} (r : Result A E) (f g : A → Result B E) → ((a : A) → r ≡ Ok a → f a ≡ g a) → result_and_then r f ≡ result_and_then r g
 pointwise (Ok a) f g h = h a refl
 pointwise (Err e) f g h = refl
@@ -124,31 +124,31 @@ in_turn_same heap t f g same extends r l lt =
     let fewest : unreached heap b ≤ unreached heap a = unreached_falls heap a b (extends a l.second l.kind b two) in
     same b l.third l.kind (omega arith)))
 
-pub enough : (heap : Heap) (way : Way) (turns : ℕ) (r : List ℕ) (n : Option ℕ) (d : ℕ) (k : ListKind) → unreached heap r < turns → walk heap way turns r n d k ≡ walk heap way (suc turns) r n d k
+pub enough : (heap : Heap) (way : Way) (fuel : ℕ) (r : List ℕ) (n : Option ℕ) (d : ℕ) (k : ListKind) → unreached heap r < fuel → walk heap way fuel r n d k ≡ walk heap way (suc fuel) r n d k
 enough heap way zero r n d k lt = absurd (omega arith)
-enough heap way (suc turns) r None d k lt = refl
-enough heap way (suc turns) r (Some n) d k lt =
-    let w : Walker = λ b to j i. walk heap way turns b to j i in
-    let v : Walker = λ b to j i. walk heap way (suc turns) b to j i in
+enough heap way (suc fuel) r None d k lt = refl
+enough heap way (suc fuel) r (Some n) d k lt =
+    let w : Walker = λ b to j i. walk heap way fuel b to j i in
+    let v : Walker = λ b to j i. walk heap way (suc fuel) b to j i in
     then_same {A = Node × List ℕ} (enter heap way w r n d k) (enter heap way v r n d k) (λ entry. w entry.1 entry.0.fields.next d k) (λ entry. v entry.1 entry.0.fields.next d k)
     (pointwise (node_reached heap way r n d k) _ _ (λ node is.
     let p = passes heap way r n d k node is in
     let less : unreached heap (r ++ n ∷ []) < unreached heap r = unreached_less heap r n node p.live p.new in
-    ap (result_map {B = Node × List ℕ} (λ names. (node, names))) (in_turn_same heap turns (λ b to i. w b to (d + 1) i) (λ b to i. v b to (d + 1) i)
-    (λ b to i below. enough heap way turns b to (d + 1) i below) (λ b to i names x. walk_extends heap way (suc turns) b to (d + 1) i names x) (r ++ n ∷ []) (entered way node.fields.contents) (omega arith))))
+    ap (result_map {B = Node × List ℕ} (λ names. (node, names))) (in_turn_same heap fuel (λ b to i. w b to (d + 1) i) (λ b to i. v b to (d + 1) i)
+    (λ b to i below. enough heap way fuel b to (d + 1) i below) (λ b to i names x. walk_extends heap way (suc fuel) b to (d + 1) i names x) (r ++ n ∷ []) (entered way node.fields.contents) (omega arith))))
     (λ entry is.
-    let e = enter_extends heap way v (walk_extends heap way (suc turns)) r n d k entry is in
+    let e = enter_extends heap way v (walk_extends heap way (suc fuel)) r n d k entry is in
     let less : unreached heap (r ++ n ∷ []) < unreached heap r = unreached_less heap r n entry.0 e.0.live e.0.new in
     let fewer : unreached heap entry.1 ≤ unreached heap (r ++ n ∷ []) = unreached_falls heap (r ++ n ∷ []) entry.1 e.1 in
-    enough heap way turns entry.1 entry.0.fields.next d k (omega arith))
+    enough heap way fuel entry.1 entry.0.fields.next d k (omega arith))
 
-later : (heap : Heap) (way : Way) (more : ℕ) (r : List ℕ) (n : Option ℕ) (d : ℕ) (k : ListKind) → walk heap way (more + turns_of heap) r n d k ≡ walk heap way (turns_of heap) r n d k
-later heap way zero r n d k = ap (λ t. walk heap way t r n d k) (zero-add (turns_of heap))
+later : (heap : Heap) (way : Way) (more : ℕ) (r : List ℕ) (n : Option ℕ) (d : ℕ) (k : ListKind) → walk heap way (more + fuel_of heap) r n d k ≡ walk heap way (fuel_of heap) r n d k
+later heap way zero r n d k = ap (λ t. walk heap way t r n d k) (zero-add (fuel_of heap))
 later heap way (suc more) r n d k =
-    let most : unreached heap r < turns_of heap = unreached_most heap r in
-    let below : unreached heap r < more + turns_of heap = omega arith in
-    ap (λ t. walk heap way t r n d k) (suc-add more (turns_of heap)) ∙ sym (enough heap way (more + turns_of heap) r n d k below) ∙ later heap way more r n d k
+    let most : unreached heap r < fuel_of heap = unreached_most heap r in
+    let below : unreached heap r < more + fuel_of heap = omega arith in
+    ap (λ t. walk heap way t r n d k) (suc-add more (fuel_of heap)) ∙ sym (enough heap way (more + fuel_of heap) r n d k below) ∙ later heap way more r n d k
 
--- more turns than there are live nodes change nothing
-pub turns_enough : (heap : Heap) (way : Way) (more : ℕ) (r : List ℕ) (n : Option ℕ) (d : ℕ) (k : ListKind) → walk heap way (turns_of heap + more) r n d k ≡ walk heap way (turns_of heap) r n d k
-turns_enough heap way more r n d k = ap (λ t. walk heap way t r n d k) (add_comm (turns_of heap) more) ∙ later heap way more r n d k
+-- more fuel than there are live nodes changes nothing
+pub fuel_enough : (heap : Heap) (way : Way) (more : ℕ) (r : List ℕ) (n : Option ℕ) (d : ℕ) (k : ListKind) → walk heap way (fuel_of heap + more) r n d k ≡ walk heap way (fuel_of heap) r n d k
+fuel_enough heap way more r n d k = ap (λ t. walk heap way t r n d k) (add_comm (fuel_of heap) more) ∙ later heap way more r n d k
