@@ -18,13 +18,21 @@ is_percent byte = byte == 37
 abbrev pub is_blank : ℕ → Bool
 is_blank byte = byte == 32 || byte == 9 || byte == 13
 
--- a part between two blanks is a word if it is not empty
+-- a byte of a word
+abbrev pub is_filled : ℕ → Bool
+is_filled byte = not (is_blank byte)
+
+-- not empty
 abbrev pub is_word : List ℕ → Bool
 is_word part = not (length part == 0)
 
+-- the words of a text: its parts between blanks that are not empty
+abbrev pub words_in : List ℕ → List (List ℕ)
+words_in text = filter is_word (slice_split is_blank text)
+
 -- the words of a line before its comment
 abbrev pub words_of : List ℕ → List (List ℕ)
-words_of line = filter is_word (slice_split is_blank (before_first is_percent line))
+words_of line = words_in (before_first is_percent line)
 
 -- the pattern that a word on the line of this number writes; any other word is refused with the line
 abbrev pub read_at : ℕ → Option Pattern → Result Pattern PatternFault

@@ -8,3 +8,5 @@ pub mod Table
 pub mod Points
 -- the table of patterns as they are kept
 pub mod Kept
+-- what private calls say among themselves; no public contract cites it
+pub mod inner

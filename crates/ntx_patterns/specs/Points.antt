@@ -22,27 +22,30 @@ unfoldable pub greatest : ℕ → (ℕ → ℕ) → ℕ
 greatest zero f = 0
 greatest (suc n) f = max (greatest n f) (f n)
 
+-- What digits put before symbol `gap` of a text, if they begin before symbol `place`; 0 if they do not reach it.
+abbrev pub digit_at : List ℕ → ℕ → ℕ → ℕ
+digit_at digits place gap = if nat_le place gap then slice_index digits (gap - place) else 0
+
 -- ---- by all pairs of a pattern and a place
 
--- what a pattern puts before symbol `gap` of a text, if it matches from symbol `place` on; 0 otherwise
+-- what a pattern puts there, if it matches at the front of the rest of the text from symbol `place` on; 0 otherwise
 abbrev pub digit_of : Pattern → List ℕ → ℕ → ℕ → ℕ
-digit_of pattern text gap place =
-    if starts_with nat_eq (drop place text) pattern.symbols && nat_le place gap then slice_index pattern.digits (gap - place) else 0
+digit_of pattern rest place gap = if starts_with nat_eq rest pattern.symbols then digit_at pattern.digits place gap else 0
 
 -- the greatest digit that any of the patterns puts there, from any place
 abbrev pub value_of : List Pattern → List ℕ → ℕ → ℕ
 value_of [] text gap = 0
-value_of (pattern ∷ patterns) text gap = max (greatest (length text + 1) (digit_of pattern text gap)) (value_of patterns text gap)
+value_of (pattern ∷ patterns) text gap = max (greatest (length text) (λ place. digit_of pattern (drop place text) place gap)) (value_of patterns text gap)
 
 -- ---- from a table
 
--- what the table has for `count` symbols from symbol `place` on puts before symbol `gap`; 0 if it has nothing for them
-abbrev pub digit_in : Table → List ℕ → ℕ → ℕ → ℕ → ℕ
-digit_in table text gap place count = if nat_le place gap then slice_index (table (take count (drop place text))) (gap - place) else 0
+-- the greatest digit that the table puts there for the first symbols, however many, of the rest of the text from symbol `place` on
+abbrev pub digit_in : Table → List ℕ → ℕ → ℕ → ℕ
+digit_in table rest place gap = greatest (length rest + 1) (λ count. digit_at (table (take count rest)) place gap)
 
--- the greatest of these, over all places and counts
+-- the greatest of these, over all places
 unfoldable pub value_in : Table → List ℕ → ℕ → ℕ
-value_in table text gap = greatest (length text + 1) (λ place. greatest (length text + 1) (λ count. digit_in table text gap place count))
+value_in table text gap = greatest (length text) (λ place. digit_in table (drop place text) place gap)
 
 -- ---- points
 

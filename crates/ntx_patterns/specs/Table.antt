@@ -13,11 +13,8 @@ greater_digits [] others = others
 greater_digits (digit ∷ digits) [] = digit ∷ digits
 greater_digits (digit ∷ digits) (other ∷ others) = max digit other ∷ greater_digits digits others
 
--- the digits of a pattern, if it has these symbols, together with others
-abbrev pub with_pattern : Pattern → List ℕ → List ℕ → List ℕ
-with_pattern pattern symbols digits = if bytes_eq pattern.symbols symbols then greater_digits pattern.digits digits else digits
-
 -- the table of a list of patterns
 abbrev pub table_of : List Pattern → Table
 table_of [] symbols = []
-table_of (pattern ∷ patterns) symbols = with_pattern pattern symbols (table_of patterns symbols)
+table_of (pattern ∷ patterns) symbols =
+    if bytes_eq pattern.symbols symbols then greater_digits pattern.digits (table_of patterns symbols) else table_of patterns symbols

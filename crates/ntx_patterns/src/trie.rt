@@ -2,7 +2,8 @@
 
 ghost use Rattle.std.specs.Prelude.{◌≡◌, ◌<◌, ℕ, List, [], ◌∷◌, length, bytes_eq, IfOk, OnOk, MatchOption, if◌then◌else◌};
 ghost use Rattle.ntx_patterns.specs.Table.{greater_digits};
-ghost use Rattle.ntx_patterns.specs.Kept.{row};
+ghost use Rattle.ntx_patterns.specs.Kept.{row, under, fork};
+ghost use Rattle.ntx_patterns.specs.inner.Adding.{added};
 
 use ntx_num::NoMemory;
 use std::alloc::Global;
@@ -45,30 +46,38 @@ fn raise(kept: &mut Vec<u8>, digits: &[u8]) -> Result<(), NoMemory>
     Ok(())
 }
 
+/// A trie whose one node at the top has this symbol, these digits and this trie below it.
+fn lone(alloc: Global, symbol: u8, digits: Vec<u8>, below: Trie) -> Result<Trie, NoMemory>
+    ensures { IfOk result (λ trie. (key : List ℕ) → row trie key ≡ fork symbol (under digits.items (row below)) (λ _. []) key) }
+{
+    let node = Node {
+        symbol,
+        digits,
+        below,
+        beside: Trie::Empty,
+    };
+    Ok(Trie::Fork(Box::new(alloc, node)?))
+}
+
 /// A trie of one pattern.
 fn chain(alloc: Global, symbols: &[u8], digits: &[u8]) -> Result<Trie, NoMemory>
     requires { 0 < length symbols.now }
     ensures { IfOk result (λ trie. (key : List ℕ) → row trie key ≡ (if bytes_eq symbols.now key then digits.now else [])) }
 {
-    let mut node = Node {
-        symbol: symbols[0],
-        digits: Vec::new(alloc),
-        below: Trie::Empty,
-        beside: Trie::Empty,
-    };
     if symbols.len() == 1 {
-        node.digits.extend_from_slice(digits)?;
+        let kept = Vec::from_slice(alloc, digits)?;
+        lone(alloc, symbols[0], kept, Trie::Empty)
     } else {
-        node.below = chain(alloc, &symbols[1..], digits)?;
+        let below = chain(alloc, &symbols[1..], digits)?;
+        lone(alloc, symbols[0], Vec::new(alloc), below)
     }
-    Ok(Trie::Fork(Box::new(alloc, node)?))
 }
 
 impl Trie {
     /// Adds a pattern with these symbols and digits.
     pub fn add(&mut self, alloc: Global, symbols: &[u8], digits: &[u8]) -> Result<(), NoMemory>
         requires { 0 < length symbols.now }
-        ensures { OnOk result ((key : List ℕ) → row self.new key ≡ (if bytes_eq symbols.now key then greater_digits (row self.old key) digits.now else row self.old key)) }
+        ensures { OnOk result (row self.new ≡ added symbols.now digits.now (row self.old)) }
     {
         match self {
             Trie::Empty => {

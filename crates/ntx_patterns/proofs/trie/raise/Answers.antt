@@ -1,0 +1,10 @@
+use Rattle.std.proofs.Common.{ap, ◌∙◌, arith}
+use Rattle.ntx_patterns.proofs.DigitsLemmas.{raised_within, raised_behind}
+use Rattle.ntx_patterns.proofs.trie.raise.Goals as goal
+use Rattle.ntx_patterns.proofs.trie.raise.Goals.{then-i-len, else-i-len+in_ok-push}
+
+pub loop-i-preserved : goal.loop-i-preserved
+loop-i-preserved c = elim c.if-i-len.branch [
+  | then-i-len w ↦ ap (λ v. v.items) w.kept-is ∙ raised_within c.args.kept.now.items c.args.digits.now c.loop-i.kept.items c.loop-i.i w.max.result c.loop-i.invariant (omega arith) (omega arith) (cc)
+  | else-i-len+in_ok-push w ↦ ap (λ v. v.items) w.kept-is ∙ w.in_ok-push.ensures.items ∙ raised_behind c.args.kept.now.items c.args.digits.now c.loop-i.kept.items c.loop-i.i c.loop-i.invariant (omega arith) (omega arith)
+]
