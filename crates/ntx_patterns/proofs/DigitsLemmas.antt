@@ -45,7 +45,7 @@ greater_assoc (x ∷ xs) (y ∷ ys) (z ∷ zs) =
     cc
 
 pub greater-get : (xs ys : List ℕ) (i : ℕ) → get_or (greater_digits xs ys) i 0 ≡ max (get_or xs i 0) (get_or ys i 0)
-greater-get [] ys i = refl
+greater-get [] ys i = omega arith
 greater-get (x ∷ xs) [] i = omega arith
-greater-get (x ∷ xs) (y ∷ ys) zero = refl
+greater-get (x ∷ xs) (y ∷ ys) zero = omega arith
 greater-get (x ∷ xs) (y ∷ ys) (suc i) = greater-get xs ys i

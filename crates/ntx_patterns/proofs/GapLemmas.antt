@@ -3,8 +3,9 @@ use Rattle.std.proofs.Common.{◌≡◌, ◌≢◌, ℕ, zero, suc, ◌+◌, ◌
 use Rattle.std.proofs.Math.Path.{fun_ext}
 use Rattle.std.proofs.Common.{get_or-set_other, get_or-set_same}
 use Rattle.std.proofs.lemmas.Bool.{cases_order, cases_lt, le-leb, lt-leb, cond-true, cond-false}
-use Rattle.std.proofs.lemmas.List.{length-take, get_or-take, get_or_past}
-use Rattle.ntx_patterns.specs.Points.{greatest, digit_at}
+use Rattle.std.proofs.lemmas.List.{length-take, get_or-take, get_or_past, take_rest}
+use Rattle.ntx_patterns.specs.Points.{greatest, digit_at, digit_in, value_in}
+use Rattle.ntx_patterns.specs.Table.{Table}
 
 -- ---- digits from a place on
 
@@ -101,3 +102,17 @@ pub greatest-max : (f g : ℕ → ℕ) (n : ℕ) → greatest n (λ k. max (f k)
 unfolding greatest
 greatest-max f g zero = refl
 greatest-max f g (suc n) = let others = greatest-max f g n in omega arith
+
+-- ---- all places
+
+pub values_more : (table : Table) (text : List ℕ) (place gap old new : ℕ) → old ≡ greatest place (λ start. digit_in table (drop start text) start gap)
+    → new ≡ max old (digit_in table (take (length text - place) (drop place text)) place gap) → new ≡ greatest (place + 1) (λ start. digit_in table (drop start text) start gap)
+values_more table text place gap old new before raised =
+    raised ∙ ap (λ n. max n (digit_in table (take (length text - place) (drop place text)) place gap)) before
+    ∙ ap (λ rest. max (greatest place (λ start. digit_in table (drop start text) start gap)) (digit_in table rest place gap)) (take_rest text place)
+    ∙ sym (greatest-more place (λ start. digit_in table (drop start text) start gap))
+
+pub values_end : (table : Table) (text : List ℕ) (place gap value : ℕ) → place ≡ length text → value ≡ greatest place (λ start. digit_in table (drop start text) start gap)
+    → value ≡ value_in table text gap
+unfolding value_in
+values_end table text place gap value end is = is ∙ ap (λ n. greatest n (λ start. digit_in table (drop start text) start gap)) end

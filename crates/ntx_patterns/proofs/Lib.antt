@@ -8,3 +8,5 @@ pub mod SymbolsLemmas
 pub mod GapLemmas
 pub mod PairsLemmas
 pub mod WalkLemmas
+pub mod PointsLemmas
+pub mod ReadLemmas

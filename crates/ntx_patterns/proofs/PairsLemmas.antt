@@ -31,16 +31,16 @@ abbrev picked : List ℕ → List ℕ → ℕ → ℕ → ℕ
 picked symbols rest digit count = if bytes_eq symbols (take count rest) then digit else 0
 
 picked_le : (symbols rest : List ℕ) (digit count : ℕ) → picked symbols rest digit count ≤ digit
-picked_le symbols rest digit count = elim (cases_Bool (bytes_eq symbols (take count rest))) [ inl yes ↦ rw yes (omega arith) | inr no ↦ rw no (omega arith) ]
+picked_le symbols rest digit count = elim (cases_Bool (bytes_eq symbols (take count rest))) [ inl held ↦ rw held (omega arith) | inr failed ↦ rw failed (omega arith) ]
 
 picked_none : (symbols rest : List ℕ) (digit count : ℕ) → starts_with nat_eq rest symbols ≡ false → count < length rest + 1 → picked symbols rest digit count ≤ 0
 picked_none symbols rest digit count misses within =
     elim (cases_Bool (bytes_eq symbols (take count rest))) [
-      | inl yes ↦
-          let own : length symbols ≡ count = own_count symbols rest count (omega arith) yes in
-          let again : bytes_eq symbols (take (length symbols) rest) ≡ true = rw own yes in
+      | inl held ↦
+          let own : length symbols ≡ count = own_count symbols rest count (omega arith) held in
+          let again : bytes_eq symbols (take (length symbols) rest) ≡ true = rw own held in
           cc
-      | inr no ↦ rw no (omega arith)
+      | inr failed ↦ rw failed (omega arith)
     ]
 
 picked_once : (symbols rest : List ℕ) (digit : ℕ) → greatest (length rest + 1) (picked symbols rest digit) ≡ (if starts_with nat_eq rest symbols then digit else 0)

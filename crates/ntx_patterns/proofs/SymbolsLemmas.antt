@@ -24,13 +24,17 @@ before_dot_le f word =
 letter_symbol : (byte : ℕ) → is_letter byte ≡ true → is_symbol byte ≡ true
 letter_symbol byte letter = grind (arith, nat_tests)
 
+letter_le : (byte : ℕ) → (if is_letter byte then 1 else 0) ≤ (if is_symbol byte then 1 else 0)
+letter_le byte =
+    elim (cases_Bool (is_letter byte)) [
+      | inl letter ↦ rw (letter, letter_symbol byte letter) (omega arith)
+      | inr other ↦ rw other (omega arith)
+    ]
+
 letters_le : (word : List ℕ) → count_by is_letter word ≤ count_by is_symbol word
 letters_le [] = omega arith
 letters_le (byte ∷ bytes) =
-    elim (cases_Bool (is_letter byte)) [
-      | inl letter ↦ let e = letter_symbol byte letter in rw (letter, e) (omega (arith, letters_le bytes))
-      | inr other ↦ rw other (omega (arith, letters_le bytes))
-    ]
+    omega (arith, sum_by-cons (λ b. if is_letter b then 1 else 0) byte bytes, sum_by-cons (λ b. if is_symbol b then 1 else 0) byte bytes, letter_le byte, letters_le bytes)
 
 pub some_symbols : (word : List ℕ) → is_pattern word ≡ true → 0 < length (filter is_symbol word)
 some_symbols word is =

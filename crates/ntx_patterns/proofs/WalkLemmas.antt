@@ -2,9 +2,11 @@
 use Rattle.std.proofs.Common.{◌≡◌, ℕ, ◌+◌, ◌-◌, ◌<◌, ◌≤◌, max, List, [], ◌∷◌, ◌++◌, length, take, drop, get_or, refl, ap, sym, ◌∙◌, arith, append_assoc, append-nil}
 use Rattle.std.proofs.lemmas.List.{take_more, take-append-drop, take-take}
 use Rattle.ntx_patterns.specs.Table.{Table}
-use Rattle.ntx_patterns.specs.Kept.{under}
+use Rattle.ntx_patterns.specs.Kept.{row, under}
+use Rattle.ntx_patterns.specs.declared.trie.Trie.{Trie}
+use Rattle.ntx_patterns.specs.declared.trie.Trie.TheVariants.{Empty, Fork'}
 use Rattle.ntx_patterns.specs.Points.{greatest, digit_at, digit_in}
-use Rattle.ntx_patterns.proofs.GapLemmas.{greatest-more, greatest-rest}
+use Rattle.ntx_patterns.proofs.GapLemmas.{greatest-none, greatest-more, greatest-rest}
 use Rattle.ntx_patterns.proofs.PairsLemmas.{digit_at-none}
 
 -- After j symbols: the way to a table below, and the values raised so far.
@@ -43,3 +45,18 @@ walked_off start here rest place j old values within walked none gap inside =
     let all : greatest (length rest + 1) f ≡ greatest (j + 1) f =
         (let e : length rest + 1 ≡ (j + 1) + (length rest - j) = omega arith in ap (λ n. greatest n f) e) ∙ greatest-rest f (j + 1) (length rest - j) empty in
     walked.raised gap inside ∙ ap (λ n. max (get_or old gap 0) n) (sym all)
+
+-- ---- before the first symbol
+
+row-nil : (trie : Trie) → row trie [] ≡ []
+unfolding row
+row-nil Empty = refl
+row-nil (Fork' p symbol digits below beside) = refl
+
+pub walked_start : (trie : Trie) (rest : List ℕ) (place : ℕ) (old : List ℕ) → IsWalked (row trie) (row trie) rest place 0 old old
+walked_start trie rest place old = record {
+  way = λ next key. refl;
+  raised = λ gap inside.
+    let first : digit_at (row trie (take 0 rest)) place gap ≡ 0 = ap (λ d. digit_at d place gap) (row-nil trie) ∙ digit_at-none place gap in
+    omega (arith, greatest-more 0 (λ count. digit_at (row trie (take count rest)) place gap), greatest-none (λ count. digit_at (row trie (take count rest)) place gap), first);
+}

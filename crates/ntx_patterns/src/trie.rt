@@ -99,8 +99,7 @@ impl Trie {
     /// The node of this symbol among those side by side.
     pub fn child(&self, symbol: u8) -> Option<&Node>
         ensures { MatchOption result ((key : List ℕ) → row self.now (symbol ∷ key) ≡ [])
-            (λ node. (row self.now (symbol ∷ []) ≡ node.now.digits.items)
-            × ((next : ℕ) (key : List ℕ) → row self.now (symbol ∷ next ∷ key) ≡ row node.now.below (next ∷ key))) }
+            (λ node. (key : List ℕ) → row self.now (symbol ∷ key) ≡ under node.now.digits.items (row node.now.below) key) }
     {
         let mut trie = self;
         while let Trie::Fork(node) = trie {
