@@ -1,8 +1,9 @@
 -- The allowed gaps one by one.
-use Rattle.std.proofs.Common.{◌≡◌, ℕ, zero, suc, ◌+◌, ◌-◌, ◌<◌, ◌≤◌, Bool, true, false, List, [], ◌∷◌, ◌++◌, length, get_or, filter, cond, All, refl, ap, sym, ◌∙◌, arith, inl, inr, append-nil, nat_le, map, length-append, length-map}
+use Rattle.std.proofs.Common.{◌≡◌, ℕ, zero, suc, ◌+◌, ◌-◌, ◌<◌, ◌≤◌, Bool, true, false, List, [], ◌∷◌, ◌++◌, length, get_or, filter, cond, All, refl, ap, sym, ◌∙◌, arith, inl, inr, append-nil, nat_le, map, length-append}
 use Rattle.std.specs.List.{range_with_len}
 use Rattle.std.specs.List.Sorted.{IsStrictlyIncreasing}
 use Rattle.std.proofs.lemmas.Bool.{cases_Bool, and_parts, leb-true}
+use Rattle.std.proofs.lemmas.List.{length-map}
 use Rattle.std.proofs.lemmas.List.Elements.{filter-append, All-filter, filter_passes}
 use Rattle.std.proofs.lemmas.List.FromFn.{length-range_with_len, get_or-range_with_len}
 use Rattle.ntx_patterns.specs.Points.{is_allowed, allowed_gaps, dotted, symbol_of}
@@ -74,4 +75,4 @@ pub all_tried : (p : ℕ → Bool) (found : List ℕ) (i n : ℕ) → i ≡ n + 
 all_tried p found i n end is = is ∙ ap (λ m. filter p (range_with_len 0 m)) end
 
 pub length-dotted : (word : List ℕ) → length (dotted word) ≡ length word + 2
-length-dotted word = omega (arith, length-append (map symbol_of word) (46 ∷ []), length-map symbol_of word)
+length-dotted word = omega (arith, length-append (map symbol_of word) (46 ∷ []), length-map word symbol_of)

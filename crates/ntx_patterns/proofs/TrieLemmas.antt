@@ -127,7 +127,7 @@ pub tables_end : (symbol : ℕ) (kept kept' : List ℕ) (below beside self : Tab
     → kept' ≡ greater_digits kept digits → self ≡ fork symbol (under kept below) beside → fork symbol (under kept' below) beside ≡ added symbols digits self
 tables_end symbol kept kept' below beside self symbols digits one here raised is =
     fun_ext (added_inner symbol (under kept below) (under kept' below) beside symbols digits (omega arith) here
-      (added_end kept kept' digits below (drop 1 symbols) (omega (arith, length-drop 1 symbols)) raised))
+    (added_end kept kept' digits below (drop 1 symbols) (omega (arith, length-drop 1 symbols)) raised))
     ∙ ap (added symbols digits) (sym is)
 
 pub tables_below : (symbol : ℕ) (kept : List ℕ) (below below' beside self : Table) (symbols digits : List ℕ) → 1 < length symbols → symbol ≡ get_or symbols 0 0
@@ -135,5 +135,5 @@ pub tables_below : (symbol : ℕ) (kept : List ℕ) (below below' beside self : 
 tables_below symbol kept below below' beside self symbols digits more here rows is =
     let rest : below' ≡ added (drop 1 symbols) digits below = rows ∙ ap (λ front. added front digits below) (take_rest symbols 1) in
     fun_ext (added_inner symbol (under kept below) (under kept below') beside symbols digits (omega arith) here
-      (added_below kept digits below below' (drop 1 symbols) (omega (arith, length-drop 1 symbols)) (λ key. ap (λ t. t key) rest)))
+    (added_below kept digits below below' (drop 1 symbols) (omega (arith, length-drop 1 symbols)) (λ key. ap (λ t. t key) rest)))
     ∙ ap (added symbols digits) (sym is)

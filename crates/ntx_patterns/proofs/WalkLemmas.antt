@@ -27,9 +27,9 @@ pub walked_on : (start here below : Table) (digits rest : List ℕ) (place j : �
 walked_on start here below digits rest place j old values values' within walked child raised = record {
   way = λ next key. more_way start here rest j within walked.way (next ∷ key) ∙ child (next ∷ key);
   raised = λ gap inside.
-    let now : start (take (j + 1) rest) ≡ digits = ap start (sym (append-nil (take (j + 1) rest))) ∙ more_way start here rest j within walked.way [] ∙ child [] in
-    let last : digit_at (start (take (j + 1) rest)) place gap ≡ digit_at digits place gap = ap (λ d. digit_at d place gap) now in
-    omega (arith, raised gap inside, walked.raised gap inside, greatest-more (j + 1) (λ count. digit_at (start (take count rest)) place gap), last);
+      let now : start (take (j + 1) rest) ≡ digits = ap start (sym (append-nil (take (j + 1) rest))) ∙ more_way start here rest j within walked.way [] ∙ child [] in
+      let last : digit_at (start (take (j + 1) rest)) place gap ≡ digit_at digits place gap = ap (λ d. digit_at d place gap) now in
+      omega (arith, raised gap inside, walked.raised gap inside, greatest-more (j + 1) (λ count. digit_at (start (take count rest)) place gap), last);
 }
 
 -- the way ends
@@ -39,11 +39,11 @@ pub walked_off : (start here : Table) (rest : List ℕ) (place j : ℕ) (old val
 walked_off start here rest place j old values within walked none gap inside =
     let f : ℕ → ℕ = λ count. digit_at (start (take count rest)) place gap in
     let empty : (k : ℕ) → j + 1 ≤ k → f k ≡ 0 = λ k from.
-        let key : List ℕ = drop (j + 1) (take k rest) in
-        let more : take k rest ≡ take (j + 1) rest ++ key = sym (take-append-drop (j + 1) (take k rest)) ∙ ap (λ front. front ++ key) (take-take (j + 1) k rest from) in
-        ap (λ d. digit_at d place gap) (ap start more ∙ more_way start here rest j within walked.way key ∙ none key) ∙ digit_at-none place gap in
+    let key : List ℕ = drop (j + 1) (take k rest) in
+    let more : take k rest ≡ take (j + 1) rest ++ key = sym (take-append-drop (j + 1) (take k rest)) ∙ ap (λ front. front ++ key) (take-take (j + 1) k rest from) in
+    ap (λ d. digit_at d place gap) (ap start more ∙ more_way start here rest j within walked.way key ∙ none key) ∙ digit_at-none place gap in
     let all : greatest (length rest + 1) f ≡ greatest (j + 1) f =
-        (let e : length rest + 1 ≡ (j + 1) + (length rest - j) = omega arith in ap (λ n. greatest n f) e) ∙ greatest-rest f (j + 1) (length rest - j) empty in
+    (let e : length rest + 1 ≡ (j + 1) + (length rest - j) = omega arith in ap (λ n. greatest n f) e) ∙ greatest-rest f (j + 1) (length rest - j) empty in
     walked.raised gap inside ∙ ap (λ n. max (get_or old gap 0) n) (sym all)
 
 -- ---- before the first symbol
@@ -57,6 +57,6 @@ pub walked_start : (trie : Trie) (rest : List ℕ) (place : ℕ) (old : List ℕ
 walked_start trie rest place old = record {
   way = λ next key. refl;
   raised = λ gap inside.
-    let first : digit_at (row trie (take 0 rest)) place gap ≡ 0 = ap (λ d. digit_at d place gap) (row-nil trie) ∙ digit_at-none place gap in
-    omega (arith, greatest-more 0 (λ count. digit_at (row trie (take count rest)) place gap), greatest-none (λ count. digit_at (row trie (take count rest)) place gap), first);
+      let first : digit_at (row trie (take 0 rest)) place gap ≡ 0 = ap (λ d. digit_at d place gap) (row-nil trie) ∙ digit_at-none place gap in
+      omega (arith, greatest-more 0 (λ count. digit_at (row trie (take count rest)) place gap), greatest-none (λ count. digit_at (row trie (take count rest)) place gap), first);
 }

@@ -14,8 +14,8 @@ loop-i-preserved c =
     let text : c.deref.result.now ≡ dotted c.args.word.now = c.deref.ensures.value ∙ c.in_ok-text.ensures in
     let within : c.loop-i.i + 1 < length c.deref.result.now + 1 = omega (arith, ap length text, length-dotted c.args.word.now) in
     let read : c.index.result.now ≡ value (c.loop-i.i + 1) =
-      get_or_read c.in_ok-values.values.items (c.loop-i.i + 1) c.index.result.now (omega (arith, c.in_ok-values.ensures.length)) c.index.ensures 0
-      ∙ c.in_ok-values.ensures.values (c.loop-i.i + 1) within ∙ ap (λ t. value_in (table c.args.p.now) t (c.loop-i.i + 1)) text in
+    get_or_read c.in_ok-values.values.items (c.loop-i.i + 1) c.index.result.now (omega (arith, c.in_ok-values.ensures.length)) c.index.ensures 0
+    ∙ c.in_ok-values.ensures.values (c.loop-i.i + 1) within ∙ ap (λ t. value_in (table c.args.p.now) t (c.loop-i.i + 1)) text in
     elim c.if-is_allowed.branch [
       | then-is_allowed+in_ok-push w ↦ ap (λ v. v.items) w.points-is ∙ w.in_ok-push.ensures.items
           ∙ allowed_yes value c.index.result.now (length c.args.word.now) c.args.left c.args.right c.loop-i.i c.loop-i.points.items read c.loop-i.invariant (sym c.is_allowed.ensures ∙ w.if-is_allowed.true)

@@ -8,10 +8,11 @@ pub loop-rest-init : goal.loop-rest-init
 loop-rest-init c = (read_start c.args.bytes.now, omega arith)
 
 pub loop-rest-preserved : goal.loop-rest-preserved
-loop-rest-preserved c =
-    ( c.loop-rest.invariant.0
+loop-rest-preserved c = (
+  c.loop-rest.invariant.0
       ∙ line_read (row c.loop-rest.trie) (row c.add_line.new.trie) (c.loop-rest.number + 1) c.loop-rest.rest.now c.next_line.result.0.now c.next_line.result.1.now c.next_line.ensures.lines c.in_ok-add_line.ensures,
-      omega arith )
+  omega arith,
+)
 
 pub returns : goal.returns
 unfolding table
