@@ -1,5 +1,5 @@
 -- Digits taken over one by one.
-use Rattle.std.proofs.Common.{◌≡◌, ℕ, zero, suc, ◌+◌, ◌<◌, ◌≤◌, max, List, [], ◌∷◌, ◌++◌, length, take, set, get_or, refl, ap, sym, ◌∙◌, arith, add-one}
+use Rattle.std.proofs.Common.{◌≡◌, ℕ, zero, suc, ◌+◌, ◌<◌, ◌≤◌, max, List, [], ◌∷◌, ◌++◌, length, take, set, get_or, refl, ap, sym, arith, add-one}
 use Rattle.std.proofs.lemmas.List.{length-take-le}
 use Rattle.ntx_patterns.specs.Table.{greater_digits}
 

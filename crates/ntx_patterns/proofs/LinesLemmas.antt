@@ -1,5 +1,5 @@
 -- The first line of a text, and a line before its comment.
-use Rattle.std.proofs.Common.{◌≡◌, ℕ, ◌+◌, ◌-◌, ◌<◌, Bool, List, [], ◌∷◌, length, take, drop, Some, None, position, ap, refl, ◌∙◌, sym}
+use Rattle.std.proofs.Common.{◌≡◌, ℕ, ◌+◌, ◌-◌, ◌<◌, Bool, List, [], ◌∷◌, length, take, drop, Some, None, position, ap, sym}
 use Rattle.std.specs.List.{slice_split, position_or_len, before_first}
 use Rattle.std.proofs.lemmas.List.{take_rest, take_all}
 use Rattle.std.proofs.lemmas.List.Splits.{slice_split_none, slice_split_first}

@@ -1,10 +1,9 @@
 -- The points from a table are those by all pairs of a pattern and a place.
-use Rattle.std.proofs.Common.{◌≡◌, ℕ, ◌+◌, ◌-◌, ◌<◌, ◌≤◌, max, Bool, true, false, List, [], ◌∷◌, length, take, drop, get_or, bytes_eq, nat_eq, cond, if◌then◌else◌, refl, ap, sym, ◌∙◌, arith, inl, inr, filter}
-use Rattle.std.specs.List.{starts_with, range_with_len}
+use Rattle.std.proofs.Common.{◌≡◌, ℕ, ◌+◌, ◌-◌, ◌<◌, ◌≤◌, max, true, false, List, [], ◌∷◌, length, take, drop, bytes_eq, nat_eq, if◌then◌else◌, refl, ap, ◌∙◌, arith, inl, inr}
+use Rattle.std.specs.List.{starts_with}
 use Rattle.std.proofs.Math.Path.{fun_ext}
 use Rattle.std.proofs.lemmas.Bool.{cases_Bool, cases_lt}
 use Rattle.std.proofs.lemmas.List.{length-take, length-take-le}
-use Rattle.std.proofs.lemmas.List.Elements.{filter_agree}
 use Rattle.std.proofs.lemmas.Slice.Eq.{bytes_eq-Decides}
 use Rattle.ntx_patterns.specs.Pattern.{Pattern}
 use Rattle.ntx_patterns.specs.Table.{Table, greater_digits, table_of}

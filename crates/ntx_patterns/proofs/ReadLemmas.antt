@@ -1,10 +1,9 @@
 -- Reading a file line by line.
-use Rattle.std.proofs.Common.{◌≡◌, ℕ, ◌+◌, ◌⊎◌, List, [], ◌∷◌, length, Result, Ok, Err, refl, ap, sym, ◌∙◌, arith, inl, inr}
+use Rattle.std.proofs.Common.{◌≡◌, ℕ, ◌+◌, ◌⊎◌, List, [], ◌∷◌, length, Ok, Err, refl, ap, sym, ◌∙◌, arith, inl, inr}
 use Rattle.std.specs.List.{slice_split}
 use Rattle.std.proofs.Math.Path.{fun_ext}
 use Rattle.ntx_num.specs.Answer.{result_map}
 use Rattle.ntx_patterns.specs.declared.fault.PatternFault.{PatternFault}
-use Rattle.ntx_patterns.specs.declared.trie.Trie.{Trie}
 use Rattle.ntx_patterns.specs.declared.trie.Trie.TheVariants.{Empty}
 use Rattle.ntx_patterns.specs.File.{is_feed, words_of, patterns_on, patterns_from, patterns_of}
 use Rattle.ntx_patterns.specs.Table.{Table, table_of}

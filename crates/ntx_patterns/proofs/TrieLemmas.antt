@@ -1,5 +1,5 @@
 -- The table of a trie after a pattern is added.
-use Rattle.std.proofs.Common.{◌≡◌, ◌≢◌, ℕ, Result, Ok, Err, IfOk, ◌<◌, ◌-◌, List, [], ◌∷◌, length, take, drop, get_or, bytes_eq, nat_eq, true, false, if◌then◌else◌, refl, ap, sym, subst, ◌∙◌, Box, Global, eq-eqb, arith, inl, inr, length-drop}
+use Rattle.std.proofs.Common.{◌≡◌, ◌≢◌, ℕ, Result, Ok, Err, IfOk, ◌<◌, ◌-◌, List, [], ◌∷◌, length, take, drop, get_or, bytes_eq, nat_eq, true, false, if◌then◌else◌, refl, ap, sym, ◌∙◌, Box, Global, eq-eqb, arith, inl, inr, length-drop}
 use Rattle.std.proofs.Math.Path.{fun_ext}
 use Rattle.std.proofs.lemmas.Bool.{cond-true, cond-false, cases_Bool}
 use Rattle.std.proofs.lemmas.Bool.Decides.{nat_tests}

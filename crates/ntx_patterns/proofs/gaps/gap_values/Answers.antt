@@ -1,4 +1,4 @@
-use Rattle.std.proofs.Common.{◌≡◌, ◌-◌, length, max, take, drop, get_or, ap, ◌+◌, replicate, ◌∙◌, arith, refl}
+use Rattle.std.proofs.Common.{◌≡◌, ◌-◌, length, max, take, drop, get_or, ap, ◌+◌, replicate, ◌∙◌, arith}
 use Rattle.std.proofs.lemmas.List.{take_at, get_or-replicate}
 use Rattle.ntx_patterns.specs.Kept.{row, table}
 use Rattle.ntx_patterns.specs.Points.{greatest, digit_in}

@@ -2,7 +2,7 @@ use Rattle.std.proofs.Common.{◌≡◌, ℕ, ◌+◌, ◌<◌, ◌≤◌, List,
 use Rattle.std.specs.List.Sorted.{IsStrictlyIncreasing}
 use Rattle.std.proofs.lemmas.List.{get_or_read}
 use Rattle.ntx_patterns.specs.Kept.{table}
-use Rattle.ntx_patterns.specs.Points.{dotted, is_allowed, allowed_gaps, value_in, points_in}
+use Rattle.ntx_patterns.specs.Points.{dotted, is_allowed, value_in, points_in}
 use Rattle.ntx_patterns.proofs.PairsLemmas.{points_agree}
 use Rattle.ntx_patterns.proofs.PointsLemmas.{allowed_yes, allowed_no, allowed_inside, allowed_ascending, all_tried, length-dotted}
 use Rattle.ntx_patterns.proofs.gaps.points.Goals as goal

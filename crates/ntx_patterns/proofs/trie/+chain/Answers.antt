@@ -1,8 +1,7 @@
-use Rattle.std.proofs.Common.{[], drop, get_or, length-drop, refl, arith}
-use Rattle.std.proofs.lemmas.List.{take_rest}
+use Rattle.std.proofs.Common.{drop, get_or, length-drop, refl, arith}
 use Rattle.ntx_patterns.specs.declared.trie.Trie.TheVariants.{Empty}
 use Rattle.ntx_patterns.specs.Kept.{row, under}
-use Rattle.ntx_patterns.proofs.TrieLemmas.{chain_rows, lone_end, lone_below}
+use Rattle.ntx_patterns.proofs.TrieLemmas.{chain_rows, lone_end}
 use Rattle.ntx_patterns.proofs.trie.+chain.Goals as goal
 
 pub returns-in_ok-kept : goal.returns-in_ok-kept
