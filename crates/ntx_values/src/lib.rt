@@ -7,6 +7,7 @@
 //! It stands on `ntx_num` and `ntx_nodes`, and keeps texts and tables with `indexmap`.
 #![tactic(auto)]
 
+mod laws;
 mod primitive;
 mod store;
 mod table;
@@ -16,6 +17,7 @@ mod texts;
 mod value;
 mod why;
 
+pub use laws::{borders_are_least, same_values_are_equal, sets_are_read_back};
 pub use primitive::{LibFn, Primitive};
 pub use store::Store;
 pub use value::{FuncId, TableId, TextId, Value};

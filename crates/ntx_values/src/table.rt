@@ -1,12 +1,13 @@
 //! One table of a script.
 
-ghost use Rattle.std.specs.Prelude.{◌≡◌, ◌≢◌, ℕ, ◌+◌, ◌<◌, ◌≤◌, ◌^◌, [], length, drop, not};
+ghost use Rattle.std.specs.Prelude.{◌≡◌, ℕ, false, ◌+◌, ◌<◌, ◌≤◌, ◌^◌, [], length, drop, not};
 ghost use Rattle.ntx_num.specs.Answer.{Steps};
 ghost use Rattle.ntx_num.specs.Answer.{result_map};
 ghost use Rattle.indexmap.specs.IndexMap.{index_map_len};
 ghost use Rattle.ntx_values.specs.Value.{is_nil};
 ghost use Rattle.ntx_values.specs.Table.{value_at, written, item_at, border_of, first_held, next_of};
 ghost use Rattle.ntx_values.specs.inner.Border.{border_start};
+ghost use Rattle.ntx_values.specs.inner.Walk.{held_at};
 
 use crate::{BadKey, LuaWhy, Value};
 use indexmap::IndexMap;
@@ -88,25 +89,41 @@ impl Table {
     pub fn next(&self, key: Value) -> Result<Option<(Value, Value)>, BadKey>
         ensures { result ≡ next_of self.now key }
     {
+        let end = self.entries.len();
         if key.is_nil() {
-            return Ok(first_held(&self.entries, 0));
+            return Ok(first_held(&self.entries, 0, end));
         }
         match self.entries.get_index_of(&key) {
-            Some(place) => Ok(first_held(&self.entries, place + 1)),
+            Some(place) => Ok(first_held(&self.entries, place + 1, end)),
             None => Err(BadKey),
         }
     }
 }
 
-/// The first pair from a place on that holds a value other than nil.
-fn first_held(entries: &IndexMap<Value, Value>, from: usize) -> Option<(Value, Value)>
+/// The pair at a place, where it holds a value other than nil.
+fn held_at(entries: &IndexMap<Value, Value>, place: usize) -> Option<(Value, Value)>
+    ensures { result ≡ held_at entries.now.entries place }
+{
+    let (key, value) = entries.get_index(place)?;
+    if value.is_nil() {
+        None
+    } else {
+        Some((*key, *value))
+    }
+}
+
+/// The first pair from a place on that holds a value other than nil. `end` is how many pairs there are.
+fn first_held(
+    entries: &IndexMap<Value, Value>,
+    from: usize,
+    end: usize,
+) -> Option<(Value, Value)>
+    requires { end ≡ index_map_len entries.now }
     ensures { result ≡ first_held (drop from entries.now.entries) }
 {
-    for place in from..entries.len() {
-        if let Some((key, value)) = entries.get_index(place)
-            && !value.is_nil()
-        {
-            return Some((*key, *value));
+    for place in from..end {
+        if let Some(pair) = held_at(entries, place) {
+            return Some(pair);
         }
     }
     None
@@ -136,7 +153,7 @@ fn holds(entries: &IndexMap<Value, Value>, n: usize) -> bool
 /// The border, where every number from 1 to `start` is held.
 fn border_from(entries: &IndexMap<Value, Value>, start: usize) -> usize
     requires within { start ≤ index_map_len entries.now }
-    requires held { (k : ℕ) → k < start → item_at entries.now.entries (k + 1) ≢ Value.Nil }
+    requires held { (k : ℕ) → k < start → is_nil (item_at entries.now.entries (k + 1)) ≡ false }
     ensures { result ≡ border_of entries.now.entries }
 {
     let keys = entries.len();
