@@ -27,13 +27,13 @@ length-numbers (suc m) = ap suc (length-numbers m)
 
 other_number : (a b : ℕ) → b < a → is_same (Int (pos a)) (Int (pos b)) ≡ false
 other_number a b less = by (int_eq (pos a) (pos b)) refl
-    where
-      by : (r : Bool) → int_eq (pos a) (pos b) ≡ r → r ≡ false
-      by true e =
-          let same : a ≡ b = ap unsigned_abs ((Decides-int_eq (pos a) (pos b)).0 e) in
-          let none : ⊥ = omega arith in
-          absurd none
-      by false e = refl
+  where
+    by : (r : Bool) → int_eq (pos a) (pos b) ≡ r → r ≡ false
+    by true e =
+        let same : a ≡ b = ap unsigned_abs ((Decides-int_eq (pos a) (pos b)).0 e) in
+        let none : ⊥ = omega arith in
+        absurd none
+    by false e = refl
 
 above : (m n : ℕ) → m ≤ n → AllByRecursion (λ y. is_same (Int (pos (suc n))) y ≡ false) (numbers m)
 unfolding numbers
@@ -52,20 +52,20 @@ some_at : (es : Entries) (m : ℕ) → is_nil (item_at es (m + 1)) ≡ false →
 some_at es m h =
     let next : m + 1 ≡ suc m = omega arith in
     by (lookup (is_same (Int (pos (suc m)))) es) (subst (λ n. is_nil (item_at es n) ≡ false) next h)
-    where
-      by : (o : Option Value) → is_nil (unwrap_or o Nil) ≡ false → IsSome o
-      by None e = absurd (true≢false e)
-      by (Some v) e = tt
+  where
+    by : (o : Option Value) → is_nil (unwrap_or o Nil) ≡ false → IsSome o
+    by None e = absurd (true≢false e)
+    by (Some v) e = refl
 
 among : (es : Entries) (m : ℕ) (q : Value) → AreHeld es m → list_any (is_same q) (numbers m) ≡ true → IsSome (lookup (is_same q) es)
 unfolding numbers
 among es zero q held h = absurd (true≢false (sym h))
 among es (suc m) q held h = by (is_same q (Int (pos (suc m)))) refl h (among es m q (λ k less. held k (omega arith)))
-    where
-      by : (r : Bool) → is_same q (Int (pos (suc m))) ≡ r → (r || list_any (is_same q) (numbers m)) ≡ true → (list_any (is_same q) (numbers m) ≡ true → IsSome (lookup (is_same q) es))
-          → IsSome (lookup (is_same q) es)
-      by true e g rest = subst (λ x. IsSome (lookup (is_same x) es)) (sym (same_as_Int q (pos (suc m)) e)) (some_at es m (held m (omega arith)))
-      by false e g rest = rest g
+  where
+    by : (r : Bool) → is_same q (Int (pos (suc m))) ≡ r → (r || list_any (is_same q) (numbers m)) ≡ true → (list_any (is_same q) (numbers m) ≡ true → IsSome (lookup (is_same q) es))
+        → IsSome (lookup (is_same q) es)
+    by true e g rest = subst (λ x. IsSome (lookup (is_same x) es)) (sym (same_as_Int q (pos (suc m)) e)) (some_at es m (held m (omega arith)))
+    by false e g rest = rest g
 
 -- no more numbers are held than there are keys
 pub held-le : (es : Entries) (m : ℕ) → AreHeld es m → m ≤ length es
@@ -75,23 +75,23 @@ pub border_is : (es : Entries) → IsBorder es (border_of es)
 border_is es =
     record {
       held = λ k less. other_than_nil (item_at es (k + 1)) (border_from-held es (length es) 0 k (omega arith) less);
-      ended = Nil-is_nil (item_at es (border_of es + 1)) (last (border_from-ended es (length es) 0))
+      ended = Nil-is_nil (item_at es (border_of es + 1)) (last (border_from-ended es (length es) 0));
     }
-    where
-      more : border_of es ≡ 0 + length es → is_nil (item_at es (border_of es + 1)) ≡ false → (k : ℕ) → k < length es + 1 → is_nil (item_at es (k + 1)) ≡ false
-      more e none k less =
-          elim (cases_lt k (border_of es)) [
-            | inl below ↦ border_from-held es (length es) 0 k (omega arith) below
-            | inr at ↦ let same : border_of es ≡ k = omega arith in subst (λ n. is_nil (item_at es (n + 1)) ≡ false) same none
-          ]
+  where
+    more : border_of es ≡ 0 + length es → is_nil (item_at es (border_of es + 1)) ≡ false → (k : ℕ) → k < length es + 1 → is_nil (item_at es (k + 1)) ≡ false
+    more e none k less =
+        elim (cases_lt k (border_of es)) [
+          | inl below ↦ border_from-held es (length es) 0 k (omega arith) below
+          | inr at ↦ let same : border_of es ≡ k = omega arith in subst (λ n. is_nil (item_at es (n + 1)) ≡ false) same none
+        ]
 
-      full : border_of es ≡ 0 + length es → (r : Bool) → is_nil (item_at es (border_of es + 1)) ≡ r → r ≡ true
-      full e true h = refl
-      full e false h = let none : ⊥ = omega (arith, held-le es (length es + 1) (more e h)) in absurd none
+    full : border_of es ≡ 0 + length es → (r : Bool) → is_nil (item_at es (border_of es + 1)) ≡ r → r ≡ true
+    full e true h = refl
+    full e false h = let none : ⊥ = omega (arith, held-le es (length es + 1) (more e h)) in absurd none
 
-      last : (border_of es ≡ 0 + length es) ⊎ (is_nil (item_at es (border_of es + 1)) ≡ true) → is_nil (item_at es (border_of es + 1)) ≡ true
-      last (inl e) = full e (is_nil (item_at es (border_of es + 1))) refl
-      last (inr h) = h
+    last : (border_of es ≡ 0 + length es) ⊎ (is_nil (item_at es (border_of es + 1)) ≡ true) → is_nil (item_at es (border_of es + 1)) ≡ true
+    last (inl e) = full e (is_nil (item_at es (border_of es + 1))) refl
+    last (inr h) = h
 
 pub border_only : (es : Entries) (n : ℕ) → IsBorder es n → n ≡ border_of es
 border_only es n b =

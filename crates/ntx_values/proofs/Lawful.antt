@@ -30,7 +30,7 @@ table-grown old new g es h =
       once = h.once;
       keys = h.keys;
       few = h.few;
-      values = All-weaker (λ e. IsOf old e.0 × IsOf old e.1) (λ e. IsOf new e.0 × IsOf new e.1) (λ e of. (IsOf-grown old new g e.0 of.0, IsOf-grown old new g e.1 of.1)) es h.values
+      values = All-weaker (λ e. IsOf old e.0 × IsOf old e.1) (λ e. IsOf new e.0 × IsOf new e.1) (λ e of. (IsOf-grown old new g e.0 of.0, IsOf-grown old new g e.1 of.1)) es h.values;
     }
 
 pub tables-grown : (old new : StoreState) → Grows old new → (tables : List Entries) → All (IsLawfulTable old) tables → All (IsLawfulTable new) tables
@@ -54,7 +54,7 @@ text-lawful store bytes after place h lawful =
       short = texts.short;
       bytes = texts.bytes;
       few = lawful.few;
-      tables = tables-grown store (record store { texts = after }) (text-grows store bytes after place h) store.tables lawful.tables
+      tables = tables-grown store (record store { texts = after }) (text-grows store bytes after place h) store.tables lawful.tables;
     }
 
 pub table-grows : (store : StoreState) → Grows store (record store { tables = store.tables ++ [] ∷ [] })
@@ -68,7 +68,7 @@ table-lawful store lawful room =
       short = lawful.short;
       bytes = lawful.bytes;
       few = omega (arith, length-append store.tables ([] ∷ []), room);
-      tables = All-push (IsLawfulTable new) store.tables [] (tables-grown store new (table-grows store) store.tables lawful.tables) (no_entries new)
+      tables = All-push (IsLawfulTable new) store.tables [] (tables-grown store new (table-grows store) store.tables lawful.tables) (no_entries new);
     }
 
 pub function-grows : (store : StoreState) → Grows store (record store { functions = store.functions + 1 })
@@ -81,7 +81,7 @@ function-lawful store lawful =
       short = lawful.short;
       bytes = lawful.bytes;
       few = lawful.few;
-      tables = tables-grown store (record store { functions = store.functions + 1 }) (function-grows store) store.tables lawful.tables
+      tables = tables-grown store (record store { functions = store.functions + 1 }) (function-grows store) store.tables lawful.tables;
     }
 
 pub set-grows : (store : StoreState) (n : ℕ) (es : Entries) → Grows store (record store { tables = slice_set store.tables n es })
@@ -100,7 +100,7 @@ set-lawful store n after lawful table =
       short = lawful.short;
       bytes = lawful.bytes;
       few = omega (arith, length-set store.tables n after, lawful.few);
-      tables = All-set (IsLawfulTable new) store.tables n after (table-grown store new grown after table) (tables-grown store new grown store.tables lawful.tables)
+      tables = All-set (IsLawfulTable new) store.tables n after (table-grown store new grown after table) (tables-grown store new grown store.tables lawful.tables);
     }
 
 at_default : (tables : List Entries) (n : ℕ) (d e : Entries) → n < length tables → get_or tables n d ≡ get_or tables n e
@@ -158,7 +158,7 @@ stepped store t (Err NoMemory) before after key v at h = kept store t before aft
 -- what a lawful table holds is of the store
 pub value-of : (store : StoreState) (es : Entries) (key : Value) → IsLawfulTable store es → IsOf store (value_at es key)
 value-of store es key lawful = by (lookup (is_same key) es) (All-lookup (IsOf store) (is_same key) es (All-weaker (λ e. IsOf store e.0 × IsOf store e.1) (λ e. IsOf store e.1) (λ e of. of.1) es lawful.values))
-    where
-      by : (o : Option Value) → IfSome o (IsOf store) → IsOf store (unwrap_or o Nil)
-      by None h = tt
-      by (Some v) h = h
+  where
+    by : (o : Option Value) → IfSome o (IsOf store) → IsOf store (unwrap_or o Nil)
+    by None h = tt
+    by (Some v) h = h

@@ -30,18 +30,18 @@ pub record Added (bytes : List ℕ) (before after : List (List ℕ)) (place : �
 
 pub made_cases : (bytes : List ℕ) (before after : List (List ℕ)) (place : ℕ) → made bytes before ≡ Ok (place, after) → Found bytes before after place ⊎ Added bytes before after place
 made_cases bytes before after place h = by (place_of bytes before) refl h
-    where
-      fresh : Result (ℕ × List (List ℕ)) LuaWhy
-      fresh = cond (has_room_for bytes before) (Ok (length before, before ++ bytes ∷ [])) (Err TextsFull)
+  where
+    fresh : Result (ℕ × List (List ℕ)) LuaWhy
+    fresh = cond (has_room_for bytes before) (Ok (length before, before ++ bytes ∷ [])) (Err TextsFull)
 
-      by : (o : Option ℕ) → place_of bytes before ≡ o → option_map_or (λ i. Ok (i, before)) o fresh ≡ Ok (place, after) → Found bytes before after place ⊎ Added bytes before after place
-      by None e g =
-          let t = taken (has_room_for bytes before) TextsFull _ (place, after) g in
-          let p = same_Ok _ (place, after) t.1 in
-          inr (record { absent = e; room = t.0; last = ap (λ x. x.0) p; same = ap (λ x. x.1) p })
-      by (Some i) e g =
-          let p = same_Ok (i, before) (place, after) g in
-          inl (record { at = e ∙ ap Some (ap (λ x. x.0) p); same = ap (λ x. x.1) p })
+    by : (o : Option ℕ) → place_of bytes before ≡ o → option_map_or (λ i. Ok (i, before)) o fresh ≡ Ok (place, after) → Found bytes before after place ⊎ Added bytes before after place
+    by None e g =
+        let t = taken (has_room_for bytes before) TextsFull _ (place, after) g in
+        let p = same_Ok _ (place, after) t.1 in
+        inr (record { absent = e; room = t.0; last = ap (λ x. x.0) p; same = ap (λ x. x.1) p })
+    by (Some i) e g =
+        let p = same_Ok (i, before) (place, after) g in
+        inl (record { at = e ∙ ap Some (ap (λ x. x.0) p); same = ap (λ x. x.1) p })
 
 -- the bytes at its place
 pub made_bytes : (bytes : List ℕ) (before after : List (List ℕ)) (place : ℕ) → made bytes before ≡ Ok (place, after) → (place < length after) × (get_or after place [] ≡ bytes)
@@ -51,9 +51,10 @@ made_bytes bytes before after place h =
           let p = position-Some (pointwise nat_eq bytes) before place [] found.at in
           subst (λ texts. (place < length texts) × (get_or texts place [] ≡ bytes)) found.same (p.0, sym ((bytes_decides bytes (get_or before place [])).0 p.1))
       | inr added ↦
-          subst (λ texts. (place < length texts) × (get_or texts place [] ≡ bytes)) added.same
-          (omega (arith, length-append before (bytes ∷ []), added.last),
-            get_or-append_right before (bytes ∷ []) place place [] added.last (omega arith) ∙ ap (λ n. get_or (bytes ∷ []) n []) (let e : place - place ≡ 0 = omega arith in e))
+          subst (λ texts. (place < length texts) × (get_or texts place [] ≡ bytes)) added.same (
+            omega (arith, length-append before (bytes ∷ []), added.last),
+            get_or-append_right before (bytes ∷ []) place place [] added.last (omega arith) ∙ ap (λ n. get_or (bytes ∷ []) n []) (let e : place - place ≡ 0 = omega arith in e),
+          )
     ]
 
 -- the texts before keep their places and bytes
@@ -77,12 +78,12 @@ none_at bytes texts n h less e =
           let fails = fails_before_first (pointwise nat_eq bytes) texts n [] (omega arith) in
           true≢false (sym ((bytes_decides bytes (get_or texts n [])).1 (sym e)) ∙ fails)
     ]
-    where
-      lt_some : (a b : ℕ) → a < b → cond (nat_lt a b) (Some a) None ≡ Some a
-      lt_some a b less = grind arith
+  where
+    lt_some : (a b : ℕ) → a < b → cond (nat_lt a b) (Some a) None ≡ Some a
+    lt_some a b less = grind arith
 
-      none_some : (a : ℕ) → None ≡ Some a → ⊥
-      none_some a e = cc
+    none_some : (a : ℕ) → None ≡ Some a → ⊥
+    none_some a e = cc
 
 abbrev pub IsOnce : List (List ℕ) → Type 0
 IsOnce texts = (i j : ℕ) (bytes : List ℕ) → slice_get texts i ≡ Some bytes → slice_get texts j ≡ Some bytes → i ≡ j
@@ -106,13 +107,13 @@ pub once_pushed : (bytes : List ℕ) (texts : List (List ℕ)) → place_of byte
 once_pushed bytes texts absent once i j found at_i at_j =
     elim (at_pushed bytes texts i found at_i) [
       | inl a ↦ elim (at_pushed bytes texts j found at_j) [
-          | inl b ↦ once i j found a.1 b.1
-          | inr b ↦ absurd (none_at bytes texts i absent a.0 (a.2 ∙ b.1))
-        ]
+        | inl b ↦ once i j found a.1 b.1
+        | inr b ↦ absurd (none_at bytes texts i absent a.0 (a.2 ∙ b.1))
+      ]
       | inr a ↦ elim (at_pushed bytes texts j found at_j) [
-          | inl b ↦ absurd (none_at bytes texts j absent b.0 (b.2 ∙ a.1))
-          | inr b ↦ a.0 ∙ sym b.0
-        ]
+        | inl b ↦ absurd (none_at bytes texts j absent b.0 (b.2 ∙ a.1))
+        | inr b ↦ a.0 ∙ sym b.0
+      ]
     ]
 
 pub record AreLawful (texts : List (List ℕ)) : Type 0 where
@@ -133,7 +134,7 @@ made_lawful bytes before after place h lawful =
           (record {
             once = once_pushed bytes before added.absent lawful.once;
             short = All-push (λ text. length text ≤ max_text) before bytes lawful.short room.0;
-            bytes = omega (arith, sum_by-append length before (bytes ∷ []), room.1)
+            bytes = omega (arith, sum_by-append length before (bytes ∷ []), room.1);
           })
     ]
 
@@ -155,10 +156,10 @@ module _ {V : Type 0} (items : V → List ℕ) where
   none_any : (bytes : List ℕ) (keys : List V) → ((n : ℕ) → n < length (map items keys) → get_or (map items keys) n [] ≡ bytes → ⊥) → list_any (λ y. pointwise nat_eq bytes (items y)) keys ≡ false
   none_any bytes [] h = refl
   none_any bytes (x ∷ keys) h = by (pointwise nat_eq bytes (items x)) refl (none_any bytes keys (λ n less. h (suc n) (omega arith)))
-      where
-        by : (b : Bool) → pointwise nat_eq bytes (items x) ≡ b → list_any (λ y. pointwise nat_eq bytes (items y)) keys ≡ false → (b || list_any (λ y. pointwise nat_eq bytes (items y)) keys) ≡ false
-        by true e rest = absurd (h 0 (omega arith) (sym ((bytes_decides bytes (items x)).0 e)))
-        by false e rest = rest
+    where
+      by : (b : Bool) → pointwise nat_eq bytes (items x) ≡ b → list_any (λ y. pointwise nat_eq bytes (items y)) keys ≡ false → (b || list_any (λ y. pointwise nat_eq bytes (items y)) keys) ≡ false
+      by true e rest = absurd (h 0 (omega arith) (sym ((bytes_decides bytes (items x)).0 e)))
+      by false e rest = rest
 
   mapped_push : (keys : List V) (v : V) → map items (keys ++ v ∷ []) ≡ map items keys ++ items v ∷ []
   mapped_push [] v = refl

@@ -34,10 +34,10 @@ Nil-is_nil (Node n) h = absurd (true≢false (sym h))
 
 pub not_nil : (v : Value) → v ≢ Nil → is_nil v ≡ false
 not_nil v h = by (is_nil v) refl
-    where
-      by : (b : Bool) → is_nil v ≡ b → b ≡ false
-      by true e = absurd (h (Nil-is_nil v e))
-      by false e = refl
+  where
+    by : (b : Bool) → is_nil v ≡ b → b ≡ false
+    by true e = absurd (h (Nil-is_nil v e))
+    by false e = refl
 
 pub other_than_nil : (v : Value) → is_nil v ≡ false → v ≢ Nil
 other_than_nil v h e = true≢false (sym (ap is_nil e) ∙ h)

@@ -20,10 +20,10 @@ pub found_here : (es : Entries) (place : ℕ) (e : Value × Value) → held_at e
 found_here [] zero e h = cc
 found_here [] (suc place) e h = cc
 found_here (x ∷ es) zero e h = by (is_nil x.1) h
-    where
-      by : (b : Bool) → cond b None (Some x) ≡ Some e → cond b (first_held es) (Some x) ≡ Some e
-      by true g = cc
-      by false g = g
+  where
+    by : (b : Bool) → cond b None (Some x) ≡ Some e → cond b (first_held es) (Some x) ≡ Some e
+    by true g = cc
+    by false g = g
 found_here (x ∷ es) (suc place) e h = found_here es place e h
 
 -- it holds nothing
@@ -31,10 +31,10 @@ pub nothing_here : (es : Entries) (place : ℕ) → held_at es place ≡ None �
 nothing_here [] zero h = refl
 nothing_here [] (suc place) h = refl
 nothing_here (x ∷ es) zero h = by (is_nil x.1) h
-    where
-      by : (b : Bool) → cond b None (Some x) ≡ None → cond b (first_held es) (Some x) ≡ first_held es
-      by true g = refl
-      by false g = cc
+  where
+    by : (b : Bool) → cond b None (Some x) ≡ None → cond b (first_held es) (Some x) ≡ first_held es
+    by true g = refl
+    by false g = cc
 nothing_here (x ∷ es) (suc place) h = nothing_here es place h
 
 -- there is none
@@ -61,19 +61,19 @@ after_position es key place h =
 pub after_absent : (es : Entries) (key : Value) → has_key es key ≡ false → entries_after es key ≡ None
 after_absent [] key h = refl
 after_absent (e ∷ es) key h = by (is_same key e.0) h (after_absent es key)
-    where
-      by : (b : Bool) → is_some (cond b (Some e.1) (lookup (is_same key) es)) ≡ false → (has_key es key ≡ false → entries_after es key ≡ None) → cond b (Some es) (entries_after es key) ≡ None
-      by true g rest = absurd (true≢false g)
-      by false g rest = rest g
+  where
+    by : (b : Bool) → is_some (cond b (Some e.1) (lookup (is_same key) es)) ≡ false → (has_key es key ≡ false → entries_after es key ≡ None) → cond b (Some es) (entries_after es key) ≡ None
+    by true g rest = absurd (true≢false g)
+    by false g rest = rest g
 
 -- what is true of each pair is true of the one that is found
 pub found_All : (P : Value × Value → Type 0) (es : Entries) → All P es → IfSome (first_held es) P
 found_All P [] h = tt
 found_All P (e ∷ es) h = by (is_nil e.1) (found_All P es (All-tail P e es h))
-    where
-      by : (b : Bool) → IfSome (first_held es) P → IfSome (cond b (first_held es) (Some e)) P
-      by true rest = rest
-      by false rest = All-head P e es h
+  where
+    by : (b : Bool) → IfSome (first_held es) P → IfSome (cond b (first_held es) (Some e)) P
+    by true rest = rest
+    by false rest = All-head P e es h
 
 -- what a walk from a key that is there gives
 pub next_found : (es now : Entries) (key : Value) (place : ℕ) (found : Option (Value × Value)) → es ≡ now → is_nil key ≡ false → position (is_same key) (keys_of es) ≡ Some place
@@ -81,37 +81,37 @@ pub next_found : (es now : Entries) (key : Value) (place : ℕ) (found : Option 
 next_found es now key place found e nil at is =
     ap Ok is ∙ sym (ap (λ o. ok_or (option_map first_held o) bad) (after_position es key place at))
     ∙ sym (ap (λ b. cond b (Ok (first_held es)) (ok_or (option_map first_held (entries_after es key)) bad)) nil) ∙ ap (λ l. next_of l key) e
-    where
-      bad : BadKey
-      bad = record {}
+  where
+    bad : BadKey
+    bad = record {}
 
 pub next_missing : (es now : Entries) (key : Value) → es ≡ now → is_nil key ≡ false → has_key es key ≡ false → Err (record {}) ≡ next_of now key
 next_missing es now key e nil absent =
     sym (ap (λ o. ok_or (option_map first_held o) bad) (after_absent es key absent))
     ∙ sym (ap (λ b. cond b (Ok (first_held es)) (ok_or (option_map first_held (entries_after es key)) bad)) nil) ∙ ap (λ l. next_of l key) e
-    where
-      bad : BadKey
-      bad = record {}
+  where
+    bad : BadKey
+    bad = record {}
 
 after_All : (P : Value × Value → Type 0) (es : Entries) (key : Value) → All P es → IfSome (entries_after es key) (All P)
 after_All P [] key h = tt
 after_All P (e ∷ es) key h = by (is_same key e.0) (after_All P es key (All-tail P e es h))
-    where
-      by : (b : Bool) → IfSome (entries_after es key) (All P) → IfSome (cond b (Some es) (entries_after es key)) (All P)
-      by true rest = All-tail P e es h
-      by false rest = rest
+  where
+    by : (b : Bool) → IfSome (entries_after es key) (All P) → IfSome (cond b (Some es) (entries_after es key)) (All P)
+    by true rest = All-tail P e es h
+    by false rest = rest
 
 -- what is true of each pair is true of the one that a walk finds
 pub next_All : (P : Value × Value → Type 0) (es : Entries) (key : Value) → All P es → IfOk (next_of es key) (λ found. IfSome found P)
 next_All P es key h = by (is_nil key)
-    where
-      walked : Option Entries → Result (Option (Value × Value)) BadKey
-      walked o = ok_or (option_map first_held o) (record {})
+  where
+    walked : Option Entries → Result (Option (Value × Value)) BadKey
+    walked o = ok_or (option_map first_held o) (record {})
 
-      after : (o : Option Entries) → IfSome o (All P) → IfOk (walked o) (λ found. IfSome found P)
-      after None g = tt
-      after (Some rest) g = found_All P rest g
+    after : (o : Option Entries) → IfSome o (All P) → IfOk (walked o) (λ found. IfSome found P)
+    after None g = tt
+    after (Some rest) g = found_All P rest g
 
-      by : (b : Bool) → IfOk (cond b (Ok (first_held es)) (walked (entries_after es key))) (λ found. IfSome found P)
-      by true = found_All P es h
-      by false = after (entries_after es key) (after_All P es key h)
+    by : (b : Bool) → IfOk (cond b (Ok (first_held es)) (walked (entries_after es key))) (λ found. IfSome found P)
+    by true = found_All P es h
+    by false = after (entries_after es key) (after_All P es key h)

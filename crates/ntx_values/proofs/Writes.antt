@@ -32,23 +32,23 @@ pub written_cases : (before after : Entries) (key v : Value) → written before 
 written_cases before after key v h =
     let a = not_taken (is_nil key) NilKey _ after h in
     by (has_key before key) refl a.0 a.1
-    where
-      put_in : Result Entries LuaWhy
-      put_in = Ok (insert_entry is_same before key v)
+  where
+    put_in : Result Entries LuaWhy
+    put_in = Ok (insert_entry is_same before key v)
 
-      room : (b : Bool) → nat_le max_keys (length before) ≡ b → has_key before key ≡ false → is_nil key ≡ false → cond b (Err TablesFull) put_in ≡ Ok after → PutIn before after key v
-      room true e absent k g = cc
-      room false e absent k g = record { key_is = k; room = inr (absent, e); same = same_Ok _ after g }
+    room : (b : Bool) → nat_le max_keys (length before) ≡ b → has_key before key ≡ false → is_nil key ≡ false → cond b (Err TablesFull) put_in ≡ Ok after → PutIn before after key v
+    room true e absent k g = cc
+    room false e absent k g = record { key_is = k; room = inr (absent, e); same = same_Ok _ after g }
 
-      value : (b : Bool) → is_nil v ≡ b → has_key before key ≡ false → is_nil key ≡ false → cond b (Ok before) (cond (nat_le max_keys (length before)) (Err TablesFull) put_in) ≡ Ok after
-          → Unchanged before after key v ⊎ PutIn before after key v
-      value true e absent k g = inl (record { absent = absent; nil = e; same = same_Ok before after g })
-      value false e absent k g = inr (room (nat_le max_keys (length before)) refl absent k g)
+    value : (b : Bool) → is_nil v ≡ b → has_key before key ≡ false → is_nil key ≡ false → cond b (Ok before) (cond (nat_le max_keys (length before)) (Err TablesFull) put_in) ≡ Ok after
+        → Unchanged before after key v ⊎ PutIn before after key v
+    value true e absent k g = inl (record { absent = absent; nil = e; same = same_Ok before after g })
+    value false e absent k g = inr (room (nat_le max_keys (length before)) refl absent k g)
 
-      by : (b : Bool) → has_key before key ≡ b → is_nil key ≡ false → cond b put_in (cond (is_nil v) (Ok before) (cond (nat_le max_keys (length before)) (Err TablesFull) put_in)) ≡ Ok after
-          → Unchanged before after key v ⊎ PutIn before after key v
-      by true e k g = inr (record { key_is = k; room = inl e; same = same_Ok _ after g })
-      by false e k g = value (is_nil v) refl e k g
+    by : (b : Bool) → has_key before key ≡ b → is_nil key ≡ false → cond b put_in (cond (is_nil v) (Ok before) (cond (nat_le max_keys (length before)) (Err TablesFull) put_in)) ≡ Ok after
+        → Unchanged before after key v ⊎ PutIn before after key v
+    by true e k g = inr (record { key_is = k; room = inl e; same = same_Ok _ after g })
+    by false e k g = value (is_nil v) refl e k g
 
 -- the value is read back at the key
 pub value_at-inserted : (es : Entries) (key v : Value) → (is_same key key ≡ true) → value_at (insert_entry is_same es key v) key ≡ v
@@ -59,10 +59,10 @@ value_at-others es key v other h = ap (λ o. unwrap_or o Nil) (lookup-inserted e
 
 pub value_at-absent : (es : Entries) (key : Value) → has_key es key ≡ false → value_at es key ≡ Nil
 value_at-absent es key h = by (lookup (is_same key) es) h
-    where
-      by : (o : Option Value) → is_some o ≡ false → unwrap_or o Nil ≡ Nil
-      by None e = refl
-      by (Some v) e = absurd (true≢false e)
+  where
+    by : (o : Option Value) → is_some o ≡ false → unwrap_or o Nil ≡ Nil
+    by None e = refl
+    by (Some v) e = absurd (true≢false e)
 
 pub lawful-inserted : (store : StoreState) (es : Entries) (key v : Value) → IsLawfulTable store es → is_nil key ≡ false → IsOf store key → IsOf store v
     → (has_key es key ≡ true) ⊎ ((has_key es key ≡ false) × (nat_le max_keys (length es) ≡ false)) → IsLawfulTable store (insert_entry is_same es key v)
@@ -71,12 +71,12 @@ lawful-inserted store es key v lawful k of_key of_v room =
       once = distinct-inserted es key v lawful.once;
       keys = All-inserted (λ e. is_nil e.0 ≡ false) es key v (λ e h. h) k lawful.keys;
       few = few room;
-      values = All-inserted (λ e. IsOf store e.0 × IsOf store e.1) es key v (λ e h. (h.0, of_v)) (of_key, of_v) lawful.values
+      values = All-inserted (λ e. IsOf store e.0 × IsOf store e.1) es key v (λ e h. (h.0, of_v)) (of_key, of_v) lawful.values;
     }
-    where
-      few : (has_key es key ≡ true) ⊎ ((has_key es key ≡ false) × (nat_le max_keys (length es) ≡ false)) → length (insert_entry is_same es key v) ≤ max_keys
-      few (inl there) = omega (arith, length-present es key v there, lawful.few)
-      few (inr new) = let more = new.1 in grind (arith, length-absent es key v new.0, lawful.few, more)
+  where
+    few : (has_key es key ≡ true) ⊎ ((has_key es key ≡ false) × (nat_le max_keys (length es) ≡ false)) → length (insert_entry is_same es key v) ≤ max_keys
+    few (inl there) = omega (arith, length-present es key v there, lawful.few)
+    few (inr new) = let more = new.1 in grind (arith, length-absent es key v new.0, lawful.few, more)
 
 pub lawful-written : (store : StoreState) (before after : Entries) (key v : Value) → IsLawfulTable store before → IsOf store key → IsOf store v → written before key v ≡ Ok after
     → IsLawfulTable store after

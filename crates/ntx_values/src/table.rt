@@ -113,11 +113,7 @@ fn held_at(entries: &IndexMap<Value, Value>, place: usize) -> Option<(Value, Val
 }
 
 /// The first pair from a place on that holds a value other than nil. `end` is how many pairs there are.
-fn first_held(
-    entries: &IndexMap<Value, Value>,
-    from: usize,
-    end: usize,
-) -> Option<(Value, Value)>
+fn first_held(entries: &IndexMap<Value, Value>, from: usize, end: usize) -> Option<(Value, Value)>
     requires { end ≡ index_map_len entries.now }
     ensures { result ≡ first_held (drop from entries.now.entries) }
 {

@@ -10,6 +10,7 @@ use std::test;
 
 /// Keys that are texts. A table takes them as they are.
 const A: Value = Value::Text(TextId { number: 0 });
+
 const B: Value = Value::Text(TextId { number: 1 });
 
 #[test]

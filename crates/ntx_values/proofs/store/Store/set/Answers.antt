@@ -14,7 +14,7 @@ invariant_of-self c =
     let table = subst (IsLawfulTable store) (sym at) (table_lawful store c.args.t c.self.invariant of) in
     set-lawful store c.args.t.number c.set.new.self c.self.invariant
     (stepped-lawful store c.set.result c.index_mut-table.result.now c.set.new.self c.args.key c.args.v table
-      (subst (λ s. IsOf s c.args.key) (sym c.self.view_is) c.requires.key) (subst (λ s. IsOf s c.args.v) (sym c.self.view_is) c.requires.value) c.set.ensures)
+    (subst (λ s. IsOf s c.args.key) (sym c.self.view_is) c.requires.key) (subst (λ s. IsOf s c.args.v) (sym c.self.view_is) c.requires.value) c.set.ensures)
 
 pub returns-clause-step : goal.returns-clause-step
 returns-clause-step c =
