@@ -1,0 +1,13 @@
+pub mod Same
+pub mod Equal
+pub mod Borders
+pub mod BorderLaws
+pub mod Inserts
+pub mod Writes
+pub mod ReadBack
+pub mod Sets
+pub mod Walks
+pub mod Positions
+pub mod Makings
+pub mod Growth
+pub mod Lawful
