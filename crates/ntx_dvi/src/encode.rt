@@ -4,7 +4,9 @@ ghost use Rattle.std.specs.Prelude.{◌≡◌, ◌≤◌, ◌++◌, OnOk};
 ghost use Rattle.ntx_dvi.specs.Bytes.{units, preamble, page_start_bytes, rule_bytes, definition_bytes, filler_count};
 ghost use Rattle.ntx_dvi.specs.Fonts.{IsDefinable};
 
-use crate::opcode::{BOP, COMMENT, DENOMINATOR, FONT_DEFINITION, FORMAT, MAGNIFICATION, NUMERATOR, PRE, SET_RULE};
+use crate::opcode::{
+    BOP, COMMENT, DENOMINATOR, FONT_DEFINITION, FORMAT, MAGNIFICATION, NUMERATOR, PRE, SET_RULE,
+};
 use byteorder::{BigEndian, ByteOrder};
 use ntx_num::NoMemory;
 use ntx_tfm::FontDef;

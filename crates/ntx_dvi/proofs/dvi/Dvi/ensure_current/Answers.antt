@@ -4,4 +4,5 @@ use Rattle.ntx_dvi.proofs.FontsLemmas.{current_writes_none}
 use Rattle.ntx_dvi.proofs.dvi.Dvi.ensure_current.Goals as goal
 
 pub returns-then-is_current-clause-writes : goal.returns-then-is_current-clause-writes
-returns-then-is_current-clause-writes c = current_writes_none _ _ _ _ (search rules)
+returns-then-is_current-clause-writes c =
+    current_writes_none tt c.args.self.now c.args.self.now.progress.font c.args.font (search rules)
