@@ -1,33 +1,21 @@
 -- The fonts of a file: what a definition leaves, and that each operation of a character finds what it needs.
-use Rattle.std.proofs.Common.{◌≡◌, ℕ, suc, ◌+◌, ◌<◌, ◌≤◌, Bool, true, false, List, [], ◌∷◌, ◌++◌, length, drop, set, get_or, replicate, Option, Some, None, Result, Ok, refl, sym, ap, ◌∙◌, subst, arith, append_assoc}
+use Rattle.std.proofs.Common.{◌≡◌, ℕ, ◌+◌, ◌<◌, ◌≤◌, Bool, true, false, List, [], ◌∷◌, ◌++◌, length, drop, set, replicate, Option, Some, None, Result, Ok, refl, sym, ap, ◌∙◌, subst, arith}
 use Rattle.std.specs.Prelude.{All, IsSome, is_some, IfSome, MatchOption, slice_set, if◌then◌else◌}
-use Rattle.std.proofs.lemmas.List.{set-get_or, get_or-set_same, length-replicate}
+use Rattle.std.proofs.lemmas.List.{get_or-set_same, length-replicate}
 use Rattle.std.proofs.lemmas.List.Elements.{All-replicate}
 use Rattle.std.proofs.lemmas.Bool.{eqb-true}
-use Rattle.std.proofs.Math.Seq.{drop-cons}
 use Rattle.std.proofs.Math.ListN.{drop_of_length-le}
 use Rattle.ntx_tfm.specs.declared.def.FontDef.{FontDef}
 use Rattle.ntx_num.specs.declared.answer.Fail.{Fail}
 use Rattle.ntx_dvi.specs.declared.full.DviFull.{DviFull}
-use Rattle.ntx_dvi.specs.Operation.{Operation, DefineFont, ChooseFont, SetCharacter}
+use Rattle.ntx_dvi.specs.Operation.{DefineFont, ChooseFont, SetCharacter}
 use Rattle.ntx_dvi.specs.Progress.{Progress}
-use Rattle.ntx_dvi.specs.Bytes.{definition_if, definitions}
+use Rattle.ntx_dvi.specs.Bytes.{definitions}
 use Rattle.ntx_dvi.specs.File.{after}
 use Rattle.ntx_dvi.specs.Writer.{Writer}
 use Rattle.ntx_dvi.specs.Written.{Writes}
 use Rattle.ntx_dvi.proofs.Writing.{writes_nothing}
 use Rattle.ntx_dvi.specs.Fonts.{IsDefinable, MayBe, AreReady, definition_in, is_current, defining, choosing, glyph_operations}
-
--- ---- definitions
-
--- Where the font is defined it is this one, and to define it again changes nothing.
-known_is : (found : Option FontDef) (def : FontDef) → IfSome found (λ known. known ≡ def) → is_some found ≡ true → found ≡ Some def
-known_is None def same some = cc
-known_is (Some known) def same some = ap Some same
-
-pub defined_again : (fonts : List (Option FontDef)) (number : ℕ) (def : FontDef) → MayBe fonts number def → is_some (definition_in fonts number) ≡ true → slice_set fonts number (Some def) ≡ fonts
-defined_again fonts number def same some =
-    ap (λ d. set fonts number d) (sym (known_is (definition_in fonts number) def same some)) ∙ set-get_or fonts number None
 
 -- ---- what a reader relies on
 
@@ -104,21 +92,3 @@ numbers_fit seen w number same full most =
 pub definitions-none : (fonts : List (Option FontDef)) (number : ℕ) → length fonts ≤ number → definitions number (drop number fonts) ≡ []
 definitions-none fonts number past =
     ap (λ (rest : List (Option FontDef)). definitions number rest) (drop_of_length-le fonts past)
-
--- the definitions from a place on: those from the next place on, and the one there
-pub definitions-drop : (fonts : List (Option FontDef)) (number : ℕ) (d : Option FontDef) → number < length fonts → definitions number (drop number fonts) ≡ definitions (number + 1) (drop (number + 1) fonts) ++ definition_if number (get_or fonts number d)
-definitions-drop fonts number d within =
-    let next : suc number ≡ number + 1 = omega arith in
-    ap (λ (rest : List (Option FontDef)). definitions number rest) (drop-cons fonts number d within)
-    ∙ ap (λ (n : ℕ). definitions (number + 1) (drop n fonts) ++ definition_if number (get_or fonts number d)) next
-
--- A font's definition goes behind those of the fonts after it.
-pub definitions-more : (before now new : List ℕ) (fonts : List (Option FontDef)) (number next : ℕ) (font : Option FontDef) → number < length fonts → next ≡ number + 1 → now ≡ before ++ definitions next (drop next fonts) → font ≡ get_or fonts number font → new ≡ now ++ definition_if number font → new ≡ before ++ definitions number (drop number fonts)
-definitions-more before now new fonts number next font within follows so_far is added =
-    let here = definitions-drop fonts number font within in
-    added ∙ ap (λ (b : List ℕ). b ++ definition_if number font) so_far
-    ∙ append_assoc before (definitions next (drop next fonts)) (definition_if number font)
-    ∙ ap (λ (b : List ℕ). before ++ b)
-    (ap (λ (n : ℕ). definitions n (drop n fonts) ++ definition_if number font) follows
-    ∙ ap (λ (f : Option FontDef). definitions (number + 1) (drop (number + 1) fonts) ++ definition_if number f) is
-    ∙ sym here)
