@@ -1,1 +1,5 @@
+pub mod Hyphens
+pub mod Making
+pub mod SoundGaps
 pub mod Traces
+pub mod Words

@@ -1,6 +1,6 @@
 //! Reading a list for its words, and these for the gaps in which there is a point.
 
-ghost use Rattle.std.specs.Prelude.{◌≡◌, ◌++◌, [], ◌∷◌, List, Option, map, OnOk, IfOk};
+ghost use Rattle.std.specs.Prelude.{◌≡◌, ℕ, ◌++◌, [], ◌∷◌, List, Option, map, OnOk};
 ghost use Rattle.ntx_num.specs.Answer.{Gives, result_map};
 ghost use Rattle.ntx_patterns.specs.Points.{points_in};
 ghost use Rattle.ntx_hyph.specs.declared.letter.Letter.{Letter};
@@ -56,9 +56,12 @@ fn gap_in(word: &[Letter], i: u64) -> Option<Gap>
 fn goes_on(word: &[Letter], next: Option<Letter>) -> bool
     ensures { result ≡ word_goes_on word.now (next ∷ []) }
 {
-    match (word.last(), next) {
-        (Some(last), Some(next)) => last.font == next.font,
-        _ => false,
+    let Some(next) = next else {
+        return false;
+    };
+    match word.last() {
+        Some(last) => last.font == next.font,
+        None => false,
     }
 }
 
