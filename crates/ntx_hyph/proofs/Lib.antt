@@ -1,3 +1,5 @@
+pub mod Endings
+pub mod FlatWalks
 pub mod Hyphens
 pub mod Making
 pub mod SoundGaps

@@ -117,7 +117,7 @@ get_other m n q x h = map.get-insert nat_cmp_total m n x q ∙ ap (λ b. cond b 
 pub record CanLink (old mid : Heap) (n k : ℕ) (f : Field) (fields : Fields) : Type 0 where
   pub ok : IsOk (set_step n f (Link (Some k)) mid)
   pub live : (new : Heap) → set_step n f (Link (Some k)) mid ≡ Ok (tt, new) → StayLive old new
-  pub fields : (new : Heap) → set_step n f (Link (Some k)) mid ≡ Ok (tt, new) → HasFields new k fields
+  pub made : (new : Heap) → set_step n f (Link (Some k)) mid ≡ Ok (tt, new) → HasFields new k fields
 
 pub can_link : (old mid : Heap) (fields : Fields) (from n k : ℕ) (f : Field) → IsLawful old → is_live old from ≡ true → HasLink old n f → make_like_step fields from old ≡ Ok (k, mid) → CanLink old mid n k f fields
 can_link old mid fields from n k f lawful alive has s =
@@ -133,7 +133,7 @@ can_link old mid fields from n k f lawful alive has s =
     record {
       ok = subst IsOk (sym written) refl;
       live = λ new e. subst (StayLive old) (is new e) (λ q h. live_put mid n (record has.node { fields = takes.0 }) q (m.live q h));
-      fields = λ new e. subst (λ h. HasFields h k fields) (is new e) (record { node = node; at = get_other mid.nodes n k (record has.node { fields = takes.0 }) (apart n k below) ∙ m.at; is = refl });
+      made = λ new e. subst (λ h. HasFields h k fields) (is new e) (record { node = node; at = get_other mid.nodes n k (record has.node { fields = takes.0 }) (apart n k below) ∙ m.at; is = refl });
     }
 
 -- ---- the links of a gap

@@ -1,9 +1,9 @@
 -- Words as they are read, letter by letter, and what is true of the gaps that are found.
-use Rattle.std.proofs.Common.{◌≡◌, ℕ, zero, suc, ◌+◌, ◌-◌, ◌<◌, ◌≤◌, List, [], ◌∷◌, ◌++◌, length, map, slice_get, Bool, true, false, cond, Some, None, inl, inr, refl, sym, ◌∙◌, ap, subst, append_assoc, arith}
+use Rattle.std.proofs.Common.{◌≡◌, ℕ, zero, suc, ◌+◌, ◌-◌, ◌<◌, ◌≤◌, List, [], ◌∷◌, ◌++◌, length, map, take, get_or, slice_get, Bool, true, false, cond, Some, None, inl, inr, refl, sym, ◌∙◌, ap, subst, append_assoc, arith}
 use Rattle.std.specs.Prelude.{◌⊎◌, Option, All, nat_eq}
 use Rattle.std.specs.List.{flat_map, filter_map, cons_option}
 use Rattle.std.specs.Option.{option_map, option_and_then}
-use Rattle.std.proofs.lemmas.List.{map-append, append-nil}
+use Rattle.std.proofs.lemmas.List.{map-append, append-nil, take_more}
 use Rattle.std.proofs.lemmas.List.Elements.{filter_map-append}
 use Rattle.ntx_num.proofs.Answers.{same_Some}
 use Rattle.ntx_hyph.specs.Words.{goes_on, in_front, words_of, gap_in, gaps_in_word, gaps_in}
@@ -56,6 +56,11 @@ decided [] next rest = refl
 decided (a ∷ []) next rest = next_decides a next rest
 decided (a ∷ b ∷ word) next rest = decided (b ∷ word) next rest
 
+-- nor into what is no letter
+pub no_letter : (word : List Letter) (next : Option Letter) → ((a : Letter) → next ≡ Some a → ⊥) → false ≡ word_goes_on word (next ∷ [])
+no_letter word None h = sym (stops_at_none word [])
+no_letter word (Some a) h = absurd (h a refl)
+
 -- ---- the end of a word
 ended : (a : Letter) (word : List Letter) (rest : List (Option Letter)) → AreOfOneFont (a ∷ word) → word_goes_on (a ∷ word) rest ≡ false → words_of (map Some (a ∷ word) ++ rest) ≡ (a ∷ word) ∷ words_of rest
 ended a [] rest h e = ap (λ b. cond b (in_front a (words_of rest)) ((a ∷ []) ∷ words_of rest)) e
@@ -97,6 +102,11 @@ pub nothing_put : (points : List ℕ → List ℕ) (gaps : List Gap) (word : Lis
 nothing_put points gaps word rest (inl none) = subst (λ (x : List Letter). gaps_with points gaps x rest ≡ gaps_with points gaps x (None ∷ rest)) (sym none) refl
 nothing_put points gaps word rest (inr goes) = let no = stops_at_none word [] in cc
 
+pub no_letter_put : (points : List ℕ → List ℕ) (gaps : List Gap) (word : List Letter) (next : Option Letter) (rest : List (Option Letter)) → ((a : Letter) → next ≡ Some a → ⊥) → IsReadyFor word next
+    → gaps_with points gaps word rest ≡ gaps_with points gaps word (next ∷ rest)
+no_letter_put points gaps word None rest h ready = nothing_put points gaps word rest ready
+no_letter_put points gaps word (Some a) rest h ready = absurd (h a refl)
+
 -- all nodes are read, and the last word has ended
 pub all_read : (points : List ℕ → List ℕ) (gaps new_gaps all : List Gap) (word : List Letter) (left : List (Option Letter)) → AreOfOneFont word → left ≡ [] → gaps_with points gaps word left ≡ all → new_gaps ≡ gaps ++ gaps_in_word points word → new_gaps ≡ all
 all_read points gaps new_gaps all word left h none e n =
@@ -105,8 +115,9 @@ all_read points gaps new_gaps all word left h none e n =
 
 -- ---- points
 -- one point more, with a gap or without
-pub point_taken : (word : List Letter) (gaps old : List Gap) (is taken : List ℕ) (i : ℕ) (o : Option Gap) → taken ≡ is ++ i ∷ [] → o ≡ gap_in word i → gaps ≡ old ++ filter_map (gap_in word) is
-    → gaps ++ cons_option o [] ≡ old ++ filter_map (gap_in word) taken
-point_taken word gaps old is taken i o t e g =
-    ap (λ x. gaps ++ cons_option x []) e ∙ ap (λ x. x ++ filter_map (gap_in word) (i ∷ [])) g ∙ append_assoc old (filter_map (gap_in word) is) (filter_map (gap_in word) (i ∷ []))
-    ∙ ap (λ x. old ++ x) (sym (filter_map-append (gap_in word) is (i ∷ [])) ∙ ap (filter_map (gap_in word)) (sym t))
+pub point_read : (word now_word : List Letter) (old now new : List Gap) (is : List ℕ) (k d : ℕ) → k < length is → now_word ≡ word → now ≡ old ++ filter_map (gap_in word) (take k is)
+    → new ≡ now ++ cons_option (gap_in now_word (get_or is k d)) [] → new ≡ old ++ filter_map (gap_in word) (take (k + 1) is)
+point_read word now_word old now new is k d lt same read e =
+    e ∙ ap (λ w. now ++ filter_map (gap_in w) (get_or is k d ∷ [])) same ∙ ap (λ x. x ++ filter_map (gap_in word) (get_or is k d ∷ [])) read
+    ∙ append_assoc old (filter_map (gap_in word) (take k is)) (filter_map (gap_in word) (get_or is k d ∷ []))
+    ∙ ap (λ x. old ++ x) (sym (filter_map-append (gap_in word) (take k is) (get_or is k d ∷ [])) ∙ ap (filter_map (gap_in word)) (sym (take_more is k d lt)))

@@ -80,7 +80,12 @@ hyphenated_list points s (Ok names) heap = hyphens (hyphen_char s.hyphenchar) (g
 abbrev pub hyphenation : Points → Settings → ℕ → Heap → Trace Heap (Unit {0}) Trouble
 hyphenation points s head heap = hyphenated_list points s (list_names heap head) heap
 
--- A refusal is that of the walk that checks the list, or of a making.
-abbrev pub RefusesAs : Heap → ℕ → {A : Type 0} → Result A (Fail Trouble) → Type 0
-RefusesAs heap head (Err (Is why)) = (checked_walk heap (Some head) H ≡ Err why) ⊎ (why ≡ NodesFull) ⊎ (why ≡ NamesOut)
+-- ---- refusals
+-- a making is refused
+abbrev pub IsOfMaking : Trouble → Type 0
+IsOfMaking why = (why ≡ NodesFull) ⊎ (why ≡ NamesOut)
+
+-- the walk that checks the list stops, or a making is refused
+abbrev pub RefusesAs : {A : Type 0} → Heap → ℕ → Result A (Fail Trouble) → Type 0
+RefusesAs heap head (Err (Is why)) = (checked_walk heap (Some head) H ≡ Err why) ⊎ IsOfMaking why
 RefusesAs heap head _ = Unit {0}

@@ -2,6 +2,7 @@
 
 ghost use Rattle.std.specs.Prelude.{◌≡◌, List};
 ghost use Rattle.ntx_num.specs.Answer.{Answers, Traces, result_map};
+ghost use Rattle.ntx_patterns.specs.Kept.{table};
 ghost use Rattle.ntx_patterns.specs.Points.{points_in};
 ghost use Rattle.ntx_hyph.specs.Trace.{states};
 ghost use Rattle.ntx_hyph.specs.Hyphenation.{list_names, hyphen_char, hyphenation, RefusesAs};
@@ -58,10 +59,11 @@ pub fn hyphenate<N: Nodes>(
     params: &Params,
     head: u64,
 ) -> Result<(), Fail<Trouble>>
-    ensures traced { let pass = hyphenation (points_in p.now) params.now head (N.heap nodes.old) in Traces result (N.heap nodes.new) (states pass) pass.ending }
+    ensures traced { let pass = hyphenation (points_in (table p.now)) params.now head (N.heap nodes.old) in Traces result (N.heap nodes.new) (states pass) pass.ending }
     ensures refused { RefusesAs (N.heap nodes.old) head result }
 {
     let names = list_names(alloc, nodes, head)?;
+    nodes.lawful();
     match hyphen_char(params) {
         None => Ok(()),
         Some(char) => {

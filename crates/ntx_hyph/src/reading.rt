@@ -1,7 +1,9 @@
 //! Reading a list for its words, and these for the gaps in which there is a point.
 
 ghost use Rattle.std.specs.Prelude.{◌≡◌, ℕ, ◌++◌, [], ◌∷◌, List, Option, map, OnOk};
+ghost use Rattle.std.specs.List.{cons_option};
 ghost use Rattle.ntx_num.specs.Answer.{Gives, result_map};
+ghost use Rattle.ntx_patterns.specs.Kept.{table};
 ghost use Rattle.ntx_patterns.specs.Points.{points_in};
 ghost use Rattle.ntx_hyph.specs.declared.letter.Letter.{Letter};
 ghost use Rattle.ntx_hyph.specs.Words.{letter_at, gap_in, codes_of, gaps_in_word, gaps_in};
@@ -31,7 +33,7 @@ fn points_of(
     params: &Params,
     word: &[Letter],
 ) -> Result<Vec<u64>, NoMemory>
-    ensures { Gives (result_map (λ points. points.items) result) (points_with (points_in p.now) params.now (codes_of word.now)) }
+    ensures { Gives (result_map (λ points. points.items) result) (points_with (points_in (table p.now)) params.now (codes_of word.now)) }
 {
     let codes: Vec<u8> = word.iter().map(|letter| letter.code).collect(alloc)?;
     let left = params.get(Param::Lefthyphenmin).unsigned_abs();
@@ -77,15 +79,27 @@ impl Reading {
         }
     }
 
+    /// Takes the gap after the first `i` letters of the word, if there is one.
+    fn take_point(&mut self, i: u64) -> Result<(), NoMemory>
+        ensures word { OnOk result (self.new.word.items ≡ self.old.word.items) }
+        ensures gaps { OnOk result (self.new.gaps.items ≡ self.old.gaps.items ++ cons_option (gap_in self.old.word.items i) []) }
+    {
+        match gap_in(&self.word, i) {
+            None => Ok(()),
+            Some(gap) => {
+                self.gaps.push(gap)?;
+                Ok(())
+            }
+        }
+    }
+
     /// Takes the gaps of the word that has begun. The next one has no letters yet.
     fn end_word(&mut self, alloc: Global, p: &Patterns, params: &Params) -> Result<(), NoMemory>
         ensures word { OnOk result (self.new.word.items ≡ []) }
-        ensures gaps { OnOk result (self.new.gaps.items ≡ self.old.gaps.items ++ gaps_in_word (points_with (points_in p.now) params.now) self.old.word.items) }
+        ensures gaps { OnOk result (self.new.gaps.items ≡ self.old.gaps.items ++ gaps_in_word (points_with (points_in (table p.now)) params.now) self.old.word.items) }
     {
         for i in &points_of(alloc, p, params, &self.word)? {
-            if let Some(gap) = gap_in(&self.word, *i) {
-                self.gaps.push(gap)?;
-            }
+            self.take_point(*i)?;
         }
         self.word.clear();
         Ok(())
@@ -100,14 +114,15 @@ impl Reading {
         next: Option<Letter>,
     ) -> Result<(), NoMemory>
         requires { AreOfOneFont self.old.word.items }
-        ensures gaps { OnOk result ((rest : List (Option Letter)) → gaps_with (points_with (points_in p.now) params.now) self.new.gaps.items self.new.word.items (next ∷ rest) ≡ gaps_with (points_with (points_in p.now) params.now) self.old.gaps.items self.old.word.items (next ∷ rest)) }
+        ensures gaps { OnOk result ((rest : List (Option Letter)) → gaps_with (points_with (points_in (table p.now)) params.now) self.new.gaps.items self.new.word.items (next ∷ rest) ≡ gaps_with (points_with (points_in (table p.now)) params.now) self.old.gaps.items self.old.word.items (next ∷ rest)) }
         ensures one_font { OnOk result (AreOfOneFont self.new.word.items) }
         ensures ready { OnOk result (IsReadyFor self.new.word.items next) }
     {
         if goes_on(&self.word, next) {
             return Ok(());
         }
-        self.end_word(alloc, p, params)
+        self.end_word(alloc, p, params)?;
+        Ok(())
     }
 
     /// Takes the next node into the word, if it is a letter.
@@ -132,7 +147,7 @@ pub(crate) fn gaps_in<N: Nodes>(
     params: &Params,
     names: &[u64],
 ) -> Result<Vec<Gap>, NoMemory>
-    ensures { Gives (result_map (λ gaps. gaps.items) result) (gaps_in (points_with (points_in p.now) params.now) (map (letter_at (N.heap nodes.now)) names.now)) }
+    ensures { Gives (result_map (λ gaps. gaps.items) result) (gaps_in (points_with (points_in (table p.now)) params.now) (map (letter_at (N.heap nodes.now)) names.now)) }
 {
     let mut reading = Reading::new(alloc);
     for n in names {

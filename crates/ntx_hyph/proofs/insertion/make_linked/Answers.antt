@@ -27,4 +27,4 @@ returns-clause-live g c =
 pub returns-clause-made : goal.returns-clause-made
 returns-clause-made g c =
     let h = g.N.Nodes.heap in
-    (can_link (h c.args.nodes.now) (h c.make_like.new.nodes) c.args.fields c.args.like c.args.n c.in_ok-new.new c.args.f c.lawful.ensures.lawful c.requires.like c.requires.linkable c.in_ok-new.ensures.step).fields (h c.write.new.nodes) c.write.ensures.step
+    (can_link (h c.args.nodes.now) (h c.make_like.new.nodes) c.args.fields c.args.like c.args.n c.in_ok-new.new c.args.f c.lawful.ensures.lawful c.requires.like c.requires.linkable c.in_ok-new.ensures.step).made (h c.write.new.nodes) c.write.ensures.step
