@@ -37,7 +37,7 @@ returns-in_err-gaps-in-Some-clause-traced g c =
 pub hyphenate_gaps-requires : goal.hyphenate_gaps-requires
 hyphenate_gaps-requires g c =
     let heap = g.N.Nodes.heap c.list_names.new.nodes in
-    subst (All (IsSound heap)) (sym (c.deref-in-Some.ensures.value ∙ c.in_ok-gaps.ensures)) (gaps_sound heap (points_with (points_in (table c.args.p.now)) c.args.params.now) c.deref.result.now c.lawful.ensures.lawful)
+    subst (All (IsSound heap)) (sym (c.deref-in-Some.ensures.value ∙ c.in_ok-gaps-in-Some.ensures)) (gaps_sound heap (points_with (points_in (table c.args.p.now)) c.args.params.now) c.deref.result.now c.lawful.ensures.lawful)
 
 pub returns-clause-traced : goal.returns-clause-traced
 returns-clause-traced g c =
@@ -47,8 +47,8 @@ returns-clause-traced g c =
     let mid = h c.list_names.new.nodes in
     let new = h c.hyphenate_gaps.new.nodes in
     traces c.hyphenate_gaps.result new (hyphenation points c.args.params.now c.args.head heap)
-    (hyphens_made points c.args.params.now c.args.head c.in-Some.char heap mid new c.deref.result.now c.deref-in-Some.result.now c.in_ok-gaps.gaps.items c.hyphenate_gaps.result c.in_ok-names.ensures.same (c.in_ok-names.ensures.names ∙ ap (λ (x : List ℕ). Ok x) (sym c.deref.ensures.value)) c.in-Some.ensures
-    c.deref-in-Some.ensures.value c.in_ok-gaps.ensures c.hyphenate_gaps.ensures.traced)
+    (hyphens_made points c.args.params.now c.args.head c.in-Some.char heap mid new c.deref.result.now c.deref-in-Some.result.now c.in_ok-gaps-in-Some.gaps.items c.hyphenate_gaps.result c.in_ok-names.ensures.same (c.in_ok-names.ensures.names ∙ ap (λ (x : List ℕ). Ok x) (sym c.deref.ensures.value)) c.in-Some.ensures
+    c.deref-in-Some.ensures.value c.in_ok-gaps-in-Some.ensures c.hyphenate_gaps.ensures.traced)
 
 pub returns-clause-refused : goal.returns-clause-refused
 returns-clause-refused g c = makings_refuse (g.N.Nodes.heap c.args.nodes.now) c.args.head c.hyphenate_gaps.result c.hyphenate_gaps.ensures.refused
