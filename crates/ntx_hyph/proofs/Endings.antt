@@ -1,20 +1,28 @@
 -- How the pass over a list ends.
 use Rattle.std.proofs.Common.{◌≡◌, ℕ, List, map, Some, None, Ok, Err, inl, inr, refl, sym, ◌∙◌, ap, subst}
 use Rattle.std.specs.Prelude.{Option, Result}
-use Rattle.ntx_num.specs.Answer.{Answers, Traces}
+use Rattle.ntx_num.specs.Answer.{Answers}
 use Rattle.ntx_num.specs.declared.answer.Fail.{Fail}
 use Rattle.ntx_num.specs.declared.answer.Fail.TheVariants.{NoMemory, Is}
 use Rattle.ntx_nodes.specs.Heap.{Heap}
 use Rattle.ntx_nodes.specs.declared.trouble.Trouble.{Trouble}
 use Rattle.ntx_item.specs.Settings.{Settings}
-use Rattle.ntx_hyph.specs.Trace.{states, each_in_turn}
+use Rattle.ntx_patterns.specs.Pattern.{Pattern}
+use Rattle.ntx_patterns.specs.Points.{points_in, points_of}
+use Rattle.ntx_patterns.specs.Table.{Table, table_of}
+use Rattle.ntx_patterns.proofs.PairsLemmas.{points_agree}
+use Rattle.ntx_hyph.specs.Trace.{each_in_turn}
 use Rattle.ntx_hyph.specs.Words.{letter_at, gaps_in}
 use Rattle.ntx_hyph.specs.Hyphenation.{Points, points_with, list_names, hyphen_char, hyphens, hyphenated, hyphenated_list, hyphenation, RefusesAs}
 use Rattle.ntx_hyph.specs.inner.Ends.{EndsAs, RefusesMakings}
 use Rattle.ntx_hyph.specs.declared.letter.Gap.{Gap}
-use Rattle.ntx_hyph.proofs.Traces.{Begins, begins_stays, begins_each, passes_first, traces}
+use Rattle.ntx_hyph.proofs.Traces.{Begins, begins_stays, begins_each, passes_first}
 use Rattle.ntx_hyph.proofs.Hyphens.{begins_hyphenated}
 use Rattle.ntx_hyph.proofs.FlatWalks.{list_refused}
+
+-- the same points from the table and by all pairs
+pub points_same : (patterns : List Pattern) (t : Table) → t ≡ table_of patterns → points_in t ≡ points_of patterns
+points_same patterns t e = λ i word left right. points_agree patterns t word left right e i
 
 begins_hyphens : (o : Option ℕ) (gaps : List Gap) (heap : Heap) → Begins (hyphens o gaps heap) heap
 begins_hyphens None gaps heap = begins_stays heap (Ok tt)

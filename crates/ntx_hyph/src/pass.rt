@@ -3,9 +3,12 @@
 ghost use Rattle.std.specs.Prelude.{◌≡◌, List};
 ghost use Rattle.ntx_num.specs.Answer.{Answers, Traces, result_map};
 ghost use Rattle.ntx_patterns.specs.Kept.{table};
-ghost use Rattle.ntx_patterns.specs.Points.{points_in};
+ghost use Rattle.ntx_patterns.specs.Pattern.{Pattern};
+ghost use Rattle.ntx_patterns.specs.Points.{points_in, points_of};
+ghost use Rattle.ntx_patterns.specs.Table.{table_of};
 ghost use Rattle.ntx_hyph.specs.Trace.{states};
 ghost use Rattle.ntx_hyph.specs.Hyphenation.{list_names, hyphen_char, hyphenation, RefusesAs};
+ghost use Rattle.ntx_hyph.specs.inner.Ends.{EndsAs};
 
 use crate::insertion::hyphenate_gaps;
 use crate::reading::gaps_in;
@@ -39,6 +42,28 @@ fn hyphen_char(params: &Params) -> Option<u8>
     if code < 0 { None } else { Some(code as u8) }
 }
 
+/// Makes the walk that checks the list, and then the pass over it.
+fn hyphenate_list<N: Nodes>(
+    alloc: Global,
+    nodes: &mut N,
+    p: &Patterns,
+    params: &Params,
+    head: u64,
+) -> Result<(), Fail<Trouble>>
+    ensures traced { EndsAs result (N.heap nodes.new) (hyphenation (points_in (table p.now)) params.now head (N.heap nodes.old)) }
+    ensures refused { RefusesAs (N.heap nodes.old) head result }
+{
+    let names = list_names(alloc, nodes, head)?;
+    nodes.lawful();
+    match hyphen_char(params) {
+        None => Ok(()),
+        Some(char) => {
+            let gaps = gaps_in(alloc, nodes, p, params, &names)?;
+            hyphenate_gaps(nodes, char, &gaps)
+        }
+    }
+}
+
 /// Hyphenates the words of the list at a head. A word is a maximal run of adjacent glyphs of the list itself that have one
 /// font and whose codes are letters, A to Z or a to z. At each point that the patterns give it, with at least
 /// `lefthyphenmin` letters before and `righthyphenmin` after, from the left to the right, a regular discretionary is made,
@@ -60,15 +85,8 @@ pub fn hyphenate<N: Nodes>(
     head: u64,
 ) -> Result<(), Fail<Trouble>>
     ensures traced { let pass = hyphenation (points_in (table p.now)) params.now head (N.heap nodes.old) in Traces result (N.heap nodes.new) (states pass) pass.ending }
+    ensures pairs { (patterns : List Pattern) → table p.now ≡ table_of patterns → let pass = hyphenation (points_of patterns) params.now head (N.heap nodes.old) in Traces result (N.heap nodes.new) (states pass) pass.ending }
     ensures refused { RefusesAs (N.heap nodes.old) head result }
 {
-    let names = list_names(alloc, nodes, head)?;
-    nodes.lawful();
-    match hyphen_char(params) {
-        None => Ok(()),
-        Some(char) => {
-            let gaps = gaps_in(alloc, nodes, p, params, &names)?;
-            hyphenate_gaps(nodes, char, &gaps)
-        }
-    }
+    hyphenate_list(alloc, nodes, p, params, head)
 }
