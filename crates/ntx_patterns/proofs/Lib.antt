@@ -1,0 +1,12 @@
+pub mod DigitsLemmas
+pub mod TrieLemmas
+pub mod AddingLemmas
+pub mod Position
+pub mod WordsLemmas
+pub mod LinesLemmas
+pub mod SymbolsLemmas
+pub mod GapLemmas
+pub mod PairsLemmas
+pub mod WalkLemmas
+pub mod PointsLemmas
+pub mod ReadLemmas

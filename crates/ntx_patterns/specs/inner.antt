@@ -1,0 +1,2 @@
+-- tables to which patterns are added
+pub mod Adding
