@@ -76,7 +76,13 @@ fn hyphenate_gap<N: Nodes>(nodes: &mut N, char: u8, gap: Gap) -> Result<(), Fail
     ensures live { OnOk result (StayLive (N.heap nodes.old) (N.heap nodes.new)) }
 {
     let disc = make_linked(nodes, disc_fields(gap), gap.before, gap.before, Field::Next)?;
-    make_linked(nodes, hyphen_fields(char, gap), gap.before, disc, Field::Pre)?;
+    make_linked(
+        nodes,
+        hyphen_fields(char, gap),
+        gap.before,
+        disc,
+        Field::Pre,
+    )?;
     Ok(())
 }
 

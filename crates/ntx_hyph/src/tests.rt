@@ -53,7 +53,13 @@ fn byte_of(heap: &PlainHeap, contents: Contents) -> u8 {
 /// The code of a glyph that nothing follows.
 fn hyphen_of(heap: &PlainHeap, n: u64) -> u8 {
     match heap.fields(n) {
-        Ok(Fields { subtype: 0, next: None, contents: Contents::Glyph(g) }) => g.char,
+        Ok(
+            Fields {
+                subtype: 0,
+                next: None,
+                contents: Contents::Glyph(g),
+            },
+        ) => g.char,
         _ => b'?',
     }
 }
@@ -147,11 +153,19 @@ fn a_refusal_leaves_what_was_made(rt: HostRuntime) -> Result<(), test::Fail> {
     list_of(&mut heap, b"bb")?;
     let refused = hyphenate(rt.alloc(), &mut heap, &patterns, &params, first);
     assert_eq!(rt; refused, Err(Fail::Is(Trouble::NamesOut)));
-    assert_eq!(rt; heap.get(first, Field::Next), Ok(FieldValue::Link(Some(first + 2))));
+    assert_eq!(rt;
+        heap.get(first, Field::Next),
+        Ok(FieldValue::Link(Some(first + 2)))
+    );
     assert_eq!(rt; heap.get(first + 2, Field::Pre), Ok(FieldValue::Link(None)));
     let refused = hyphenate(rt.alloc(), &mut heap, &patterns, &params, 5);
     assert_eq!(rt; refused, Err(Fail::Is(Trouble::Stale(5))));
-    set(&mut heap, first + 1, Field::Next, FieldValue::Link(Some(first)))?;
+    set(
+        &mut heap,
+        first + 1,
+        Field::Next,
+        FieldValue::Link(Some(first)),
+    )?;
     let refused = hyphenate(rt.alloc(), &mut heap, &patterns, &params, first);
     assert_eq!(rt; refused, Err(Fail::Is(Trouble::Loop(first))));
     Ok(())
