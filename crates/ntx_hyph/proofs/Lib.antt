@@ -1,0 +1,7 @@
+pub mod Endings
+pub mod FlatWalks
+pub mod Hyphens
+pub mod Making
+pub mod SoundGaps
+pub mod Traces
+pub mod Words

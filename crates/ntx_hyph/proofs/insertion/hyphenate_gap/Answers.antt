@@ -1,0 +1,30 @@
+use Rattle.std.proofs.Common.{◌≡◌, Ok, Err, subst}
+use Rattle.std.proofs.lemmas.Result.{err_from_is_err_and}
+use Rattle.ntx_nodes.specs.declared.field.Field.TheVariants.{Next, Pre}
+use Rattle.ntx_nodes.specs.declared.fields.Fields.{Fields}
+use Rattle.ntx_hyph.specs.Hyphenation.{made_and_linked}
+use Rattle.ntx_hyph.specs.inner.Ends.{EndsAs}
+use Rattle.ntx_hyph.proofs.Making.{next_taken, pre_taken}
+use Rattle.ntx_hyph.proofs.Hyphens.{disc_stops, hyphen_stops, both_made}
+use Rattle.ntx_hyph.proofs.insertion.hyphenate_gap.Goals as goal
+
+pub make_linked-requires-clause-linkable : goal.make_linked-requires-clause-linkable
+make_linked-requires-clause-linkable g c = next_taken (g.N.Nodes.heap c.args.nodes.now) c.args.gap.before c.requires.before
+
+pub make_linked-requires-2-clause-linkable : goal.make_linked-requires-2-clause-linkable
+make_linked-requires-2-clause-linkable g c = pre_taken (g.N.Nodes.heap c.make_linked.new.nodes) c.in_ok-disc.disc c.args.gap c.disc_fields.result c.disc_fields.ensures c.in_ok-disc.ensures.made
+
+pub returns-in_err-disc-clause-traced : goal.returns-in_err-disc-clause-traced
+returns-in_err-disc-clause-traced g c =
+    let h = g.N.Nodes.heap in
+    let p = err_from_is_err_and c.from_residual.result c.from_residual.ensures.1 in
+    rw (p.1, p.2) (disc_stops c.args.char c.args.gap (h c.args.nodes.now) (h c.make_linked.new.nodes) c.in_err-disc.field-0.0
+    (subst (λ (x : Fields). EndsAs (Err c.in_err-disc.field-0.0) (h c.make_linked.new.nodes) (made_and_linked x c.args.gap.before c.args.gap.before Next (h c.args.nodes.now))) c.disc_fields.ensures c.in_err-disc.ensures.traced))
+
+pub returns-in_err-make_linked-clause-traced : goal.returns-in_err-make_linked-clause-traced
+returns-in_err-make_linked-clause-traced g c =
+    let h = g.N.Nodes.heap in
+    let p = err_from_is_err_and c.from_residual-in_err-make_linked.result c.from_residual-in_err-make_linked.ensures.1 in
+    rw (p.1, p.2) (hyphen_stops c.args.char c.args.gap (h c.args.nodes.now) (h c.make_linked.new.nodes) (h c.make_linked-2.new.nodes) c.in_ok-disc.disc c.in_err-make_linked.field-0.0
+    (subst (λ (x : Fields). EndsAs (Ok c.in_ok-disc.disc) (h c.make_linked.new.nodes) (made_and_linked x c.args.gap.before c.args.gap.before Next (h c.args.nodes.now))) c.disc_fields.ensures c.in_ok-disc.ensures.traced)
+    (subst (λ (x : Fields). EndsAs (Err c.in_err-make_linked.field-0.0) (h c.make_linked-2.new.nodes) (made_and_linked x c.args.gap.before c.in_ok-disc.disc Pre (h c.make_linked.new.nodes))) c.hyphen_fields.ensures c.in_err-make_linked.ensures.traced))

@@ -1,0 +1,8 @@
+-- a pass through several states
+pub mod Trace
+-- words and their gaps
+pub mod Words
+-- the pass over a list
+pub mod Hyphenation
+-- what private calls say among themselves
+pub mod inner
