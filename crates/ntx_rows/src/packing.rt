@@ -1,11 +1,12 @@
 //! The laws of packing, as a crate above names them: each is the contract of a function that does nothing.
 
+ghost use Rattle.ntx_pack.specs.Laws.{VerticalListsStack, BoxesAreSized, NaturalBoxesAreUnset, SetSizesGrow, SetSizesAddUp, BoxesAreFilled, OverfullBoxesShrinkFully, OtherSizesStay, TotalsStayBounded, BoxesHoldTheirLists};
+
 use ntx_pack::{
     boxes_are_filled, boxes_are_sized, boxes_hold_their_lists, natural_boxes_are_unset,
     other_sizes_stay, overfull_boxes_shrink_fully, set_sizes_add_up, set_sizes_grow,
     totals_stay_bounded, vertical_lists_stack,
 };
-ghost use Rattle.ntx_pack.specs.Laws.{VerticalListsStack, BoxesAreSized, NaturalBoxesAreUnset, SetSizesGrow, SetSizesAddUp, BoxesAreFilled, OverfullBoxesShrinkFully, OtherSizesStay, TotalsStayBounded, BoxesHoldTheirLists};
 
 fn sizes_follow()
     ensures stack { VerticalListsStack }
