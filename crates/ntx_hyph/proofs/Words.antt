@@ -70,7 +70,8 @@ ended a (b ∷ word) rest h e =
 
 none_in : (is : List ℕ) → filter_map (gap_in []) is ≡ []
 none_in [] = refl
-none_in (i ∷ is) = none_in is
+none_in (zero ∷ is) = none_in is
+none_in (suc i ∷ is) = none_in is
 
 pub word_ended : (points : List ℕ → List ℕ) (word : List Letter) (rest : List (Option Letter)) → AreOfOneFont word → word_goes_on word rest ≡ false
     → gaps_in points (map Some word ++ rest) ≡ gaps_in_word points word ++ gaps_in points rest
