@@ -10,7 +10,7 @@ use Rattle.ntx_nodes.specs.declared.node.Node.{Node}
 use Rattle.ntx_nodes.specs.declared.trouble.Trouble.{Trouble}
 use Rattle.ntx_hyph.specs.Trace.{Trace, each_in_turn}
 use Rattle.ntx_hyph.specs.Hyphenation.{hyphen_fields, hyphenated}
-use Rattle.ntx_hyph.specs.Laws.{whole_disc_fields, worn_like, followed_by, record_at, IsHyphenated}
+use Rattle.ntx_hyph.specs.Laws.{whole_disc_fields, worn_like, followed_by, record_at, AreMade}
 use Rattle.ntx_hyph.specs.declared.letter.Gap.{Gap}
 use Rattle.ntx_hyph.proofs.OneGap.{went_well, below_differs, above_differs, OneMade, one_made}
 
@@ -24,10 +24,12 @@ abbrev pub AreApart : List Gap → Type 0
 AreApart [] = Unit {0}
 AreApart (gap ∷ gaps) = Differs gap.before gaps × AreApart gaps
 
+-- the glyph is in the heap, and the one after the gap follows
 pub record IsAt (heap : Heap) (gap : Gap) : Type 0 where
   pub glyph : Node
   pub at : map.get heap.nodes gap.before ≡ Some glyph
   pub below : gap.before < heap.next
+  pub next : glyph.fields.next ≡ Some gap.after
 
 abbrev pub AreAt : Heap → List Gap → Type 0
 AreAt heap [] = Unit {0}
@@ -48,7 +50,7 @@ flipped : (q k : ℕ) → nat_eq q k ≡ false → nat_eq k q ≡ false
 flipped q k h = grind (arith, nat_tests)
 
 -- ---- choices
-none_chosen : (a b c : Bool) (x y z w : Option Node) → a ≡ false → b ≡ false → c ≡ false → cond a x (cond b y (cond c z w)) ≡ w
+pub none_chosen : (a b c : Bool) (x y z w : Option Node) → a ≡ false → b ≡ false → c ≡ false → cond a x (cond b y (cond c z w)) ≡ w
 none_chosen true b c x y z w p q r = cc
 none_chosen false true c x y z w p q r = cc
 none_chosen false false true x y z w p q r = cc
@@ -91,7 +93,7 @@ at_after : (heap new : Heap) (gaps : List Gap) → heap.next ≤ new.next → Ag
 at_after heap new [] h g at = tt
 at_after heap new (gap ∷ gaps) h g at =
     let below : gap.before < heap.next = at.0.below in
-    (record { glyph = at.0.glyph; at = g.0 ∙ at.0.at; below = omega arith }, at_after heap new gaps h g.1 at.1)
+    (record { glyph = at.0.glyph; at = g.0 ∙ at.0.at; below = omega arith; next = at.0.next }, at_after heap new gaps h g.1 at.1)
 
 -- a name that the first gap concerns
 record_here : (heap new : Heap) (char : ℕ) (gap : Gap) (glyph : Node) (gaps : List Gap) (n : ℕ) → map.get heap.nodes gap.before ≡ Some glyph → OneMade heap new char gap glyph → n < heap.next + 2 → Differs n gaps
@@ -125,7 +127,7 @@ record_after heap new char gap glyph gaps n there below m d at false false true 
     record_here heap new char gap glyph gaps n there m (omega arith) (subst (λ k. Differs k gaps) (sym same) d) (λ _ _ x. cc)
 record_after heap new char gap glyph gaps n there below m d at false false false p q r = record_other heap new char gap glyph gaps n m (agree_after heap new char gap glyph gaps m d at) p q r
 
-pub each_made : (char : ℕ) (gaps : List Gap) (heap : Heap) → AreApart gaps → AreAt heap gaps → (each_in_turn (hyphenated char) gaps heap).ending ≡ Ok tt → IsHyphenated heap (each_in_turn (hyphenated char) gaps heap).last char gaps
+pub each_made : (char : ℕ) (gaps : List Gap) (heap : Heap) → AreApart gaps → AreAt heap gaps → (each_in_turn (hyphenated char) gaps heap).ending ≡ Ok tt → AreMade heap (each_in_turn (hyphenated char) gaps heap).last char gaps
 each_made char [] heap apart at e = record { records = λ n. refl; next = omega arith; current = refl }
 each_made char (gap ∷ gaps) heap apart at e =
     let first = hyphenated char gap heap in

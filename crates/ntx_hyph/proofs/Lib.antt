@@ -1,3 +1,5 @@
+pub mod Chains
+pub mod DiscWalks
 pub mod EachGap
 pub mod Endings
 pub mod FlatWalks

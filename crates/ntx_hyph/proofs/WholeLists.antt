@@ -1,23 +1,23 @@
 -- What the pass over a list leaves.
 use Rattle.std.proofs.Common.{◌≡◌, ℕ, List, [], ◌∷◌, ◌++◌, Bool, true, false, map, Some, Ok, refl, sym, ◌∙◌, ap, subst, append_assoc, append-nil}
-use Rattle.std.specs.Prelude.{nat_eq, ◌||◌}
-use Rattle.std.specs.List.Sorted.{IsStrictlyIncreasing}
+use Rattle.std.specs.Prelude.{Option, nat_eq, ◌||◌}
+use Rattle.std.specs.FinMap as fin
 use Rattle.std.proofs.lemmas.Bool.{eqb-true, or_left}
 use Rattle.ntx_num.proofs.Answers.{went_Ok}
 use Rattle.ntx_nodes.specs.Heap.{Heap, IsLawful}
 use Rattle.ntx_nodes.specs.Walk.{is_reached, checked_walk, flat_walk}
 use Rattle.ntx_nodes.specs.WalkLaws.{AreFresh}
 use Rattle.ntx_nodes.specs.declared.kind.ListKind.TheVariants.{H}
-use Rattle.ntx_nodes.specs.declared.kind.Way.TheVariants.{Flat}
+use Rattle.ntx_nodes.specs.declared.node.Node.{Node}
 use Rattle.ntx_nodes.proofs.Fuel.{last_reached}
-use Rattle.ntx_nodes.proofs.SoundWalks.{sound_walk}
 use Rattle.ntx_nodes.proofs.Walks.{is_reached-append}
 use Rattle.ntx_item.specs.Settings.{Settings}
 use Rattle.ntx_hyph.specs.Trace.{each_in_turn}
 use Rattle.ntx_hyph.specs.Hyphenation.{Points, points_with, list_names, hyphen_char, hyphens, hyphenated, hyphenated_list, hyphenation}
-use Rattle.ntx_hyph.specs.Laws.{Ascend, gaps_of, IsHyphenated}
+use Rattle.ntx_hyph.specs.Laws.{Ascend, gaps_of, with_discs, IsHyphenated}
 use Rattle.ntx_hyph.specs.declared.letter.Gap.{Gap}
-use Rattle.ntx_hyph.proofs.Making.{live}
+use Rattle.ntx_hyph.proofs.Chains.{Chain, chain_later, chain_of, chain_fresh, chain_walks}
+use Rattle.ntx_hyph.proofs.DiscWalks.{chain_on}
 use Rattle.ntx_hyph.proofs.GapOrder.{InOrder, in_order}
 use Rattle.ntx_hyph.proofs.EachGap.{Differs, AreApart, IsAt, AreAt, each_made}
 
@@ -53,26 +53,28 @@ differs_in (gap ∷ gaps) names n o h =
     let ends = no_either (nat_eq n gap.before) (is_reached (gap.after ∷ o.1) n) parts.1 in
     (ends.0, differs_in gaps (gap.after ∷ o.1) n o.3 ends.1)
 
-gaps_stand : (heap : Heap) (gaps : List Gap) (r names : List ℕ) → IsLawful heap → AreFresh heap r names → InOrder gaps names → AreApart gaps × AreAt heap gaps
-gaps_stand heap [] r names lawful f o = (tt, tt)
-gaps_stand heap (gap ∷ gaps) r names lawful f o =
+gaps_stand : (heap : Heap) (gaps : List Gap) (r names : List ℕ) (head : Option ℕ) → IsLawful heap → AreFresh heap r names → Chain heap head names → InOrder gaps names → AreApart gaps × AreAt heap gaps
+gaps_stand heap [] r names head lawful f c o = (tt, tt)
+gaps_stand heap (gap ∷ gaps) r names head lawful f c o =
     let g = fresh_later heap r o.0 (gap.before ∷ gap.after ∷ o.1) (subst (AreFresh heap r) o.2 f) in
-    let l = live heap gap.before g.0 in
-    let rest = gaps_stand heap gaps ((r ++ o.0) ++ gap.before ∷ []) (gap.after ∷ o.1) lawful g.2 o.3 in
+    let l = chain_later heap head o.0 (gap.before ∷ gap.after ∷ o.1) (subst (Chain heap head) o.2 c) in
+    let glyph : Node = l.1.0 in
+    let at : fin.get heap.nodes gap.before ≡ Some glyph = l.1.2 in
+    let rest = gaps_stand heap gaps ((r ++ o.0) ++ gap.before ∷ []) (gap.after ∷ o.1) glyph.fields.next lawful g.2 l.1.3 o.3 in
     let out = fresh_out heap ((r ++ o.0) ++ gap.before ∷ []) (gap.after ∷ o.1) gap.before g.2 (last_reached (r ++ o.0) gap.before) in
-    ((differs_in gaps (gap.after ∷ o.1) gap.before o.3 out, rest.0), (record { glyph = l.node; at = l.at; below = lawful.names gap.before l.node l.at }, rest.1))
-
-names_fresh : (heap : Heap) (head : ℕ) (names : List ℕ) → list_names heap head ≡ Ok names → AreFresh heap [] names
-names_fresh heap head names e =
-    let w = went_Ok (λ _. flat_walk heap (Some head)) (checked_walk heap (Some head) H) names e in
-    let s = sound_walk heap Flat [] (Some head) 0 H names w.gives in
-    subst (AreFresh heap []) (sym s.added) s.fresh
+    ((differs_in gaps (gap.after ∷ o.1) gap.before o.3 out, rest.0), (record { glyph = glyph; at = at; below = lawful.names gap.before glyph at; next = l.1.3.1 }, rest.1))
 
 -- ---- the law
 pub whole_lists : (points : Points) (s : Settings) (heap : Heap) (head char : ℕ) (names : List ℕ) → Ascend points → IsLawful heap → list_names heap head ≡ Ok names → hyphen_char s.hyphenchar ≡ Some char
-    → (hyphenation points s head heap).ending ≡ Ok tt → IsHyphenated heap (hyphenation points s head heap).last char (gaps_of points s heap names)
+    → (hyphenation points s head heap).ending ≡ Ok tt → IsHyphenated heap (hyphenation points s head heap).last head char (gaps_of points s heap names) names
 whole_lists points s heap head char names ascend lawful e hyphen ends =
     let gaps : List Gap = gaps_of points s heap names in
     let is : hyphenation points s head heap ≡ each_in_turn (hyphenated char) gaps heap = ap (λ r. hyphenated_list points s r heap) e ∙ ap (λ o. hyphens o gaps heap) hyphen in
-    let stand = gaps_stand heap gaps [] names lawful (names_fresh heap head names e) (in_order heap (points_with points s) names (λ word. ascend word _ _)) in
-    subst (λ t. IsHyphenated heap t.last char gaps) (sym is) (each_made char gaps heap stand.0 stand.1 (sym (ap (λ t. t.ending) is) ∙ ends))
+    let walked = went_Ok (λ _. flat_walk heap (Some head)) (checked_walk heap (Some head) H) names e in
+    let chain = chain_of heap (Some head) names walked.gives in
+    let order = in_order heap (points_with points s) names (λ word. ascend word _ _) in
+    let stand = gaps_stand heap gaps [] names (Some head) lawful (chain_fresh heap (Some head) names chain) chain order in
+    let last = each_in_turn (hyphenated char) gaps heap in
+    let made = each_made char gaps heap stand.0 stand.1 (sym (ap (λ t. t.ending) is) ∙ ends) in
+    let list = chain_walks last.last (Some head) (with_discs heap.next gaps names) (chain_on heap last.last char gaps lawful stand.1 made.records names (Some head) chain) in
+    subst (λ t. IsHyphenated heap t.last head char gaps names) (sym is) (record { made = made; list = list })

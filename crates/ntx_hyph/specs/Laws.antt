@@ -1,13 +1,16 @@
 -- What the pass over a list leaves, where it ends well, in the words of the list and of its gaps alone ("TeX: The Program", section 918).
 --     gaps_of                  the gaps of the list in which there is a point, from the left to the right
 --     record_at                the record under each name afterwards
---     IsHyphenated             the whole heap afterwards
+--     with_discs               the names of the list afterwards
+--     IsHyphenated             the whole heap and the list afterwards
 --     HyphenatedListsAreWhole  the law
 use Rattle.std.specs.Prelude.{◌≡◌, ℕ, ◌+◌, ◌*◌, nat_eq, if◌then◌else◌, List, [], ◌∷◌, length, map, Option, None, Some, Ok}
 use Rattle.std.specs.FinMap as fin
+use Rattle.std.specs.List.{flat_map}
 use Rattle.std.specs.List.Sorted.{IsStrictlyIncreasing}
 use Rattle.std.specs.Option.{option_map}
 use Rattle.ntx_nodes.specs.Heap.{Heap, IsLawful}
+use Rattle.ntx_nodes.specs.Walk.{flat_walk}
 use Rattle.ntx_nodes.specs.declared.fields.Contents.TheVariants as contents
 use Rattle.ntx_nodes.specs.declared.fields.Fields.{Fields}
 use Rattle.ntx_nodes.specs.declared.node.Node.{Node}
@@ -46,12 +49,28 @@ record_at heap char first (gap ∷ gaps) n =
     else if nat_eq n gap.before then option_map (followed_by first) (fin.get heap.nodes gap.before)
     else record_at heap char (first + 2) gaps n
 
--- ---- the whole heap
-pub record IsHyphenated (old new : Heap) (char : ℕ) (gaps : List Gap) : Type 0 where
+-- ---- the list
+-- the discretionary after a name, if it is the name before a gap
+abbrev pub disc_after : ℕ → List Gap → ℕ → List ℕ
+disc_after first [] n = []
+disc_after first (gap ∷ gaps) n = if nat_eq n gap.before then first ∷ [] else disc_after (first + 2) gaps n
+
+-- the names of a list with the discretionaries in its gaps
+abbrev pub with_discs : ℕ → List Gap → List ℕ → List ℕ
+with_discs first gaps names = flat_map (λ n. n ∷ disc_after first gaps n) names
+
+-- ---- the law
+-- what the heap is afterwards
+pub record AreMade (old new : Heap) (char : ℕ) (gaps : List Gap) : Type 0 where
   pub records : (n : ℕ) → fin.get new.nodes n ≡ record_at old char old.next gaps n
   pub next : new.next ≡ old.next + 2 * length gaps
   pub current : new.current ≡ old.current
 
+-- and what the list is in it
+pub record IsHyphenated (old new : Heap) (head char : ℕ) (gaps : List Gap) (names : List ℕ) : Type 0 where
+  pub made : AreMade old new char gaps
+  pub list : flat_walk new (Some head) ≡ Ok (with_discs old.next gaps names)
+
 abbrev pub HyphenatedListsAreWhole : Type 0
 HyphenatedListsAreWhole = (points : Points) (s : Settings) (heap : Heap) (head char : ℕ) (names : List ℕ) → Ascend points → IsLawful heap → list_names heap head ≡ Ok names → hyphen_char s.hyphenchar ≡ Some char
-    → (hyphenation points s head heap).ending ≡ Ok tt → IsHyphenated heap (hyphenation points s head heap).last char (gaps_of points s heap names)
+    → (hyphenation points s head heap).ending ≡ Ok tt → IsHyphenated heap (hyphenation points s head heap).last head char (gaps_of points s heap names) names
