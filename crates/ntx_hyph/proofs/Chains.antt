@@ -1,6 +1,6 @@
 -- A list as a chain of links, and the walk along it.
 use Rattle.std.proofs.Common.{◌≡◌, ℕ, zero, suc, ◌<◌, List, [], ◌∷◌, ◌++◌, length, Bool, true, false, Some, None, Ok, Err, refl, sym, ◌∙◌, ap, subst, append_assoc, append-nil, inl, inr, arith}
-use Rattle.std.specs.Prelude.{Option, Result, is_some, nat_eq, ◌⊎◌, ◌||◌}
+use Rattle.std.specs.Prelude.{Option, Result, is_some, nat_eq}
 use Rattle.std.specs.FinMap as map
 use Rattle.std.proofs.lemmas.Bool.{eqb-true, or_cases}
 use Rattle.ntx_num.proofs.Answers.{same_Some}
@@ -80,9 +80,9 @@ longer_on heap r n names l c q e =
     elim (or_cases (is_reached r q) (is_reached (n ∷ []) q) (sym (is_reached-append r (n ∷ []) q) ∙ e)) [
       | inl x ↦ (let y = l q x in let less : suc (length names) < length y.0 = y.2 in (y.0, y.1, omega arith))
       | inr x ↦ elim (or_cases (nat_eq q n) false x) [
-          | inl same ↦ (n ∷ names, subst (λ k. Chain heap (Some k) (n ∷ names)) (sym (eqb-true q n same)) c, omega arith)
-          | inr never ↦ cc
-        ]
+        | inl same ↦ (n ∷ names, subst (λ k. Chain heap (Some k) (n ∷ names)) (sym (eqb-true q n same)) c, omega arith)
+        | inr never ↦ cc
+      ]
     ]
 
 fresh_from : (heap : Heap) (r : List ℕ) (head : Option ℕ) (names : List ℕ) → Longer heap r names → Chain heap head names → AreFresh heap r names

@@ -45,7 +45,7 @@ hop_at heap new char first gap gaps n node names true e there below high at reco
     records n (inl refl) ∙ third_chosen (nat_eq n first) (nat_eq n (first + 1)) (nat_eq n gap.before) _ _ _ (record_at heap char (first + 2) gaps n) (below_differs n first (omega arith)) (below_differs n (first + 1) (omega arith)) e
     ∙ ap (option_map (followed_by first)) here in
     let rest_at : Option Node = cond (nat_eq first (first + 1)) (option_map (worn_like (hyphen_fields char gap)) (map.get heap.nodes gap.before))
-        (cond (nat_eq first gap.before) (option_map (followed_by first) (map.get heap.nodes gap.before)) (record_at heap char (first + 2) gaps first)) in
+    (cond (nat_eq first gap.before) (option_map (followed_by first) (map.get heap.nodes gap.before)) (record_at heap char (first + 2) gaps first)) in
     let at_disc : map.get new.nodes first ≡ Some (worn_like (whole_disc_fields gap (first + 1)) node) =
     records first (inr (omega arith)) ∙ ap (λ b. cond b (option_map (worn_like (whole_disc_fields gap (first + 1))) (map.get heap.nodes gap.before)) rest_at) (nat_eq_same first)
     ∙ ap (option_map (worn_like (whole_disc_fields gap (first + 1)))) here in

@@ -76,7 +76,7 @@ same_record a b char first (gap ∷ gaps) n g e =
     let same = g.0 in
     let rest = same_record a b char (first + 2) gaps n g.1 e in
     λ i. cond (nat_eq n first) (option_map (worn_like (whole_disc_fields gap (first + 1))) (same i))
-        (cond (nat_eq n (first + 1)) (option_map (worn_like (hyphen_fields char gap)) (same i)) (cond (nat_eq n gap.before) (option_map (followed_by first) (same i)) (rest i)))
+    (cond (nat_eq n (first + 1)) (option_map (worn_like (hyphen_fields char gap)) (same i)) (cond (nat_eq n gap.before) (option_map (followed_by first) (same i)) (rest i)))
 
 -- ---- one gap, and then the others
 agree_after : (heap new : Heap) (char : ℕ) (gap : Gap) (glyph : Node) (gaps : List Gap) → OneMade heap new char gap glyph → Differs gap.before gaps → AreAt heap gaps → Agree new heap gaps

@@ -1,8 +1,8 @@
 -- Where the walk through all lists ends well, the walk along one list does.
 use Rattle.std.proofs.Common.{◌≡◌, ℕ, zero, suc, ◌+◌, ◌≤◌, ◌<◌, List, [], ◌∷◌, ◌++◌, Bool, true, false, Some, None, Ok, Err, refl, sym, ◌∙◌, ap, append_assoc, append-nil, arith}
-use Rattle.std.specs.Prelude.{Option, Result, ◌||◌, ◌⊎◌}
+use Rattle.std.specs.Prelude.{Option, Result, ◌||◌}
 use Rattle.ntx_num.specs.Answer.{result_and_then}
-use Rattle.ntx_num.proofs.Answers.{same_Ok, same_Err, went_Ok}
+use Rattle.ntx_num.proofs.Answers.{went_Ok}
 use Rattle.std.proofs.lemmas.Bool.{or_left, or_right}
 use Rattle.ntx_nodes.specs.Heap.{Heap}
 use Rattle.ntx_nodes.specs.Walk.{is_reached, entered, node_reached, fuel_of, flat_walk, checked_walk}

@@ -1,6 +1,6 @@
 -- What is true of a node that is made with fields and the attributes of another, and of a link that is set to it.
-use Rattle.std.proofs.Common.{◌≡◌, ℕ, ◌+◌, ◌≤◌, ◌<◌, [], ◌∷◌, IsOk, Bool, true, false, cond, Some, None, Ok, Err, inl, inr, refl, sym, ◌∙◌, ap, subst, arith}
-use Rattle.std.specs.Prelude.{◌⊎◌, Option, Result, is_some, nat_eq}
+use Rattle.std.proofs.Common.{◌≡◌, ℕ, ◌<◌, IsOk, true, false, cond, Some, None, Ok, Err, inl, inr, refl, sym, ◌∙◌, ap, subst, arith}
+use Rattle.std.specs.Prelude.{Option, Result, is_some, nat_eq}
 use Rattle.std.specs.Ordering.{nat_cmp}
 use Rattle.std.specs.Cmp.{nat_cmp_total, unsigned_tied}
 use Rattle.std.proofs.lemmas.Bool.Decides.{nat_tests}
@@ -20,8 +20,8 @@ use Rattle.ntx_nodes.specs.declared.fields.Fields.{Fields}
 use Rattle.ntx_nodes.specs.declared.node.Node.{Node}
 use Rattle.ntx_nodes.specs.declared.trouble.Trouble.{Trouble}
 use Rattle.ntx_nodes.proofs.Fills.{made, refused_too}
-use Rattle.ntx_nodes.proofs.Writes.{get-put, put_same, insert_again, live_put, set_live}
-use Rattle.ntx_hyph.specs.Trace.{stepped, trace_and_then}
+use Rattle.ntx_nodes.proofs.Writes.{put_same, insert_again, live_put, set_live}
+use Rattle.ntx_hyph.specs.Trace.{stepped}
 use Rattle.ntx_hyph.specs.Hyphenation.{disc_fields, made_like, made_and_linked}
 use Rattle.ntx_hyph.specs.inner.Ends.{EndsAs, StayLive, HasLink, HasFields}
 use Rattle.ntx_hyph.specs.declared.letter.Gap.{Gap}

@@ -1,5 +1,5 @@
 -- The nodes beside the gaps of a list are live, and each gap's font is one of a glyph.
-use Rattle.std.proofs.Common.{◌≡◌, ℕ, ◌≤◌, List, [], ◌∷◌, ◌++◌, pos, map, slice_get, Bool, true, false, cond, Some, None, refl, sym, ◌∙◌, ap, subst}
+use Rattle.std.proofs.Common.{◌≡◌, ℕ, ◌≤◌, List, [], ◌∷◌, pos, map, slice_get, Bool, true, false, cond, Some, None, refl, ap, subst}
 use Rattle.std.specs.Prelude.{Option, All, is_some, suc, zero}
 use Rattle.std.specs.List.{flat_map, filter_map, cons_option}
 use Rattle.std.specs.Option.{option_map, option_and_then}
@@ -13,7 +13,6 @@ use Rattle.ntx_nodes.specs.declared.field.Field.TheVariants.{Font}
 use Rattle.ntx_nodes.specs.declared.fields.Contents.{Contents}
 use Rattle.ntx_nodes.specs.declared.fields.Contents.TheVariants as contents
 use Rattle.ntx_nodes.specs.declared.node.Node.{Node}
-use Rattle.ntx_nodes.specs.declared.kind.Kind.TheVariants.{Glyph}
 use Rattle.ntx_nodes.specs.Heap.{IsInRange}
 use Rattle.ntx_nodes.specs.Fields.{field_of, kind_of}
 use Rattle.ntx_nodes.proofs.Ranges.{down_to}

@@ -1,5 +1,5 @@
 -- What the pass over a list leaves.
-use Rattle.std.proofs.Common.{◌≡◌, ℕ, List, [], ◌∷◌, ◌++◌, Bool, true, false, map, Some, Ok, refl, sym, ◌∙◌, ap, subst, append_assoc, append-nil}
+use Rattle.std.proofs.Common.{◌≡◌, ℕ, List, [], ◌∷◌, ◌++◌, Bool, true, false, Some, Ok, refl, sym, ◌∙◌, ap, subst, append_assoc, append-nil}
 use Rattle.std.specs.Prelude.{Option, nat_eq, ◌||◌}
 use Rattle.std.specs.FinMap as fin
 use Rattle.std.proofs.lemmas.Bool.{eqb-true, or_left}
@@ -19,7 +19,7 @@ use Rattle.ntx_hyph.specs.declared.letter.Gap.{Gap}
 use Rattle.ntx_hyph.proofs.Chains.{Chain, chain_later, chain_of, chain_fresh, chain_walks}
 use Rattle.ntx_hyph.proofs.DiscWalks.{chain_on}
 use Rattle.ntx_hyph.proofs.GapOrder.{InOrder, in_order}
-use Rattle.ntx_hyph.proofs.EachGap.{Differs, AreApart, IsAt, AreAt, each_made}
+use Rattle.ntx_hyph.proofs.EachGap.{Differs, AreApart, AreAt, each_made}
 
 -- ---- fresh names
 no_either : (a b : Bool) → (a || b) ≡ false → (a ≡ false) × (b ≡ false)
