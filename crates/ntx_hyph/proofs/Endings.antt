@@ -1,5 +1,5 @@
 -- How the pass over a list ends.
-use Rattle.std.proofs.Common.{◌≡◌, ℕ, List, map, Some, None, Ok, Err, inl, inr, refl, sym, ◌∙◌, ap, subst}
+use Rattle.std.proofs.Common.{◌≡◌, ℕ, List, map, Some, None, Ok, Err, inl, inr, sym, ◌∙◌, ap, subst}
 use Rattle.std.specs.Prelude.{Option, Result}
 use Rattle.ntx_num.specs.Answer.{Answers}
 use Rattle.ntx_num.specs.declared.answer.Fail.{Fail}

@@ -1,8 +1,8 @@
 -- Where the walk through all lists ends well, the walk along one list does.
 use Rattle.std.proofs.Common.{◌≡◌, ℕ, zero, suc, ◌+◌, ◌≤◌, ◌<◌, List, [], ◌∷◌, ◌++◌, Bool, true, false, Some, None, Ok, Err, refl, sym, ◌∙◌, ap, append_assoc, append-nil, arith}
-use Rattle.std.specs.Prelude.{Option, Result, ◌||◌, ◌⊎◌}
+use Rattle.std.specs.Prelude.{Option, Result, ◌||◌}
 use Rattle.ntx_num.specs.Answer.{result_and_then}
-use Rattle.ntx_num.proofs.Answers.{same_Ok, same_Err, went_Ok}
+use Rattle.ntx_num.proofs.Answers.{went_Ok}
 use Rattle.std.proofs.lemmas.Bool.{or_left, or_right}
 use Rattle.ntx_nodes.specs.Heap.{Heap}
 use Rattle.ntx_nodes.specs.Walk.{is_reached, entered, node_reached, fuel_of, flat_walk, checked_walk}
@@ -47,7 +47,7 @@ part_more b r c n within more q is =
     ap (λ x. is_reached x q) more.is ∙ grown (r ++ n ∷ []) more.more q in_r
 
 -- a walk along one list at a node that passes
-flat_at : (heap : Heap) (b : List ℕ) (n : ℕ) (node : Node) → node_reached heap Flat b n 0 H ≡ Ok node → whole_walk heap Flat b (Some n) 0 H ≡ whole_walk heap Flat (b ++ n ∷ []) node.fields.next 0 H
+pub flat_at : (heap : Heap) (b : List ℕ) (n : ℕ) (node : Node) → node_reached heap Flat b n 0 H ≡ Ok node → whole_walk heap Flat b (Some n) 0 H ≡ whole_walk heap Flat (b ++ n ∷ []) node.fields.next 0 H
 flat_at heap b n node is =
     whole_at heap Flat b n 0 H node is
     ∙ ap (λ x. result_and_then (result_and_then x (λ a. result_and_then (whole_walk heap Flat a None (0 + 1) H) (λ c. whole_walk heap Flat c None (0 + 1) H))) (λ c. whole_walk heap Flat c node.fields.next 0 H)) (whole_None heap Flat (b ++ n ∷ []) (0 + 1) H)

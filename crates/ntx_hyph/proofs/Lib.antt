@@ -1,7 +1,13 @@
+pub mod Chains
+pub mod DiscWalks
+pub mod EachGap
 pub mod Endings
 pub mod FlatWalks
+pub mod GapOrder
 pub mod Hyphens
 pub mod Making
+pub mod OneGap
 pub mod SoundGaps
 pub mod Traces
+pub mod WholeLists
 pub mod Words

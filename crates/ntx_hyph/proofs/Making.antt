@@ -1,6 +1,6 @@
 -- What is true of a node that is made with fields and the attributes of another, and of a link that is set to it.
-use Rattle.std.proofs.Common.{◌≡◌, ℕ, ◌+◌, ◌≤◌, ◌<◌, [], ◌∷◌, IsOk, Bool, true, false, cond, Some, None, Ok, Err, inl, inr, refl, sym, ◌∙◌, ap, subst, arith}
-use Rattle.std.specs.Prelude.{◌⊎◌, Option, Result, is_some, nat_eq}
+use Rattle.std.proofs.Common.{◌≡◌, ℕ, ◌<◌, IsOk, true, false, cond, Some, None, Ok, Err, inl, inr, refl, sym, ◌∙◌, ap, subst, arith}
+use Rattle.std.specs.Prelude.{Option, Result, is_some, nat_eq}
 use Rattle.std.specs.Ordering.{nat_cmp}
 use Rattle.std.specs.Cmp.{nat_cmp_total, unsigned_tied}
 use Rattle.std.proofs.lemmas.Bool.Decides.{nat_tests}
@@ -20,8 +20,8 @@ use Rattle.ntx_nodes.specs.declared.fields.Fields.{Fields}
 use Rattle.ntx_nodes.specs.declared.node.Node.{Node}
 use Rattle.ntx_nodes.specs.declared.trouble.Trouble.{Trouble}
 use Rattle.ntx_nodes.proofs.Fills.{made, refused_too}
-use Rattle.ntx_nodes.proofs.Writes.{get-put, put_same, insert_again, live_put, set_live}
-use Rattle.ntx_hyph.specs.Trace.{stepped, trace_and_then}
+use Rattle.ntx_nodes.proofs.Writes.{put_same, insert_again, live_put, set_live}
+use Rattle.ntx_hyph.specs.Trace.{stepped}
 use Rattle.ntx_hyph.specs.Hyphenation.{disc_fields, made_like, made_and_linked}
 use Rattle.ntx_hyph.specs.inner.Ends.{EndsAs, StayLive, HasLink, HasFields}
 use Rattle.ntx_hyph.specs.declared.letter.Gap.{Gap}
@@ -49,12 +49,12 @@ worn_by fields other = record { fields = fields; attributes = other.attributes }
 like_is : (old : Heap) (fields : Fields) (from : ℕ) (other : Node) → map.get old.nodes from ≡ Some other → make_like_step fields from old ≡ making (worn_by fields other) old
 like_is old fields from other there = ap (of_found {A = ℕ × Heap} from (λ x. making (worn_by fields x) old)) there
 
-worn : (old mid : Heap) (n from : ℕ) (fields : Fields) (other : Node) → IsLawful old → map.get old.nodes from ≡ Some other → make_filled_step fields old ≡ Ok (n, mid)
+pub worn : (old mid : Heap) (n from : ℕ) (fields : Fields) (other : Node) → from < old.next → map.get old.nodes from ≡ Some other → make_filled_step fields old ≡ Ok (n, mid)
     → same_attrs_step n from mid ≡ Ok (tt, put mid n (worn_by fields other))
-worn old mid n from fields other lawful there e =
+worn old mid n from fields other below there e =
     let m = made old mid (bare fields) n e in
     ap (of_found {A = Unit {0} × Heap} n (λ node. at mid from (λ x. Ok (tt, put_attributes mid n node x.attributes)))) m.at
-    ∙ ap (of_found {A = Unit {0} × Heap} from (λ x. Ok (tt, put_attributes mid n (bare fields) x.attributes))) (m.other from other (lawful.names from other there) there)
+    ∙ ap (of_found {A = Unit {0} × Heap} from (λ x. Ok (tt, put_attributes mid n (bare fields) x.attributes))) (m.other from other below there)
 
 put_again : (new : Heap) (n : ℕ) (a b : Node) → map.get new.nodes n ≡ Some b → put (put new n a) n b ≡ new
 put_again new n a b at = ap (λ (m : map.FinMap nat_cmp Node). record new { nodes = m }) (insert_again new.nodes n a b) ∙ put_same new n b at
@@ -73,7 +73,7 @@ like_ends (Ok n) old new fields from lawful alive s =
     let mid : Heap = put new n (bare fields) in
     let filled : make_filled_step fields old ≡ Ok (n, mid) = m.again (bare fields) in
     let wears : same_attrs_step n from mid ≡ Ok (tt, new) =
-    worn old mid n from fields other.node lawful other.at filled ∙ ap {B = Result (Unit {0} × Heap) Trouble} (λ h. Ok (tt, h)) (put_again new n (bare fields) node m.at) in
+    worn old mid n from fields other.node (lawful.names from other.node other.at) other.at filled ∙ ap {B = Result (Unit {0} × Heap) Trouble} (λ h. Ok (tt, h)) (put_again new n (bare fields) node m.at) in
     ends_later (stepped (make_filled_step fields old) old) n mid new (λ k h. stepped (result_map (λ done. (k, done.1)) (same_attrs_step k from h)) h) (Ok n)
     (ends_stepped (make_filled_step fields old) n old mid filled)
     (ends_stepped (result_map (λ done. (n, done.1)) (same_attrs_step n from mid)) n mid new (ap (result_map (λ done. (n, done.1))) wears))

@@ -1,5 +1,5 @@
 -- The nodes beside the gaps of a list are live, and each gap's font is one of a glyph.
-use Rattle.std.proofs.Common.{◌≡◌, ℕ, ◌-◌, ◌≤◌, List, [], ◌∷◌, ◌++◌, pos, map, slice_get, Bool, true, false, cond, Some, None, refl, sym, ◌∙◌, ap, subst}
+use Rattle.std.proofs.Common.{◌≡◌, ℕ, ◌≤◌, List, [], ◌∷◌, pos, map, slice_get, Bool, true, false, cond, Some, None, refl, ap, subst}
 use Rattle.std.specs.Prelude.{Option, All, is_some, suc, zero}
 use Rattle.std.specs.List.{flat_map, filter_map, cons_option}
 use Rattle.std.specs.Option.{option_map, option_and_then}
@@ -13,7 +13,6 @@ use Rattle.ntx_nodes.specs.declared.field.Field.TheVariants.{Font}
 use Rattle.ntx_nodes.specs.declared.fields.Contents.{Contents}
 use Rattle.ntx_nodes.specs.declared.fields.Contents.TheVariants as contents
 use Rattle.ntx_nodes.specs.declared.node.Node.{Node}
-use Rattle.ntx_nodes.specs.declared.kind.Kind.TheVariants.{Glyph}
 use Rattle.ntx_nodes.specs.Heap.{IsInRange}
 use Rattle.ntx_nodes.specs.Fields.{field_of, kind_of}
 use Rattle.ntx_nodes.proofs.Ranges.{down_to}
@@ -87,7 +86,8 @@ between heap word i j (Some a) (Some b) gap all x y e =
     subst (IsSound heap) (same_Some (record { before = a.name; after = b.name; font = a.font }) gap e) (record { before = first.live; after = second.live; font = first.font })
 
 gap_found : (heap : Heap) (word : List Letter) (i : ℕ) (gap : Gap) → AreLetters heap word → gap_in word i ≡ Some gap → IsSound heap gap
-gap_found heap word i gap all e = between heap word (i - 1) i (slice_get word (i - 1)) (slice_get word i) gap all refl refl e
+gap_found heap word zero gap all e = cc
+gap_found heap word (suc i) gap all e = between heap word i (suc i) (slice_get word i) (slice_get word (suc i)) gap all refl refl e
 
 one_gap : (heap : Heap) (word : List Letter) (i : ℕ) (o : Option Gap) (gaps : List Gap) → AreLetters heap word → gap_in word i ≡ o → All (IsSound heap) gaps → All (IsSound heap) (cons_option o gaps)
 one_gap heap word i None gaps all e rest = rest

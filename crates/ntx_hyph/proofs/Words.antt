@@ -1,8 +1,7 @@
 -- Words as they are read, letter by letter, and what is true of the gaps that are found.
-use Rattle.std.proofs.Common.{◌≡◌, ℕ, zero, suc, ◌+◌, ◌-◌, ◌<◌, ◌≤◌, List, [], ◌∷◌, ◌++◌, length, map, take, get_or, slice_get, Bool, true, false, cond, Some, None, inl, inr, refl, sym, ◌∙◌, ap, subst, append_assoc, arith}
-use Rattle.std.specs.Prelude.{◌⊎◌, Option, All, nat_eq}
+use Rattle.std.proofs.Common.{◌≡◌, ℕ, zero, suc, ◌+◌, ◌-◌, ◌<◌, List, [], ◌∷◌, ◌++◌, length, map, take, get_or, slice_get, true, false, cond, Some, None, inl, inr, refl, sym, ◌∙◌, ap, subst, append_assoc, arith}
+use Rattle.std.specs.Prelude.{Option}
 use Rattle.std.specs.List.{flat_map, filter_map, cons_option}
-use Rattle.std.specs.Option.{option_map, option_and_then}
 use Rattle.std.proofs.lemmas.List.{map-append, append-nil, take_more}
 use Rattle.std.proofs.lemmas.List.Elements.{filter_map-append}
 use Rattle.ntx_num.proofs.Answers.{same_Some}
@@ -70,7 +69,8 @@ ended a (b ∷ word) rest h e =
 
 none_in : (is : List ℕ) → filter_map (gap_in []) is ≡ []
 none_in [] = refl
-none_in (i ∷ is) = none_in is
+none_in (zero ∷ is) = none_in is
+none_in (suc i ∷ is) = none_in is
 
 pub word_ended : (points : List ℕ → List ℕ) (word : List Letter) (rest : List (Option Letter)) → AreOfOneFont word → word_goes_on word rest ≡ false
     → gaps_in points (map Some word ++ rest) ≡ gaps_in_word points word ++ gaps_in points rest

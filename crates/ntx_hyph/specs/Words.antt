@@ -3,7 +3,7 @@
 --     words_of letters        the words of a list, from its nodes as letters, as far as they are letters
 --     gap_in word i           the gap after the first i letters of a word
 --     gaps_in points letters  the gaps of a list in which there is a point, where `points` gives those of a word's codes
-use Rattle.std.specs.Prelude.{ℕ, ◌-◌, nat_eq, Bool, false, if◌then◌else◌, List, [], ◌∷◌, map, slice_get, Option, None, Some}
+use Rattle.std.specs.Prelude.{ℕ, zero, suc, nat_eq, Bool, false, if◌then◌else◌, List, [], ◌∷◌, map, slice_get, Option, None, Some}
 use Rattle.std.specs.List.{flat_map, filter_map}
 use Rattle.std.specs.Option.{option_map, option_and_then}
 use Rattle.std.specs.Char.{is_ascii_alphabetic}
@@ -40,8 +40,10 @@ words_of (None ∷ rest) = words_of rest
 words_of (Some a ∷ rest) = if goes_on a rest then in_front a (words_of rest) else (a ∷ []) ∷ words_of rest
 
 -- ---- gaps
+-- there is none before the first letter
 abbrev pub gap_in : List Letter → ℕ → Option Gap
-gap_in word i = option_and_then (λ a. option_map (λ b. record { before = a.name; after = b.name; font = a.font }) (slice_get word i)) (slice_get word (i - 1))
+gap_in word zero = None
+gap_in word (suc i) = option_and_then (λ a. option_map (λ b. record { before = a.name; after = b.name; font = a.font }) (slice_get word (suc i))) (slice_get word i)
 
 abbrev pub codes_of : List Letter → List ℕ
 codes_of word = map (λ a. a.code) word

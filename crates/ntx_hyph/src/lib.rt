@@ -9,10 +9,12 @@
 #![tactic(auto)]
 
 mod insertion;
+mod laws;
 mod letter;
 mod pass;
 mod reading;
 
+pub use laws::hyphenated_lists_are_whole;
 pub use pass::hyphenate;
 
 #[cfg(test)]

@@ -41,11 +41,11 @@ fn points_of(
     points(alloc, p, &codes, left, right)
 }
 
-/// The gap after the first `i` letters of a word.
+/// The gap after the first `i` letters of a word; there is none before the first letter.
 fn gap_in(word: &[Letter], i: u64) -> Option<Gap>
     ensures { result ≡ gap_in word.now i }
 {
-    let before = word.get(i.saturating_sub(1) as usize)?;
+    let before = word.get(i.checked_sub(1)? as usize)?;
     let after = word.get(i as usize)?;
     Some(Gap {
         before: before.name,

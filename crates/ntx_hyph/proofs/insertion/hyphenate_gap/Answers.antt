@@ -1,11 +1,11 @@
-use Rattle.std.proofs.Common.{◌≡◌, Ok, Err, subst}
+use Rattle.std.proofs.Common.{Ok, Err, subst}
 use Rattle.std.proofs.lemmas.Result.{err_from_is_err_and}
 use Rattle.ntx_nodes.specs.declared.field.Field.TheVariants.{Next, Pre}
 use Rattle.ntx_nodes.specs.declared.fields.Fields.{Fields}
 use Rattle.ntx_hyph.specs.Hyphenation.{made_and_linked}
 use Rattle.ntx_hyph.specs.inner.Ends.{EndsAs}
 use Rattle.ntx_hyph.proofs.Making.{next_taken, pre_taken}
-use Rattle.ntx_hyph.proofs.Hyphens.{disc_stops, hyphen_stops, both_made}
+use Rattle.ntx_hyph.proofs.Hyphens.{disc_stops, hyphen_stops}
 use Rattle.ntx_hyph.proofs.insertion.hyphenate_gap.Goals as goal
 
 pub make_linked-requires-clause-linkable : goal.make_linked-requires-clause-linkable

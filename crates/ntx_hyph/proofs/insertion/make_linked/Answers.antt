@@ -1,4 +1,3 @@
-use Rattle.std.proofs.Common.{rules}
 use Rattle.std.proofs.lemmas.Result.{err_from_is_err_and}
 use Rattle.ntx_hyph.proofs.Making.{link_refused, link_made, can_link}
 use Rattle.ntx_hyph.proofs.insertion.make_linked.Goals as goal
