@@ -11,18 +11,20 @@ struct Draws {
 }
 
 impl Draws {
-    /// The next number below `most`.
-    fn below(&mut self, most: u64) -> u64
-        requires { 0 < most }
-        ensures { result < most }
-    {
+    /// The next number.
+    fn next(&mut self) -> u64 {
         self.last = self.last.wrapping_mul(1103515245).wrapping_add(12345) % (1 << 31);
-        self.last / 65536 % most
+        self.last / 65536
     }
 
     /// A letter from `a` to `z`.
     fn letter(&mut self) -> u8 {
-        b'a' + self.below(26) as u8
+        b'a' + (self.next() % 26) as u8
+    }
+
+    /// A digit from 1 to 5.
+    fn digit(&mut self) -> u8 {
+        b'1' + (self.next() % 5) as u8
     }
 }
 
@@ -30,10 +32,10 @@ impl Draws {
 fn file(alloc: Global, draws: &mut Draws, n: u64) -> Result<Vec<u8>, Fault> {
     let mut bytes = Vec::new(alloc);
     for _ in 0..n {
-        let place = draws.below(5);
+        let place = draws.next() % 5;
         for i in 0..5u64 {
             if i == place {
-                bytes.push(b'1' + draws.below(5) as u8)?;
+                bytes.push(draws.digit())?;
             }
             bytes.push(draws.letter())?;
         }
