@@ -1,0 +1,5 @@
+pub mod Sight
+pub mod Rows
+pub mod Turns
+pub mod Walks
+pub mod Parsing
