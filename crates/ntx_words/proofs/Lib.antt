@@ -3,3 +3,4 @@ pub mod Rows
 pub mod Turns
 pub mod Walks
 pub mod Parsing
+pub mod Texts
