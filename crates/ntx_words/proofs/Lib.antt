@@ -4,3 +4,5 @@ pub mod Turns
 pub mod Walks
 pub mod Parsing
 pub mod Texts
+pub mod Halves
+pub mod Numbers

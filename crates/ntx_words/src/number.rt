@@ -1,27 +1,9 @@
 //! Numbers on the command line.
 
-ghost use Rattle.std.specs.Prelude.{◌≡◌, ◌<◌, ◌≤◌, ◌^◌, length, true};
+ghost use Rattle.std.specs.Prelude.{◌≡◌};
 ghost use Rattle.std.specs.Char.{is_ascii_digit};
 ghost use Rattle.std.specs.List.{list_all};
-ghost use Rattle.std.specs.Str.Parse.{digits_value};
 ghost use Rattle.ntx_words.specs.Number as number;
-
-/// The most digits that a number has.
-const MAX_DIGITS: usize = 10;
-
-/// The number that up to 10 decimal digits write.
-fn value(digits: &[u8]) -> u64
-    requires few { length digits.now ≤ MAX_DIGITS }
-    requires digits { list_all is_ascii_digit digits.now ≡ true }
-    ensures value { result ≡ digits_value 10 digits.now }
-    ensures bound { result < 10 ^ 10 }
-{
-    let mut value = 0;
-    for digit in digits {
-        value = value * 10 + u64::from(*digit - b'0');
-    }
-    value
-}
 
 /// Whether each byte is a decimal digit.
 fn are_digits(bytes: &[u8]) -> bool
@@ -39,14 +21,14 @@ fn is_numeral(digits: &[u8], most: usize) -> bool
 
 /// The number that a text writes with 1 to `most` decimal digits, if it is 1 to `greatest`.
 pub fn number_in(text: &str, most: usize, greatest: u64) -> Option<u64>
-    requires { most ≤ MAX_DIGITS }
     ensures { result ≡ number.number_in most greatest text.now }
 {
-    let digits = text.as_bytes();
-    if !is_numeral(digits, most) {
+    if !is_numeral(text.as_bytes(), most) {
         return None;
     }
-    let number = value(digits);
+    let Ok(number) = text.parse::<u64>() else {
+        return None;
+    };
     if 1 <= number && number <= greatest {
         Some(number)
     } else {
