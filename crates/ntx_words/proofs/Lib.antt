@@ -6,3 +6,4 @@ pub mod Parsing
 pub mod Texts
 pub mod Halves
 pub mod Numbers
+pub mod Lines
