@@ -36,9 +36,11 @@ line_made words files fonts steps paths sizes front back are have = ap₂ made f
   where
     made : List (List ℕ) → List (Option ℤ) → CommandLine
     made p s = record { steps = steps; demo = None; paths = p; sizes = s }
+
     first : paths ≡ paths_of (texts_of words)
     first = are ∙ ap₂ (λ a b. texts_of a ++ map (λ word. (font_of word.now).path) b) front back
         ∙ ap₂ (λ a b. a ++ b) (sym (take-map (λ text. text.now) 4 words)) (sym (fonts_after (λ font. font.path) words))
+
     second : sizes ≡ sizes_of (texts_of words)
     second = have ∙ ap (map (λ word. (font_of word.now).size)) back ∙ sym (fonts_after (λ font. font.size) words)
 

@@ -80,11 +80,14 @@ past_type most greatest text e bound not = go (nat_le 1 (digits_value 10 text)) 
   where
     alone : without_leading_plus text ≡ text
     alone = digits_alone text (all_of_numeral most text e)
+
     refused : digits_value 10 text < 2 ^ 64 → ⊥
     refused small = not (subst (λ t. IsNumeral 10 t × (digits_value 10 t < 2 ^ 64)) (sym alone)
         ((some_of_numeral most text e, all_digits text (all_of_numeral most text e)), small))
+
     high : greatest < digits_value 10 text
     high = elim (cases_lt (digits_value 10 text) (2 ^ 64)) [ inl small ↦ absurd (refused small) | inr large ↦ omega arith ]
+
     go : (b : Bool) → nat_le 1 (digits_value 10 text) ≡ b → None ≡ number_in most greatest text
     go true low = sym (told most greatest (digits_value 10 text) text e refl ∙ rw (low, gt_test (digits_value 10 text) greatest high) refl)
     go false low = sym (told most greatest (digits_value 10 text) text e refl ∙ rw low refl)

@@ -41,10 +41,12 @@ all_kept id other how values (r ∷ rs) differ = go (bytes_eq r.id id) refl (bel
   where
     is_not : bytes_eq r.id id ≡ true → bytes_eq r.id other ≡ false
     is_not e = ap (λ i. bytes_eq i other) ((bytes_eq-Decides r.id id).0 e) ∙ differ
+
     below : (b : Bool) → bytes_eq r.id other ≡ b → all_of other (with_values id how CommandLine values rs) ≡ all_of other rs
         → all_of other (r ∷ with_values id how CommandLine values rs) ≡ all_of other (r ∷ rs)
     below true e rest = rw e refl
     below false e rest = rw e rest
+
     go : (b : Bool) → bytes_eq r.id id ≡ b → all_of other (r ∷ with_values id how CommandLine values rs) ≡ all_of other (r ∷ rs)
         → all_of other (with_values id how CommandLine values (r ∷ rs)) ≡ all_of other (r ∷ rs)
     go true e rest = let n = is_not e in rw (e, n) refl
@@ -92,6 +94,7 @@ parts_held steps paths rows holds = rw (first, holds.all) refl
     one : (o : Option (List ℕ)) → option_and_then (λ values. slice_get values 0) (option_map (λ v. v ∷ []) o) ≡ o
     one None = refl
     one (Some v) = refl
+
     first : first_of (codes "steps") rows ≡ steps
     first = first_of_all (codes "steps") rows ∙ ap (option_and_then (λ values. slice_get values 0)) holds.value ∙ one steps
 

@@ -57,8 +57,10 @@ long_named z zs same = go (has_byte 61 (z ∷ zs)) refl
   where
     name : before_first is_equals (z ∷ zs) ≡ codes "steps"
     name = sym ((bytes_eq-Decides (codes "steps") (before_first is_equals (z ∷ zs))).0 same)
+
     after : after_first is_equals (45 ∷ 45 ∷ z ∷ zs) ≡ after_first is_equals (z ∷ zs)
     after = after_next 45 (45 ∷ z ∷ zs) refl ∙ after_next 45 (z ∷ zs) refl
+
     go : (b : Bool) → has_byte 61 (z ∷ zs) ≡ b → Seen (45 ∷ 45 ∷ z ∷ zs) (if b then option_with (after_first is_equals (45 ∷ 45 ∷ z ∷ zs)) else option)
     go true e = (refl, rw (name, e, after) refl)
     go false e = (refl, rw (name, e) refl)
@@ -68,6 +70,7 @@ long_seen z zs = rw steps (go (bytes_eq (codes "steps") (before_first is_equals 
   where
     steps : is_steps (45 ∷ 45 ∷ z ∷ zs) ≡ bytes_eq (codes "steps") (before_first is_equals (z ∷ zs))
     steps = ap (bytes_eq (codes "--steps")) (before_next 45 (45 ∷ z ∷ zs) refl ∙ ap (λ t. 45 ∷ t) (before_next 45 (z ∷ zs) refl))
+
     go : (b : Bool) → bytes_eq (codes "steps") (before_first is_equals (z ∷ zs)) ≡ b
         → Seen (45 ∷ 45 ∷ z ∷ zs) (if b then steps_kind (45 ∷ 45 ∷ z ∷ zs) else unknown)
     go true e = long_named z zs e
@@ -91,6 +94,7 @@ first_char x bs utf8 = go (chars (x ∷ bs)) refl
   where
     spelled : encodes (45 ∷ chars (x ∷ bs)) ≡ 45 ∷ x ∷ bs
     spelled = subst (λ t. encodes t ≡ 45 ∷ x ∷ bs) (after_hyphen x bs) (encodes-chars (45 ∷ x ∷ bs) utf8)
+
     go : (cs : List ℕ) → chars (x ∷ bs) ≡ cs → (c : ℕ) × (slice_get (chars (x ∷ bs)) 0 ≡ Some c)
     go [] e =
         let alone : encodes (45 ∷ []) ≡ 45 ∷ x ∷ bs = subst (λ t. encodes (45 ∷ t) ≡ 45 ∷ x ∷ bs) e spelled in
@@ -102,6 +106,7 @@ steps_not y ys e = go (is_equals y) refl
   where
     other : nat_eq 45 y ≡ false
     other = grind (arith, nat_tests)
+
     go : (b : Bool) → is_equals y ≡ b → is_steps (45 ∷ y ∷ ys) ≡ false
     go true is = rw (before_next 45 (y ∷ ys) refl, is) refl
     go false is = rw (before_next 45 (y ∷ ys) refl, before_next y ys is, other) refl
@@ -121,6 +126,7 @@ steps_none x xs e = go (is_equals x) refl
   where
     other : nat_eq 45 x ≡ false
     other = grind (arith, nat_tests)
+
     go : (b : Bool) → is_equals x ≡ b → is_steps (x ∷ xs) ≡ false
     go true is = rw is refl
     go false is = rw (before_next x xs is, other) refl
@@ -137,9 +143,11 @@ hyphen_seen y ys utf8 = go (y == 45) refl
   where
     is : (y == 45) ≡ true → y ≡ 45
     is e = grind (arith, nat_tests)
+
     two : (zs : List ℕ) → Seen (45 ∷ 45 ∷ zs) (kind_of (45 ∷ 45 ∷ zs))
     two [] = refl
     two (z ∷ zs) = long_seen z zs
+
     go : (b : Bool) → (y == 45) ≡ b → Seen (45 ∷ y ∷ ys) (kind_of (45 ∷ y ∷ ys))
     go true e = subst (λ w. Seen (45 ∷ w ∷ ys) (kind_of (45 ∷ w ∷ ys))) (sym (is e)) (two ys)
     go false e = short_seen y ys e utf8
@@ -151,9 +159,11 @@ seen (x ∷ xs) utf8 = go (x == 45) refl xs utf8
   where
     is : (x == 45) ≡ true → x ≡ 45
     is e = grind (arith, nat_tests)
+
     hyphen : (zs : List ℕ) → IsUtf8 (45 ∷ zs) → Seen (45 ∷ zs) (kind_of (45 ∷ zs))
     hyphen [] u = (refl, refl, refl)
     hyphen (z ∷ zs) u = hyphen_seen z zs u
+
     go : (b : Bool) → (x == 45) ≡ b → (zs : List ℕ) → IsUtf8 (x ∷ zs) → Seen (x ∷ zs) (kind_of (x ∷ zs))
     go true e zs u = subst (λ w. Seen (w ∷ zs) (kind_of (w ∷ zs))) (sym (is e)) (hyphen zs (subst (λ w. IsUtf8 (w ∷ zs)) (is e) u))
     go false e zs u = plain_seen x zs e

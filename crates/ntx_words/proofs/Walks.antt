@@ -128,7 +128,7 @@ trailing [] waiting pending rows steps paths none holds =
 trailing (word ∷ words) waiting pending rows steps paths none holds =
     let now = settled_rows rules pending rows in
     goes_on (at waiting true pending rows) (at positional true (Some (codes "paths", word ∷ [])) now) word words
-        (trailing_turn waiting pending rows word ∙ none) (trailing_walked waiting pending rows word)
+    (trailing_turn waiting pending rows word ∙ none) (trailing_walked waiting pending rows word)
     ∙ trailing words positional (Some (codes "paths", word ∷ [])) now steps (paths ++ word ∷ []) (path_passes word now) (path_held steps paths now word holds)
     ∙ ap (λ t. Some (record { steps = steps; paths = t })) (append_assoc paths (word ∷ []) words)
 
@@ -159,11 +159,12 @@ rests_next word words utf8 rests wants b pending rows steps paths none holds = b
   where
     now : List Row
     now = settled_rows rules pending rows
+
     by_kind : (kind : Kind) → Seen word kind → walk_ending (at (rest b) false pending rows) (word ∷ words)
         ≡ joined steps paths (parts_by false kind word words (λ next. parts_from next words))
     by_kind plain s =
         goes_on (at (rest b) false pending rows) (at positional false (Some (codes "paths", word ∷ [])) now) word words
-            (plain_turn b pending rows word s ∙ none) (plain_walked b pending rows word s)
+        (plain_turn b pending rows word s ∙ none) (plain_walked b pending rows word s)
         ∙ rests true (Some (codes "paths", word ∷ [])) now steps (paths ++ word ∷ []) (path_passes word now) (path_held steps paths now word holds)
         ∙ join_path steps paths word (parts_from false words)
     by_kind option s =
@@ -173,11 +174,12 @@ rests_next word words utf8 rests wants b pending rows steps paths none holds = b
       where
         turn : turn_fault top [] (at (rest b) false pending rows) word ≡ use_fault false steps_built (v ∷ []) now
         turn = with_turn b pending rows word v s ∙ ap (λ f. or_else f (use_fault false steps_built (v ∷ []) now)) none
+
         with_value : (given : Option Text) → Holds given paths now → walk_ending (at (rest b) false pending rows) (word ∷ words)
             ≡ joined given paths (option_and_then (with_steps v) (parts_from false words))
         with_value None held =
             goes_on (at (rest b) false pending rows) (at idle false None (used steps_built (v ∷ []) now)) word words
-                (turn ∙ value_passes paths v now held) (with_walked b pending rows word v s)
+            (turn ∙ value_passes paths v now held) (with_walked b pending rows word v s)
             ∙ rests false None (used steps_built (v ∷ []) now) (Some v) paths refl (value_held paths now v held)
         with_value (Some first) held =
             fails_at (at (rest b) false pending rows) word words _ _ (turn ∙ second_fails paths first v now held)
@@ -212,6 +214,7 @@ both [] utf8 = (rests, wants)
     rests b pending rows steps paths none holds =
         ended (at (rest b) false pending rows) steps paths none holds
         ∙ ap (λ t. Some (record { steps = steps; paths = t })) (sym (append-nil paths)) ∙ sym (join_rest steps paths [])
+
     wants : Wants []
     wants rows steps paths holds = ends (wanting rows) ∙ sym (join_none steps paths)
 both (word ∷ words) utf8 =

@@ -23,9 +23,7 @@ pub const PATHS: &str = "paths";
 fn command<'a>(alloc: Global) -> Result<Command<'a>, NoMemory>
     ensures { IfOk result (λ command. app_of command ≡ ntx_app) }
 {
-    let steps = Arg::new(alloc, STEPS)
-        .long(STEPS)
-        .action(ArgAction::Set);
+    let steps = Arg::new(alloc, STEPS).long(STEPS).action(ArgAction::Set);
     let paths = Arg::new(alloc, PATHS).action(ArgAction::Append);
     let command = Command::new(alloc, "ntx")
         .no_binary_name(true)

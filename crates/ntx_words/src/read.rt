@@ -88,11 +88,7 @@ fn line_with(alloc: Global, steps: u64, words: &[&str]) -> Result<Words, NoMemor
 }
 
 /// What the option's value and the paths ask for.
-fn line_of(
-    alloc: Global,
-    value: Option<&str>,
-    words: &[&str],
-) -> Result<Words, Fail<BadWords>>
+fn line_of(alloc: Global, value: Option<&str>, words: &[&str]) -> Result<Words, Fail<BadWords>>
     ensures { Answers (result_map line_seen result) (line.or_bad_words (line.line_of (parts_given value.entry words.now))) }
 {
     if words.len() < FILES || words.len() > FILES + MAX_FONTS {
