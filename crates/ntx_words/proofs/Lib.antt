@@ -7,3 +7,4 @@ pub mod Texts
 pub mod Halves
 pub mod Numbers
 pub mod Lines
+pub mod Forms

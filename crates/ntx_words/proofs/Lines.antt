@@ -1,7 +1,6 @@
 -- What paths and a number of steps ask for.
 use Rattle.std.proofs.Common.{◌≡◌, ◌∙◌, ℕ, ◌<◌, ◌≤◌, ◌&&◌, Bool, true, false, List, [], ◌∷◌, ◌++◌, map, length, take, drop, Option, None, Some, Result, Ok, Err, refl, sym, ap, ap₂, subst, arith, Bor, codes}
 use Rattle.std.specs.Prelude.{ℤ, nat_le, option_map, option_and_then, unwrap_or, if◌then◌else◌}
-use Rattle.std.proofs.lemmas.Bool.Decides.{nat_tests}
 use Rattle.std.proofs.lemmas.List.{take-map, drop-map, length-map}
 use Rattle.clap.specs.Words.{found_of, first_value, matched_of, raw_values}
 use Rattle.clap.specs.declared.parser.matches.ArgMatches.{ArgMatches}
@@ -14,6 +13,7 @@ use Rattle.ntx_words.specs.Parts.{Parts, parts_of}
 use Rattle.ntx_words.specs.CommandLine.{CommandLine, command_line, is_count, line_of, line_with, or_bad_words, paths_of, sizes_of, steps_of}
 use Rattle.ntx_words.specs.inner.Clap.{parts_found}
 use Rattle.ntx_words.specs.inner.Views.{parts_given, texts_of}
+use Rattle.ntx_words.proofs.Numbers.{gt_test, le_test}
 
 -- ---- lists
 
@@ -45,12 +45,6 @@ line_made words files fonts steps paths sizes front back are have = ap₂ made f
     second = have ∙ ap (map (λ word. (font_of word.now).size)) back ∙ sym (fonts_after (λ font. font.size) words)
 
 -- ---- refusals
-
-le_test : (a b : ℕ) → a ≤ b → nat_le a b ≡ true
-le_test a b h = grind (arith, nat_tests)
-
-gt_test : (a b : ℕ) → b < a → nat_le a b ≡ false
-gt_test a b h = grind (arith, nat_tests)
 
 pub too_few : (value : Option (Bor (List ℕ))) (words : List (Bor (List ℕ))) → length words < 4
     → or_bad_words (line_of (parts_given value words)) ≡ Err (record {})

@@ -42,9 +42,6 @@ some_of_numeral most text e =
     let one : nat_le 1 (length text) ≡ true = both_left (nat_le 1 (length text)) _ e in
     grind (arith, nat_tests)
 
-pub no_number : (most greatest : ℕ) (text : List ℕ) → is_numeral most text ≡ false → None ≡ number_in most greatest text
-no_number most greatest text e = rw e refl
-
 told : (most greatest n : ℕ) (text : List ℕ) → is_numeral most text ≡ true → n ≡ digits_value 10 text
     → number_in most greatest text ≡ (if nat_le 1 n && nat_le n greatest then Some n else None)
 told most greatest n text e is = rw (e, ← is) refl
@@ -52,10 +49,10 @@ told most greatest n text e is = rw (e, ← is) refl
 same_value : (most n : ℕ) (text : List ℕ) → is_numeral most text ≡ true → n ≡ digits_value 10 (without_leading_plus text) → n ≡ digits_value 10 text
 same_value most n text e is = is ∙ ap (digits_value 10) (digits_alone text (all_of_numeral most text e))
 
-le_test : (a b : ℕ) → a ≤ b → nat_le a b ≡ true
+pub le_test : (a b : ℕ) → a ≤ b → nat_le a b ≡ true
 le_test a b h = grind (arith, nat_tests)
 
-gt_test : (a b : ℕ) → b < a → nat_le a b ≡ false
+pub gt_test : (a b : ℕ) → b < a → nat_le a b ≡ false
 gt_test a b h = grind (arith, nat_tests)
 
 pub in_range : (most greatest n : ℕ) (text : List ℕ) → is_numeral most text ≡ true → n ≡ digits_value 10 (without_leading_plus text)

@@ -17,7 +17,7 @@ use Rattle.ntx_words.specs.CommandLine.{or_bad_words}
 use Rattle.ntx_words.specs.Parts.{Parts, parts_of}
 use Rattle.ntx_words.specs.inner.Clap.{ntx_app, parts_found}
 use Rattle.ntx_words.proofs.Rows.{parts_in, rules, steps_built, paths_built}
-use Rattle.ntx_words.proofs.Turns.{top}
+use Rattle.ntx_words.proofs.Turns.{nothing_else, top}
 use Rattle.ntx_words.proofs.Walks.{ending, last_held, walk_ending, walk_reads}
 
 -- ---- nothing but the walk and its end can fail
@@ -39,10 +39,6 @@ no_default rows = go (has_row (codes "steps") rows) (has_row (codes "paths") (wi
     go true false e f = rw (f, e) refl
     go false true e f = rw (f, e) refl
     go false false e f = rw (f, e) refl
-
-nothing_else : (kinds : Kinds) → or_else kinds [] ≡ kinds
-nothing_else [] = refl
-nothing_else (k ∷ ks) = refl
 
 -- the faults of the walk and of its end
 abbrev walk_kinds : List Text → Kinds

@@ -19,9 +19,6 @@ rules = (built ntx_app).top.rules
 
 -- ---- rows of one id
 
-abbrev values_row : List ℕ → Reading → List (List ℕ) → Row
-values_row id how values = record { id = id; values = values; count = None; source = Some CommandLine; reading = how }
-
 -- values of an id join those that it has
 pub all_joined : (id : List ℕ) (how : Reading) (values : List (List ℕ)) (rows : List Row) → bytes_eq id id ≡ true
     → all_of id (with_values id how CommandLine values rows) ≡ Some (unwrap_or (all_of id rows) [] ++ values)
@@ -103,9 +100,6 @@ steps_built = filled steps_rule
 
 abbrev pub paths_built : Rule
 paths_built = with_index 1 (filled paths_rule)
-
-pub rules_are : rules ≡ steps_built ∷ paths_built ∷ []
-rules_are = refl
 
 -- one more path
 pub path_held : (steps : Option (List ℕ)) (paths : List (List ℕ)) (rows : List Row) (word : List ℕ) → Holds steps paths rows

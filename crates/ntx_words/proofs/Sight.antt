@@ -12,13 +12,13 @@ use Rattle.ntx_words.specs.Kind.{Kind, option, option_with, last, unknown, plain
 
 -- ---- the parts of a word around its first `=`
 
-before_next : (x : ℕ) (xs : List ℕ) → is_equals x ≡ false → before_first is_equals (x ∷ xs) ≡ x ∷ before_first is_equals xs
+pub before_next : (x : ℕ) (xs : List ℕ) → is_equals x ≡ false → before_first is_equals (x ∷ xs) ≡ x ∷ before_first is_equals xs
 before_next x xs e =
     let n = position_or_len is_equals xs in
     let one : 1 + n ≡ suc n = omega arith in
     rw (e, one) refl
 
-after_next : (x : ℕ) (xs : List ℕ) → is_equals x ≡ false → after_first is_equals (x ∷ xs) ≡ after_first is_equals xs
+pub after_next : (x : ℕ) (xs : List ℕ) → is_equals x ≡ false → after_first is_equals (x ∷ xs) ≡ after_first is_equals xs
 after_next x xs e =
     let n = position_or_len is_equals xs in
     let one : 1 + n + 1 ≡ suc (n + 1) = omega arith in
@@ -37,9 +37,6 @@ IsShort word = (x : ℕ) × (xs : List ℕ) × (c : ℕ) × (long_of word ≡ No
 pub data Unknown (word : List ℕ) : Type 0 where
   long : IsUnknownLong word → Unknown word
   short : IsShort word → Unknown word
-
-abbrev is_last : List ℕ → Bool
-is_last word = bytes_eq word (45 ∷ 45 ∷ [])
 
 -- What `clap` sees in a word of this kind.
 abbrev pub Seen : List ℕ → Kind → Type 0
@@ -131,7 +128,7 @@ steps_none x xs e = go (is_equals x) refl
     go true is = rw is refl
     go false is = rw (before_next x xs is, other) refl
 
-plain_kind : (x : ℕ) (xs : List ℕ) → (x == 45) ≡ false → kind_of (x ∷ xs) ≡ plain
+pub plain_kind : (x : ℕ) (xs : List ℕ) → (x == 45) ≡ false → kind_of (x ∷ xs) ≡ plain
 plain_kind x [] e = rw (steps_none x [] e, e) refl
 plain_kind x (y ∷ ys) e = rw (steps_none x (y ∷ ys) e, e) refl
 

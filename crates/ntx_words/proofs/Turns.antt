@@ -43,7 +43,7 @@ and_false : (b : Bool) → (b && false) ≡ false
 and_false true = refl
 and_false false = refl
 
-nothing_else : (kinds : Kinds) → or_else kinds [] ≡ kinds
+pub nothing_else : (kinds : Kinds) → or_else kinds [] ≡ kinds
 nothing_else [] = refl
 nothing_else (k ∷ ks) = refl
 

@@ -2,6 +2,8 @@
 pub mod Kind
 -- the option's value and the paths that words give
 pub mod Parts
+-- the same, by the order in which the words are written
+pub mod Form
 -- a number of steps or a size
 pub mod Number
 -- a font and its size

@@ -18,8 +18,8 @@ with_path word parts = record { steps = parts.steps; paths = word ∷ parts.path
 abbrev pub with_steps : List ℕ → Parts → Option Parts
 with_steps value parts = if is_some parts.steps then None else Some (record parts { steps = Some value })
 
--- What a word of this kind and the words after it say; `further` is what those after it say by themselves, once a value is wanted
--- first and once it is not.
+-- What a word of this kind and the words after it say. `wants` holds after `--steps`, whose value is then the next word; a word that begins with
+-- a hyphen is no value, except the hyphen alone. `further` says what the words after this one say, wanting a value or not.
 abbrev pub parts_by : Bool → Kind → List ℕ → List (List ℕ) → (Bool → Option Parts) → Option Parts
 parts_by true plain word words further = option_and_then (with_steps word) (further false)
 parts_by true _ word words further = None
@@ -29,8 +29,7 @@ parts_by false (option_with value) word words further = option_and_then (with_st
 parts_by false last word words further = Some (record { steps = None; paths = words })
 parts_by false unknown word words further = None
 
--- What the words say from here on. `wants` holds after `--steps`, whose value is the next word; a word that begins with a hyphen
--- is no value, except the hyphen alone. None: the words are not of the form.
+-- What the words say from here on. None: they are not of the form.
 unfoldable pub parts_from : Bool → List (List ℕ) → Option Parts
 parts_from true [] = None
 parts_from false [] = Some no_parts
