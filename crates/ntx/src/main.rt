@@ -1,22 +1,25 @@
-//! The program `ntx DOC SCRIPT PATTERNS DVI`: opens the files that the command line names and typesets the document.
+//! The program `ntx [--steps N] DOC SCRIPT PATTERNS DVI`: opens the files that the command line names and typesets the document.
 //!
-//! It stands on `ntx_io` and `ntx_run`. Of `main` nothing is proved: neither which files are opened, nor that [`ntx_run::run`] is called,
+//! It stands on `ntx_io`, `ntx_words` and `ntx_run`. Of `main` nothing is proved: neither which files are opened, nor that [`ntx_run::run`] is called,
 //! nor that the process ends with the number of the run's status. Of its parts it is proved that `number` gives each status its number,
-//! that `words` stops only if memory runs out, and that in `typeset` words that are not four paths end with `Words`, `WriteFault` or
-//! `Memory`, and no others with `Words`. Files and standard output expose no bytes, so that over them the contract of `run` speaks of the
+//! that `words` stops only if memory runs out, and that in `typeset` words that are not of the form of the command line, or name a font,
+//! end with `Words`, `WriteFault` or `Memory`, and no others with `Words`. Files and standard output expose no bytes, so that over them the contract of `run` speaks of the
 //! status, the place, the order of reading and the counts of faults, and not of what is read or written. What the built program does over
 //! files is tested by `checks/program.sh`, at the top of the repository.
 #![tactic(auto)]
 
 ghost use Rattle.std.specs.Prelude.{◌≡◌, ◌⊎◌, false, map, string_bytes, IfErr};
-ghost use Rattle.ntx_run.specs.Run.{are_paths};
+ghost use Rattle.ntx_words.specs.CommandLine.{command_line};
+ghost use Rattle.ntx_run.specs.Run.{names_no_font};
 ghost use Rattle.ntx.specs.Number.{number_of};
 
 #[cfg(test)]
 mod tests;
 
 use ntx_io::{Feed, FileSink, FileSource, MemSource, NullSink, StdoutSink};
-use ntx_run::{Outcome, Status, are_paths, run};
+use ntx_num::Fail;
+use ntx_run::{Outcome, Status, run};
+use ntx_words::read_words;
 use std::alloc::Global;
 use std::io::{self, ErrorKind};
 use std::process::ExitCode;
@@ -66,15 +69,25 @@ impl<F: Drop> Standard<F> {
 /// Typesets the document that the words name. If they name none, no file is opened. If the standard descriptors cannot be taken, no
 /// document is typeset, and the status is that of a write fault.
 fn typeset<R: Files + Print + Alloc<A = Global>>(rt: &R, words: &[String]) -> Outcome
-    ensures refused { are_paths (map string_bytes words.now) ≡ false →
+    ensures refused { names_no_font (command_line (map string_bytes words.now)) ≡ false →
         (result.status ≡ Status.Words) ⊎ ((result.status ≡ Status.WriteFault) ⊎ (result.status ≡ Status.Memory)) }
-    ensures only { result.status ≡ Status.Words → are_paths (map string_bytes words.now) ≡ false }
+    ensures only { result.status ≡ Status.Words → names_no_font (command_line (map string_bytes words.now)) ≡ false }
 {
     let alloc = rt.alloc();
     let mut fonts: Vec<Box<dyn Feed>> = Vec::new(alloc);
     let mut lines = StdoutSink::new(rt);
-    match words {
-        [doc, script, patterns, dvi] if are_paths(words) => {
+    let paths = match read_words(alloc, words) {
+        Ok(line) if line.sizes.is_empty() => line.paths,
+        Ok(_) | Err(Fail::Is(_)) => Vec::new(alloc),
+        Err(Fail::NoMemory) => {
+            return Outcome {
+                status: Status::Memory,
+                place: None,
+            };
+        }
+    };
+    match paths.as_slice() {
+        [doc, script, patterns, dvi] => {
             let Ok(_standard) = Standard::taken(rt) else {
                 return Outcome {
                     status: Status::WriteFault,

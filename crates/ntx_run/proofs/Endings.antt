@@ -266,6 +266,21 @@ module _ (words : List (List ℕ)) (before after : Outside) where
   write_ends outcome unfinished rose cut accepted none =
       subst RunsTo (sym none.ended) (write_breaks (unfinished_breaks unfinished none.same) (inl (record { rose = rose; cut = cut; lines = prints_nothing none.same; accepted = accepted })))
 
+  -- Memory ran out before anything was read or written.
+  pub nothing_ends : (outcome : Outcome) → AreReadInOrder words before.inputs after.inputs → after.inputs ≡ before.inputs → after.dvi ≡ before.dvi → HasNoLine stop.Memory before.lines after.lines outcome → RunsTo outcome
+  nothing_ends outcome order same same_dvi none =
+      subst RunsTo (sym none.ended) (memory_breaks (record {
+        order = order;
+        words_first = λ e. (same, same_dvi);
+        off = inl (
+          ap input_counts same,
+          λ bytes exposes. record {
+            dvi = subst (λ o. AddsPrefix before.dvi.taken o.taken (run_of words bytes).dvi) (sym same_dvi) (adds_no_prefix before.dvi.taken (run_of words bytes).dvi);
+            lines = no_line_prefix (lines_of (run_of words bytes)) none.same;
+          },
+        );
+      }) (ap (λ o. o.faults) same_dvi, ap (λ o. o.faults) none.same))
+
   pub memory_ends : (outcome : Outcome) → IsUnfinished → after.dvi.faults ≡ before.dvi.faults → HasNoLine stop.Memory before.lines after.lines outcome → RunsTo outcome
   memory_ends outcome unfinished kept none =
       subst RunsTo (sym none.ended) (memory_breaks (unfinished_breaks unfinished none.same) (kept, ap (λ o. o.faults) none.same))

@@ -3,13 +3,14 @@ use Rattle.std.proofs.Common.{◌≡◌, ℕ, Bool, List, [], ◌∷◌, map, So
 use Rattle.std.specs.Prelude.{IsTrue, ◌==◌, ◌&&◌, length}
 use Rattle.std.proofs.lemmas.List.{length-map}
 use Rattle.ntx_num.specs.Answer.{result_and_then}
+use Rattle.ntx_words.specs.CommandLine.{command_line}
 use Rattle.ntx_io.specs.Outside.{Input, NamedInput}
 use Rattle.ntx_doc.specs.declared.command.Command.{Command}
 use Rattle.ntx_run.specs.declared.stop.StopReason.{StopReason}
 use Rattle.ntx_run.specs.declared.stop.StopReason.TheVariants as stop
 use Rattle.ntx_run.specs.declared.outcome.Which.{Which}
 use Rattle.ntx_run.specs.declared.outcome.Which.TheVariants as which
-use Rattle.ntx_run.specs.Run.{InputBytes, read_document, read_empty, read_script, read_patterns, read_inputs, are_paths, fits_form}
+use Rattle.ntx_run.specs.Run.{InputBytes, read_document, read_empty, read_script, read_patterns, read_inputs, names_no_font, fits_form}
 use Rattle.ntx_run.specs.Outside.{Inputs, names_of, in_turn, input_counts, Exposes, AreAtEnd, Accepts, IsAccepted, AreReadInTurn, AreReadInOrder, FailsAt}
 use Rattle.ntx_run.specs.inner.Parts.{IsRefusalOf, IsRead, Sources, ReadsInputs, AllRead, AtDocument, AtScript, AtPatterns}
 
@@ -30,10 +31,10 @@ same_names inputs bytes exposes =
     ∙ firsts (λ font. font.name) (λ font. Some font.bytes) bytes.fonts
 
 -- The test of the words, and of the number of feeds, is the one of the words and the fonts' names.
-pub words_fit : {F : Type 0} (words : List (List ℕ)) (feeds : List F) (font : F → NamedInput) (count : ℕ) (result expected : Bool) → result ≡ (are_paths words && count == 0) → count ≡ length feeds → result ≡ expected → fits_form words (map (λ f. f.name) (map font feeds)) ≡ expected
+pub words_fit : {F : Type 0} (words : List (List ℕ)) (feeds : List F) (font : F → NamedInput) (count : ℕ) (result expected : Bool) → result ≡ (names_no_font (command_line words) && count == 0) → count ≡ length feeds → result ≡ expected → fits_form words (map (λ f. f.name) (map font feeds)) ≡ expected
 unfolding fits_form
 words_fit words feeds font count result expected is counts e =
-    simp (length-map) (sym (ap (λ n. are_paths words && n == 0) counts) ∙ sym is ∙ e)
+    simp (length-map) (sym (ap (λ n. names_no_font (command_line words) && n == 0) counts) ∙ sym is ∙ e)
 
 -- ---- what is accepted
 

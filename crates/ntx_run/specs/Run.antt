@@ -1,8 +1,9 @@
 -- A whole run as a function of the words of the command line, the names of the fonts' feeds and the bytes of the inputs: its status, its place,
 -- the bytes of its DVI file and the lines that it prints.
-use Rattle.std.specs.Prelude.{ℕ, ◌^◌, ◌==◌, ◌-◌, nat_lt, ◌&&◌, ◌||◌, not, Bool, true, if◌then◌else◌, List, [], ◌∷◌, ◌++◌, map, length, Option, None, Result, Ok, Err}
-use Rattle.std.specs.List.{list_all}
+use Rattle.std.specs.Prelude.{ℕ, ◌^◌, ◌==◌, ◌-◌, nat_lt, ◌&&◌, Bool, false, if◌then◌else◌, List, [], ◌∷◌, ◌++◌, map, length, Option, None, Result, Ok, Err}
 use Rattle.ntx_num.specs.Answer.{result_and_then}
+use Rattle.ntx_words.specs.declared.words.BadWords.{BadWords}
+use Rattle.ntx_words.specs.CommandLine.{CommandLine, command_line}
 use Rattle.ntx_doc.specs.declared.command.Command.{Command}
 use Rattle.ntx_doc.specs.declared.fault.DocFault.{DocFault}
 use Rattle.ntx_doc.specs.declared.fault.DocWhy.TheVariants as doc_why
@@ -44,18 +45,14 @@ lines_of ending = ending.printed ++ ending.fault_line
 
 -- ---- words
 
--- A word that names a file: it does not begin with a hyphen, or it is the hyphen alone.
-abbrev pub is_path : List ℕ → Bool
-is_path [] = true
-is_path (byte ∷ bytes) = not (byte == 45) || length bytes == 0
+-- The words are of the form of the command line, and name no font.
+abbrev pub names_no_font : Result CommandLine BadWords → Bool
+names_no_font (Ok line) = length line.sizes == 0
+names_no_font (Err refusal) = false
 
--- The words are the paths of the document, the script, the patterns and the DVI file.
-abbrev pub are_paths : List (List ℕ) → Bool
-are_paths words = length words == 4 && list_all is_path words
-
--- The words are four paths, and there are no fonts.
+-- The words name as many fonts as there are feeds: none.
 unfoldable pub fits_form : List (List ℕ) → List (List ℕ) → Bool
-fits_form words names = are_paths words && length names == 0
+fits_form words names = names_no_font (command_line words) && length names == 0
 
 -- ---- inputs
 

@@ -20,4 +20,3 @@ mod words;
 
 pub use outcome::{Outcome, Place, Status, Which};
 pub use program::run;
-pub use words::are_paths;

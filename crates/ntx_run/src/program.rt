@@ -36,7 +36,8 @@ fn report<L: Sink>(alloc: Global, why: StopReason, lines: &mut L) -> Outcome
 ///
 /// # Refusals
 ///
-/// - `Words`: the words are not four paths ([`are_paths`](crate::are_paths)), or there is any feed in `fonts`, whatever the words are;
+/// - `Words`: [`read_words`](ntx_words::read_words) refuses the words, they name a font, or there is any feed in `fonts`, whatever the
+///   words are;
 /// - `Document`: the document has more than 2^24 bytes, with line 0 and `Size`, or `read_doc` refuses it, with its fault;
 /// - `Script`: the script is not empty, with line 0 and `Size`;
 /// - `Patterns`: the patterns are not empty;
@@ -61,8 +62,10 @@ pub fn run<D: Source, S: Source, P: Source, O: Sink, L: Sink>(
         result.status result.place }
 {
     let feeds = fonts.as_slice();
-    if !fits_form(words, feeds.len()) {
-        return report(alloc, StopReason::Words, lines);
+    match fits_form(alloc, words, feeds.len()) {
+        Ok(true) => {}
+        Ok(false) => return report(alloc, StopReason::Words, lines),
+        Err(_no_memory) => return report(alloc, StopReason::Memory, lines),
     }
     let commands = match read_inputs(alloc, doc, script, patterns) {
         Ok(commands) => commands,
