@@ -1,5 +1,5 @@
 -- The form of a command line by the order of its words, and by what each word is.
-use Rattle.std.proofs.Common.{◌≡◌, ◌∙◌, ℕ, ◌+◌, ◌<◌, ◌==◌, ◌||◌, Bool, true, false, zero, suc, List, [], ◌∷◌, ◌++◌, Option, None, Some, refl, sym, ap, ap₂, subst, arith, codes, append_assoc, append-nil, true≢false}
+use Rattle.std.proofs.Common.{◌≡◌, ◌∙◌, ℕ, ◌==◌, ◌||◌, Bool, true, false, zero, suc, List, [], ◌∷◌, ◌++◌, Option, None, Some, refl, sym, ap, ap₂, subst, arith, codes, append_assoc}
 use Rattle.std.specs.Prelude.{option_map, option_and_then, is_some, unwrap_or, if◌then◌else◌, ◌↔◌}
 use Rattle.std.specs.List.{All, list_any, before_first, after_first}
 use Rattle.std.specs.Str.{bytes_eq}

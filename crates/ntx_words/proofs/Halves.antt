@@ -1,5 +1,5 @@
 -- A word at its last `@`.
-use Rattle.std.proofs.Common.{◌≡◌, ◌∙◌, ℕ, ◌==◌, Bool, true, false, List, [], ◌∷◌, ◌++◌, Option, None, Some, length, take, drop, refl, sym, ap, subst, arith, lit<, zero, suc}
+use Rattle.std.proofs.Common.{◌≡◌, ◌∙◌, ℕ, ◌==◌, false, List, [], ◌∷◌, ◌++◌, None, Some, take, drop, refl, sym, ap, arith, lit<, suc}
 use Rattle.std.specs.Prelude.{◌≢◌, All}
 use Rattle.std.specs.Str.{NoCharPasses}
 use Rattle.std.specs.Str.Pattern.{HasCharAt}
@@ -7,7 +7,7 @@ use Rattle.std.proofs.lemmas.Bool.Decides.{nat_tests}
 use Rattle.std.proofs.lemmas.List.{take-append-drop}
 use Rattle.std.proofs.lemmas.List.Elements.{All-from_get_or}
 use Rattle.std.proofs.lemmas.Str.Pattern.{NoCharPasses-char, drop_at_char}
-use Rattle.ntx_words.specs.Font.{Halves, halves_of, halves_by}
+use Rattle.ntx_words.specs.Font.{halves_of, halves_by}
 
 others_only : (word : List ℕ) → NoCharPasses (λ d. d == 64) word → All (λ byte. byte ≢ 64) word
 others_only word none = All-from_get_or (λ byte. byte ≢ 64) word 0 (λ i within. NoCharPasses-char 64 word i none (lit< tt) within)

@@ -1,6 +1,6 @@
 -- What paths and a number of steps ask for.
-use Rattle.std.proofs.Common.{◌≡◌, ◌∙◌, ℕ, ◌<◌, ◌≤◌, ◌&&◌, Bool, true, false, List, [], ◌∷◌, ◌++◌, map, length, take, drop, Option, None, Some, Result, Ok, Err, refl, sym, ap, ap₂, subst, arith, Bor, codes}
-use Rattle.std.specs.Prelude.{ℤ, nat_le, option_map, option_and_then, unwrap_or, if◌then◌else◌}
+use Rattle.std.proofs.Common.{◌≡◌, ◌∙◌, ℕ, ◌<◌, ◌≤◌, List, [], ◌∷◌, ◌++◌, map, length, take, drop, Option, None, Some, Result, Ok, Err, refl, sym, ap, ap₂, Bor, codes}
+use Rattle.std.specs.Prelude.{ℤ, option_map, option_and_then, unwrap_or}
 use Rattle.std.proofs.lemmas.List.{take-map, drop-map, length-map}
 use Rattle.clap.specs.Words.{found_of, first_value, matched_of, raw_values}
 use Rattle.clap.specs.declared.parser.matches.ArgMatches.{ArgMatches}
@@ -10,7 +10,7 @@ use Rattle.ntx_num.specs.declared.answer.Fail.TheVariants.{NoMemory, Is}
 use Rattle.ntx_words.specs.declared.words.BadWords.{BadWords}
 use Rattle.ntx_words.specs.Font.{FontWord, font_of}
 use Rattle.ntx_words.specs.Parts.{Parts, parts_of}
-use Rattle.ntx_words.specs.CommandLine.{CommandLine, command_line, is_count, line_of, line_with, or_bad_words, paths_of, sizes_of, steps_of}
+use Rattle.ntx_words.specs.CommandLine.{CommandLine, command_line, line_of, line_with, or_bad_words, paths_of, sizes_of, steps_of}
 use Rattle.ntx_words.specs.inner.Clap.{parts_found}
 use Rattle.ntx_words.specs.inner.Views.{parts_given, texts_of}
 use Rattle.ntx_words.proofs.Numbers.{gt_test, le_test}

@@ -1,15 +1,14 @@
 -- What `clap` answers, as the definition has it.
-use Rattle.std.proofs.Common.{◌≡◌, ◌⊎◌, ◌∙◌, ℕ, ◌&&◌, ◌||◌, Bool, true, false, List, [], ◌∷◌, Option, None, Some, Result, Ok, Err, refl, sym, ap, ap₂, subst, inl, inr, codes}
-use Rattle.std.specs.Prelude.{option_map, is_some, unwrap_or, if◌then◌else◌}
+use Rattle.std.proofs.Common.{◌≡◌, ◌∙◌, ◌||◌, Bool, true, false, List, [], ◌∷◌, Option, None, Some, Ok, Err, refl, sym, ap, ap₂, inl, inr, codes}
+use Rattle.std.specs.Prelude.{is_some, unwrap_or}
 use Rattle.std.specs.Str.{IsUtf8}
 use Rattle.std.specs.List.{All}
-use Rattle.clap.specs.Walk.{Held, Row, Rule, Text, Walk, all_of, first_of, has_row, nothing_held, rows_of, settled, walk, walk_from, with_default}
-use Rattle.clap.specs.Simple.{App, built, entered, matches_of}
-use Rattle.clap.specs.Faults.{defaults_fault, entered_fault, fault_of, level_fault, settle_fault, walk_fault, check_fault}
-use Rattle.clap.specs.Kinds.{FailsBy, HasKind, IsAmong, Kinds, or_else}
-use Rattle.clap.specs.Words.{kind_of as kind_told, found_of, first_value, matched_of, raw_values}
+use Rattle.clap.specs.Walk.{Row, Text, has_row, nothing_held, rows_of, settled, walk, walk_from, with_default}
+use Rattle.clap.specs.Simple.{built, entered, matches_of}
+use Rattle.clap.specs.Faults.{defaults_fault, entered_fault, fault_of, level_fault, settle_fault, walk_fault}
+use Rattle.clap.specs.Kinds.{HasKind, IsAmong, Kinds, or_else}
+use Rattle.clap.specs.Words.{kind_of as kind_told, found_of}
 use Rattle.clap.specs.declared.error.Error.{Error}
-use Rattle.clap.specs.declared.error.kind.ErrorKind.{ErrorKind}
 use Rattle.clap.specs.declared.error.kind.ErrorKind.TheVariants as kind
 use Rattle.clap.specs.declared.parser.matches.ArgMatches.{ArgMatches}
 use Rattle.clap.proofs.WalkLemmas.{first_value-rows, raw_values-rows}
@@ -18,7 +17,7 @@ use Rattle.ntx_words.specs.Parts.{Parts, parts_of}
 use Rattle.ntx_words.specs.inner.Clap.{ntx_app, parts_found}
 use Rattle.ntx_words.proofs.Rows.{parts_in, rules, steps_built, paths_built}
 use Rattle.ntx_words.proofs.Turns.{nothing_else, top}
-use Rattle.ntx_words.proofs.Walks.{ending, last_held, walk_ending, walk_reads}
+use Rattle.ntx_words.proofs.Walks.{ending, last_held, walk_reads}
 
 -- ---- nothing but the walk and its end can fail
 

@@ -1,12 +1,11 @@
 -- The rows that `clap` holds: the option's value and the paths so far.
-use Rattle.std.proofs.Common.{◌≡◌, ◌∙◌, ℕ, ◌&&◌, ◌||◌, Bool, true, false, not, cond, List, [], ◌∷◌, ◌++◌, Option, None, Some, refl, sym, ap, subst, arith, codes, append-nil, append_assoc}
-use Rattle.std.specs.Prelude.{option_map, option_and_then, unwrap_or, is_some, slice_get, find, if◌then◌else◌}
+use Rattle.std.proofs.Common.{◌≡◌, ◌∙◌, ℕ, Bool, true, false, List, [], ◌∷◌, ◌++◌, Option, None, Some, refl, ap, codes}
+use Rattle.std.specs.Prelude.{option_map, option_and_then, unwrap_or, is_some, slice_get, find}
 use Rattle.std.specs.Str.{bytes_eq}
 use Rattle.std.proofs.lemmas.Slice.Eq.{bytes_eq-Decides}
-use Rattle.clap.specs.Walk.{Row, Rule, all_of, at_row, first_of, has_row, more_values, used, with_values, without}
+use Rattle.clap.specs.Walk.{Row, Rule, all_of, first_of, has_row, used, with_values, without}
 use Rattle.clap.specs.Simple.{built, filled, with_index}
 use Rattle.clap.specs.Faults.{use_fault}
-use Rattle.clap.specs.Kinds.{Kinds}
 use Rattle.clap.specs.declared.builder.value_parser.Reading.{Reading}
 use Rattle.clap.specs.declared.error.kind.ErrorKind.TheVariants as kind
 use Rattle.clap.specs.declared.parser.matches.ValueSource.TheVariants.{CommandLine}

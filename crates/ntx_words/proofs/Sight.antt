@@ -1,14 +1,14 @@
 -- What `clap` sees in a word of each kind.
-use Rattle.std.proofs.Common.{◌≡◌, ◌∙◌, ℕ, ◌+◌, ◌&&◌, ◌==◌, Bool, true, false, not, cond, suc, List, [], ◌∷◌, length, Option, None, Some, refl, sym, ap, subst, arith, codes, add-one, true≢false, drop, take}
+use Rattle.std.proofs.Common.{◌≡◌, ◌∙◌, ℕ, ◌+◌, ◌==◌, Bool, true, false, suc, List, [], ◌∷◌, Option, None, Some, refl, sym, ap, subst, arith, codes}
 use Rattle.std.specs.Prelude.{nat_eq, slice_get, if◌then◌else◌}
-use Rattle.std.specs.List.{list_any, before_first, after_first, position_or_len}
+use Rattle.std.specs.List.{before_first, after_first, position_or_len}
 use Rattle.std.specs.Char.{encode_utf8}
 use Rattle.std.specs.Str.{IsUtf8, bytes_eq, chars, encode_utf8_all as encodes}
 use Rattle.std.proofs.lemmas.Str.{encodes-chars}
 use Rattle.std.proofs.lemmas.Slice.Eq.{bytes_eq-Decides}
 use Rattle.std.proofs.lemmas.Bool.Decides.{nat_tests}
 use Rattle.clap.specs.Lexer.{long_of, short_of, name_and_value, has_byte}
-use Rattle.ntx_words.specs.Kind.{Kind, option, option_with, last, unknown, plain, is_equals, is_steps, steps_kind, is_dashed, kind_of}
+use Rattle.ntx_words.specs.Kind.{Kind, option, option_with, last, unknown, plain, is_equals, is_steps, steps_kind, kind_of}
 
 -- ---- the parts of a word around its first `=`
 

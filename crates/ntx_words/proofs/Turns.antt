@@ -1,17 +1,16 @@
 -- One word of the walk of `clap`: its faults, and where the walk stands after it.
-use Rattle.std.proofs.Common.{◌≡◌, ◌∙◌, ℕ, ◌&&◌, Bool, true, false, List, [], ◌∷◌, length, Option, None, Some, refl, sym, ap, subst, codes, suc}
-use Rattle.std.specs.Prelude.{slice_get, if◌then◌else◌}
-use Rattle.std.specs.Str.{bytes_eq, chars}
-use Rattle.clap.specs.Lexer.{long_of, short_of}
-use Rattle.clap.specs.Walk.{Held, Row, Rule, Text, Waiting, Walk, idle, option as waits, positional, settled_rows, used, walked}
+use Rattle.std.proofs.Common.{◌≡◌, ◌&&◌, Bool, true, false, List, [], ◌∷◌, Option, None, Some, refl, codes}
+use Rattle.std.specs.Str.{bytes_eq}
+use Rattle.clap.specs.Lexer.{long_of}
+use Rattle.clap.specs.Walk.{Held, Row, Text, Waiting, Walk, idle, option as waits, positional, settled_rows, used, walked}
 use Rattle.clap.specs.Simple.{Shape, built}
 use Rattle.clap.specs.Faults.{flag_word_fault, flags_fault, settle_fault, turn_fault, use_fault}
 use Rattle.clap.specs.Kinds.{Kinds, or_else}
 use Rattle.clap.specs.declared.error.kind.ErrorKind.TheVariants as kind
-use Rattle.ntx_words.specs.Kind.{Kind, option, option_with, last, unknown, plain}
+use Rattle.ntx_words.specs.Kind.{option, option_with, last, unknown, plain}
 use Rattle.ntx_words.specs.inner.Clap.{ntx_app}
 use Rattle.ntx_words.proofs.Sight.{Seen, Unknown, long, short}
-use Rattle.ntx_words.proofs.Rows.{rules, steps_built, paths_built}
+use Rattle.ntx_words.proofs.Rows.{rules, steps_built}
 
 abbrev pub top : Shape
 top = (built ntx_app).top

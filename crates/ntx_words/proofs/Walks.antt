@@ -1,5 +1,5 @@
 -- The whole walk of `clap` over the words, and what it gives.
-use Rattle.std.proofs.Common.{◌≡◌, ◌∙◌, ℕ, Bool, true, false, List, [], ◌∷◌, ◌++◌, Option, None, Some, refl, sym, ap, subst, codes, arith, suc, append-nil, append_assoc}
+use Rattle.std.proofs.Common.{◌≡◌, ◌∙◌, Bool, true, false, List, [], ◌∷◌, ◌++◌, Option, None, Some, refl, sym, ap, subst, codes, arith, suc, append-nil, append_assoc}
 use Rattle.std.specs.Prelude.{option_map, option_and_then, is_some, if◌then◌else◌, fold}
 use Rattle.std.specs.Str.{IsUtf8}
 use Rattle.std.specs.List.{All}
@@ -8,9 +8,9 @@ use Rattle.clap.specs.Faults.{settle_fault, turn_fault, use_fault, walk_fault}
 use Rattle.clap.specs.Kinds.{Kinds, or_else}
 use Rattle.clap.specs.declared.error.kind.ErrorKind.{ErrorKind}
 use Rattle.ntx_words.specs.Kind.{Kind, option, option_with, last, unknown, plain, kind_of}
-use Rattle.ntx_words.specs.Parts.{Parts, no_parts, with_path, with_steps, parts_by, parts_from, parts_of}
+use Rattle.ntx_words.specs.Parts.{Parts, with_path, with_steps, parts_by, parts_from, parts_of}
 use Rattle.ntx_words.proofs.Sight.{Seen, seen}
-use Rattle.ntx_words.proofs.Rows.{Holds, parts_in, parts_held, path_held, value_held, path_passes, value_passes, second_fails, rules, steps_built, paths_built}
+use Rattle.ntx_words.proofs.Rows.{Holds, parts_in, parts_held, path_held, value_held, path_passes, value_passes, second_fails, rules, steps_built}
 use Rattle.ntx_words.proofs.Turns.{Pending, at, held, last_turn, last_walked, option_turn, option_walked, plain_turn, plain_walked, rest, settling, steps_alone, top, trailing_turn, trailing_walked, unknown_turn, value_turn, value_walked, wanting, wanting_last, wanting_last_walked, wanting_option, wanting_unknown, wanting_with, with_turn, with_walked}
 
 pub first_word : (word : Text) (words : List Text) → All IsUtf8 (word ∷ words) → IsUtf8 word

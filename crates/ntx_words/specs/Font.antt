@@ -1,5 +1,5 @@
 -- A word that names a font: `PATH` or `PATH@SIZE`. The form is this project's own.
-use Rattle.std.specs.Prelude.{ℕ, ◌==◌, ◌^◌, ◌-◌, ℤ, pos, List, [], ◌∷◌, Option, None, Some, option_map, if◌then◌else◌}
+use Rattle.std.specs.Prelude.{ℕ, ◌==◌, ◌^◌, ◌-◌, ℤ, pos, List, [], ◌∷◌, Option, None, Some, if◌then◌else◌}
 use Rattle.ntx_words.specs.Number.{number_in}
 
 -- what stands before a sign, and what stands after it

@@ -1,6 +1,6 @@
 -- The form of a command line, word after word as it is written: paths, the option once or not at all, more paths, and then perhaps `--` and
 -- any words. It says the same as `parts_of`, by the law `parts_have_their_form`.
-use Rattle.std.specs.Prelude.{◌≡◌, ℕ, Bool, false, List, [], ◌∷◌, ◌++◌, Option, None, Some, codes}
+use Rattle.std.specs.Prelude.{◌≡◌, ℕ, false, List, [], ◌∷◌, ◌++◌, Option, None, Some, codes}
 use Rattle.std.specs.List.{All}
 use Rattle.ntx_words.specs.Kind.{is_dashed}
 use Rattle.ntx_words.specs.Parts.{Parts}

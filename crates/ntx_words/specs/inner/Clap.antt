@@ -1,5 +1,5 @@
 -- The command that `clap` is given, and what its matches hold.
-use Rattle.std.specs.Prelude.{◌++◌, true, List, [], ◌∷◌, Some, codes, unwrap_or, option_map}
+use Rattle.std.specs.Prelude.{true, [], Some, codes, unwrap_or, option_map}
 use Rattle.clap.specs.Words.{App, Rule, found_of, first_value, matched_of, new_app, new_rule, raw_values, with_rule}
 use Rattle.clap.specs.declared.builder.ArgAction.TheVariants.{Set, Append}
 use Rattle.clap.specs.declared.parser.matches.ArgMatches.{ArgMatches}

@@ -1,5 +1,5 @@
-use Rattle.std.proofs.Common.{◌≡◌, sym, subst, true, inl, inr, None, Some}
-use Rattle.ntx_words.specs.Number.{is_numeral, number_in}
+use Rattle.std.proofs.Common.{◌≡◌, sym, subst, true, inl, inr}
+use Rattle.ntx_words.specs.Number.{is_numeral}
 use Rattle.ntx_words.proofs.Numbers.{in_range, below_range, above_range, past_type}
 use Rattle.ntx_words.proofs.number.number_in.Goals as goal
 

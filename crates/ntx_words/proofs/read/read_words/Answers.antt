@@ -1,10 +1,7 @@
-use Rattle.std.proofs.Common.{◌≡◌, ◌∙◌, List, [], ◌∷◌, Option, None, Some, refl, sym, ap, map, subst, string_bytes, Bor, ℕ, codes}
-use Rattle.std.specs.Prelude.{option_map, unwrap_or}
+use Rattle.std.proofs.Common.{Some, refl, map, subst, string_bytes}
 use Rattle.ntx_num.specs.Answer.{Answers, result_map}
-use Rattle.ntx_words.specs.CommandLine.{CommandLine, command_line, line_of, or_bad_words}
 use Rattle.ntx_words.specs.View.{line_seen}
-use Rattle.ntx_words.specs.inner.Views.{parts_given, texts_of}
-use Rattle.ntx_words.proofs.Lines.{accepted_whole, refused_whole, given_are_found}
+use Rattle.ntx_words.proofs.Lines.{accepted_whole, given_are_found}
 use Rattle.ntx_words.proofs.read.read_words.Goals as goal
 
 pub returns : goal.returns
