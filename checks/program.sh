@@ -77,6 +77,17 @@ ends 'four paths' 0 '' document script patterns dvi
 has 'four paths' dvi "$box_file"
 cd ..
 
+job "$box"
+ends 'a number of steps' 0 '' document script --steps 5 patterns dvi
+has 'a number of steps' dvi "$box_file"
+cd ..
+
+job "$box"
+mv document -- --document
+ends 'paths after two hyphens' 0 '' --steps=5 -- --document script patterns dvi
+has 'paths after two hyphens' dvi "$box_file"
+cd ..
+
 job ''
 printf 'x%.0s' {1..5000} >dvi
 ends 'an empty document, and a DVI file that is there before' 0 '' document script patterns dvi
@@ -112,6 +123,9 @@ ends 'no words' 2 '! Words\n'
 ends 'three words' 2 '! Words\n' document script patterns
 ends 'five words' 2 '! Words\n' document script patterns dvi dvi
 ends 'an option' 2 '! Words\n' document script patterns --dvi
+ends 'an abbreviated option' 2 '! Words\n' --step 5 document script patterns dvi
+ends 'an option twice' 2 '! Words\n' --steps 5 --steps 5 document script patterns dvi
+ends 'no steps' 2 '! Words\n' --steps 0 document script patterns dvi
 ends 'a word that is not UTF-8' 2 '! Words\n' document script patterns $'d\xffi'
 [ "$(ls)" = "$(printf 'document\npatterns\nscript')" ] || complain 'refused words' "other files: $(ls)"
 cd ..

@@ -103,6 +103,8 @@ fn a_refusal_has_its_status_place_and_line(rt: HostRuntime) -> Result<(), Fail> 
     let alloc = rt.alloc();
     let two: [&str; 2] = ["a", "b"];
     let option: [&str; 5] = ["--help", "a", "b", "c", "d"];
+    let no_steps: [&str; 5] = ["--steps=0", "a", "b", "c", "d"];
+    let font: [&str; 5] = ["a", "b", "c", "d", "T.tfm@655360"];
     let hyphen: [&str; 4] = ["a", "-b", "c", "d"];
     let table = [
         (
@@ -116,6 +118,22 @@ fn a_refusal_has_its_status_place_and_line(rt: HostRuntime) -> Result<(), Fail> 
         (
             Job {
                 words: &option,
+                ..of_document(BOX)
+            },
+            Status::Words,
+            "! Words\n",
+        ),
+        (
+            Job {
+                words: &no_steps,
+                ..of_document(BOX)
+            },
+            Status::Words,
+            "! Words\n",
+        ),
+        (
+            Job {
+                words: &font,
                 ..of_document(BOX)
             },
             Status::Words,
@@ -197,6 +215,18 @@ fn the_place_of_a_script_that_is_not_empty_is_line_0(rt: HostRuntime) -> Result<
         why: SyntaxWhy::Size,
     };
     assert_eq!(rt; given.outcome.place, Some(Place::Syntax(fault)));
+    Ok(())
+}
+
+#[test]
+fn an_option_stands_before_two_hyphens(rt: HostRuntime) -> Result<(), Fail> {
+    let words: [&str; 7] = ["a", "--steps", "5", "b", "--", "--c", "-d"];
+    let given = Job {
+        words: &words,
+        ..of_document(BOX)
+    }
+    .run(rt.alloc())?;
+    assert_eq!(rt; given.outcome.status, Status::Done);
     Ok(())
 }
 
