@@ -22,7 +22,7 @@ use Rattle.ntx_run.specs.inner.Parts.{IsRefusalOf, ReadsInputs, TakesAll, IsCutO
 use Rattle.ntx_run.proofs.Reading.{sources_of, in_order, StopsAt, stops_at, all_read, all_kept}
 use Rattle.ntx_run.proofs.Files.{dvi_bytes_of, whole_file, full_file, no_reason, file_is, document_ends}
 use Rattle.ntx_run.proofs.Sinks.{adds_nothing, adds_no_prefix, adds_proper}
-use Rattle.ntx_run.proofs.Endings.{run_refused, run_accepted, IsApart, prints_nothing, all_counts, RunsTo, stop_ends, IsUnfinished, write_ends, nothing_ends, memory_ends}
+use Rattle.ntx_run.proofs.Endings.{run_refused, run_accepted, IsApart, prints_nothing, all_counts, RunsTo, stop_ends, IsUnfinished, write_ends, unread_ends, memory_ends}
 
 -- ---- statuses
 
@@ -77,7 +77,7 @@ module _ (words : List (List ℕ)) (before after : Outside) where
   }) reports
 
   pub runs_no_words : (outcome : Outcome) → after.inputs ≡ before.inputs → after.dvi ≡ before.dvi → Reports stop.Memory before.lines after.lines outcome → RunsTo words before after outcome
-  runs_no_words outcome same same_dvi reports = nothing_ends words before after outcome (order_same same) same same_dvi reports
+  runs_no_words outcome same same_dvi reports = unread_ends words before after outcome (order_same same) same same_dvi reports
 
   -- ---- an input ends the run
 

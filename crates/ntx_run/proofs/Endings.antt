@@ -267,8 +267,8 @@ module _ (words : List (List ℕ)) (before after : Outside) where
       subst RunsTo (sym none.ended) (write_breaks (unfinished_breaks unfinished none.same) (inl (record { rose = rose; cut = cut; lines = prints_nothing none.same; accepted = accepted })))
 
   -- Memory ran out before anything was read or written.
-  pub nothing_ends : (outcome : Outcome) → AreReadInOrder words before.inputs after.inputs → after.inputs ≡ before.inputs → after.dvi ≡ before.dvi → HasNoLine stop.Memory before.lines after.lines outcome → RunsTo outcome
-  nothing_ends outcome order same same_dvi none =
+  pub unread_ends : (outcome : Outcome) → AreReadInOrder words before.inputs after.inputs → after.inputs ≡ before.inputs → after.dvi ≡ before.dvi → HasNoLine stop.Memory before.lines after.lines outcome → RunsTo outcome
+  unread_ends outcome order same same_dvi none =
       subst RunsTo (sym none.ended) (memory_breaks (record {
         order = order;
         words_first = λ e. (same, same_dvi);
