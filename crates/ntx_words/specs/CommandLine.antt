@@ -1,5 +1,5 @@
 -- The command line `ntx [--steps N] DOC SCRIPT PATTERNS DVI [FONT...]` as a function of its words. The form is this project's own.
-use Rattle.std.specs.Prelude.{ℕ, ◌^◌, nat_le, ◌&&◌, Bool, ℤ, List, map, length, take, drop, ◌++◌, Option, None, Some, option_map, option_and_then, Result, Ok, Err, if◌then◌else◌}
+use Rattle.std.specs.Prelude.{ℕ, ◌+◌, ◌^◌, nat_le, ◌&&◌, Bool, ℤ, List, map, length, take, drop, ◌++◌, Option, None, Some, option_map, option_and_then, Result, Ok, Err, if◌then◌else◌}
 use Rattle.ntx_words.specs.Parts.{Parts, parts_of}
 use Rattle.ntx_words.specs.Number.{number_in}
 use Rattle.ntx_words.specs.Font.{FontWord, font_of}
@@ -33,7 +33,7 @@ max_fonts = 64
 
 -- The files, and up to 64 fonts.
 abbrev pub is_count : ℕ → Bool
-is_count n = nat_le 4 n && nat_le n 68
+is_count n = nat_le file_count n && nat_le n (file_count + max_fonts)
 
 abbrev pub fonts_of : List (List ℕ) → List FontWord
 fonts_of words = map font_of (drop file_count words)
