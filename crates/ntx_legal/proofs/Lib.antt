@@ -1,0 +1,3 @@
+pub mod SumsLemmas
+pub mod PlaceLemmas
+pub mod PartLemmas

@@ -1,0 +1,4 @@
+//! Places and lines against numbers worked out by hand from TeX's rules.
+
+mod lines;
+mod places;
