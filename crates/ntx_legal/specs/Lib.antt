@@ -8,3 +8,5 @@ pub mod LineSums
 pub mod Fit
 -- the numbers of a line
 pub mod Lines
+-- totals from which a line takes constant time
+pub mod Totals

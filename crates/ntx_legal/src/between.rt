@@ -7,12 +7,15 @@ ghost use Rattle.ntx_item.specs.declared.item.Item.TheVariants.{Glue};
 ghost use Rattle.ntx_num.specs.Dimension.{max_dimension};
 ghost use Rattle.ntx_legal.specs.LineSums.{AreSumsWithin, sums_of};
 ghost use Rattle.ntx_legal.specs.Places.{item_at};
+ghost use Rattle.ntx_legal.specs.Kept.{kept_items};
+ghost use Rattle.ntx_legal.specs.Totals.{AreTotalsOf};
 ghost use Rattle.ntx_legal.specs.Lines.{shown_after, shown_before, parts_of, is_infinite, fit_of, line_of};
 
 use crate::fit::{Line, fitted};
 use crate::kept::kept_items;
 use crate::stretch::{GlueStretch, difference, sum};
 use crate::sums::{Sums, sums_of};
+use crate::totals::LineTotals;
 use ntx_item::{GlueParam, Item, Param, Params};
 
 /// The width of what a discretionary at this place shows after a break.
@@ -52,7 +55,9 @@ fn background(params: &Params) -> Sums
     ensures value { result ≡ sums_of (Glue params.now.leftskip ∷ Glue params.now.rightskip ∷ []) }
     ensures bound { AreSumsWithin (2 * max_dimension) result }
 {
-    Sums::of_glue(params.get_glue(GlueParam::Leftskip)).plus(Sums::of_glue(params.get_glue(GlueParam::Rightskip)))
+    Sums::of_glue(params.get_glue(GlueParam::Leftskip)).plus(Sums::of_glue(params.get_glue(
+        GlueParam::Rightskip,
+    )))
 }
 
 /// Whether some glue of an infinite order stretches.
@@ -85,16 +90,41 @@ fn shown_width(items: &[Item], from: usize, to: usize) -> i64
     sum(width_after(items, from), width_before(items, to))
 }
 
-/// What the parts of a line come to together.
-fn parts_sums(items: &[Item], params: &Params, from: usize, to: usize) -> Sums
+/// What the parts of a line come to together, if the items that count come to `kept`.
+fn parts_sums(items: &[Item], params: &Params, from: usize, to: usize, kept: Sums) -> Sums
     requires in_range { AreItemsInRange items.now }
     requires order { from < to }
     requires to { to ≤ length items.now + 1 }
+    requires kept { kept ≡ sums_of (kept_items items.now from to) }
     ensures value { result ≡ sums_of (parts_of params.now items.now from to) }
     ensures bound { AreSumsWithin (2 ^ 52) result }
 {
-    let kept = sums_of(kept_items(items, from, to));
-    background(params).plus(kept).wider_by(shown_width(items, from, to))
+    background(params)
+        .plus(kept)
+        .wider_by(shown_width(items, from, to))
+}
+
+/// The numbers of the line between two places, if the items that count come to `kept`.
+fn line_of_sums(
+    items: &[Item],
+    params: &Params,
+    from: usize,
+    to: usize,
+    kept: Sums,
+    extra: i64,
+) -> Line
+    requires in_range { AreItemsInRange items.now }
+    requires order { from < to }
+    requires to { to ≤ length items.now + 1 }
+    requires kept { kept ≡ sums_of (kept_items items.now from to) }
+    requires extra { (pos 0 ≤ℤ extra) × (extra <ℤ pos (2 ^ 30)) }
+    ensures { result ≡ line_of params.now items.now from to extra }
+{
+    fit_of(
+        params.get(Param::Hsize),
+        parts_sums(items, params, from, to, kept),
+        extra,
+    )
 }
 
 /// The numbers of the line between two places: those that [`places`](crate::places) gives, or 0 as the first of them. `extra` is further finite stretch in
@@ -106,6 +136,35 @@ pub fn line(items: &[Item], params: &Params, from: u64, to: u64, extra: i64) -> 
     requires extra { (pos 0 ≤ℤ extra) × (extra <ℤ pos (2 ^ 30)) }
     ensures { result ≡ line_of params.now items.now from to extra }
 {
-    let sums = parts_sums(items, params, from as usize, to as usize);
-    fit_of(params.get(Param::Hsize), sums, extra)
+    let (from, to) = (from as usize, to as usize);
+    line_of_sums(
+        items,
+        params,
+        from,
+        to,
+        sums_of(kept_items(items, from, to)),
+        extra,
+    )
+}
+
+impl LineTotals {
+    /// The same numbers as [`line`](crate::line) gives, in constant time. The totals are those of `items`.
+    pub fn line(&self, items: &[Item], params: &Params, from: u64, to: u64, extra: i64) -> Line
+        requires in_range { AreItemsInRange items.now }
+        requires totals { AreTotalsOf items.now self.now }
+        requires order { from < to }
+        requires to { to ≤ length items.now + 1 }
+        requires extra { (pos 0 ≤ℤ extra) × (extra <ℤ pos (2 ^ 30)) }
+        ensures { result ≡ line_of params.now items.now from to extra }
+    {
+        let (from, to) = (from as usize, to as usize);
+        line_of_sums(
+            items,
+            params,
+            from,
+            to,
+            self.between(items, from, to),
+            extra,
+        )
+    }
 }

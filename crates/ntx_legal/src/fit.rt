@@ -47,11 +47,7 @@ fn shrunk_class(b: i64) -> u8
     requires { pos 0 ≤ℤ b }
     ensures { result ≡ shrunk_class (unsigned_abs b) }
 {
-    if b > 12 {
-        3
-    } else {
-        2
-    }
+    if b > 12 { 3 } else { 2 }
 }
 
 /// A line that is too narrow by `shortfall`.

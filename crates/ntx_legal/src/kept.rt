@@ -8,7 +8,7 @@ ghost use Rattle.ntx_legal.specs.Kept.{is_discardable, keeps_all, without_discar
 use ntx_item::Item;
 
 /// Whether a break discards the item if it stands directly after it.
-fn is_discardable(item: &Item) -> bool
+pub(crate) fn is_discardable(item: &Item) -> bool
     ensures { result ≡ is_discardable item.now }
 {
     match item {
@@ -19,7 +19,7 @@ fn is_discardable(item: &Item) -> bool
 }
 
 /// How many of the first items are discarded after a break.
-fn discarded(items: &[Item]) -> usize
+pub(crate) fn discarded(items: &[Item]) -> usize
     ensures value { result ≡ prefix_len is_discardable items.now }
     ensures bound { result ≤ length items.now }
 {
@@ -33,7 +33,7 @@ fn discarded(items: &[Item]) -> usize
 
 /// Whether a line that begins at this place keeps all items: at the start of the paragraph, and after a discretionary that shows
 /// something after the break.
-fn keeps_all(items: &[Item], from: usize) -> bool
+pub(crate) fn keeps_all(items: &[Item], from: usize) -> bool
     requires { from ≤ length items.now }
     ensures { result ≡ keeps_all items.now from }
 {

@@ -10,10 +10,12 @@ mod kept;
 mod place;
 mod stretch;
 mod sums;
+mod totals;
 
 pub use between::line;
 pub use fit::Line;
 pub use place::places;
+pub use totals::LineTotals;
 
 #[cfg(test)]
 mod tests;

@@ -80,7 +80,12 @@ fn may_break(items: &[Item], params: &Params, discs: bool, i: usize, item: &Item
 /// after a glyph, a box, a rule, a discretionary or a kern of a font; an explicit kern directly before glue; a penalty below
 /// 10000; and a discretionary whose cost is below 10000. A discretionary that comes from hyphenation is a place only if
 /// `discs` is true.
-pub fn places(alloc: Global, items: &[Item], params: &Params, discs: bool) -> Result<Vec<u64>, NoMemory>
+pub fn places(
+    alloc: Global,
+    items: &[Item],
+    params: &Params,
+    discs: bool,
+) -> Result<Vec<u64>, NoMemory>
     requires { AreItemsInRange items.now }
     ensures { Gives (result_map (λ places. places.items) result) (places_of params.now discs items.now) }
 {

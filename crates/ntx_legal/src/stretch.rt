@@ -5,6 +5,7 @@ ghost use Rattle.ntx_item.specs.Items.{max_total};
 ghost use Rattle.ntx_item.specs.Sums.{amount_in};
 ghost use Rattle.ntx_item.specs.declared.glue_change.GlueChange.TheVariants.{Stretch};
 ghost use Rattle.ntx_legal.specs.LineSums.{stretch_with, stretch_plus};
+ghost use Rattle.ntx_legal.specs.Totals.{stretch_minus};
 
 use ntx_item::{GlueChange, Item};
 
@@ -83,6 +84,22 @@ impl GlueStretch {
             fil: sum(self.fil, other.fil),
             fill: sum(self.fill, other.fill),
             filll: sum(self.filll, other.filll),
+        }
+    }
+
+    /// The stretch without another.
+    pub(crate) fn minus(self, other: GlueStretch) -> GlueStretch
+        requires normal { unsigned_abs (self.normal -ℤ other.normal) ≤ 2 ^ 62 }
+        requires fil { unsigned_abs (self.fil -ℤ other.fil) ≤ 2 ^ 62 }
+        requires fill { unsigned_abs (self.fill -ℤ other.fill) ≤ 2 ^ 62 }
+        requires filll { unsigned_abs (self.filll -ℤ other.filll) ≤ 2 ^ 62 }
+        ensures { result ≡ stretch_minus self other }
+    {
+        GlueStretch {
+            normal: difference(self.normal, other.normal),
+            fil: difference(self.fil, other.fil),
+            fill: difference(self.fill, other.fill),
+            filll: difference(self.filll, other.filll),
         }
     }
 }

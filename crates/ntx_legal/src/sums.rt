@@ -7,8 +7,9 @@ ghost use Rattle.ntx_item.specs.Parameters.{IsGlueInRange};
 ghost use Rattle.ntx_item.specs.declared.item.Item.TheVariants.{Glue};
 ghost use Rattle.ntx_num.specs.Dimension.{max_dimension};
 ghost use Rattle.ntx_legal.specs.LineSums.{shrink_of, sums_of, sums_with, sums_plus, sums_wider, AreSumsWithin};
+ghost use Rattle.ntx_legal.specs.Totals.{sums_minus};
 
-use crate::stretch::{NO_STRETCH, GlueStretch, sum};
+use crate::stretch::{GlueStretch, NO_STRETCH, difference, sum};
 use ntx_item::{GlueSpec, Item};
 
 /// What items come to together.
@@ -23,7 +24,7 @@ pub struct Sums {
 }
 
 /// The sums of no items.
-const EMPTY: Sums = Sums {
+pub(crate) const EMPTY: Sums = Sums {
     width: 0,
     stretch: NO_STRETCH,
     shrink: 0,
@@ -57,7 +58,7 @@ fn shrinks_more(shrink: i64, item: &Item) -> i64
 
 impl Sums {
     /// The sums with one item more.
-    fn with(self, item: &Item) -> Sums
+    pub(crate) fn with(self, item: &Item) -> Sums
         requires { AreSumsWithin max_total (sums_with self item.now) }
         ensures { result ≡ sums_with self item.now }
     {
@@ -77,6 +78,18 @@ impl Sums {
             width: sum(self.width, other.width),
             stretch: self.stretch.plus(other.stretch),
             shrink: sum(self.shrink, other.shrink),
+        }
+    }
+
+    /// The sums without others.
+    pub(crate) fn minus(self, other: Sums) -> Sums
+        requires { AreSumsWithin (2 ^ 62) (sums_minus self other) }
+        ensures { result ≡ sums_minus self other }
+    {
+        Sums {
+            width: difference(self.width, other.width),
+            stretch: self.stretch.minus(other.stretch),
+            shrink: difference(self.shrink, other.shrink),
         }
     }
 

@@ -15,4 +15,4 @@ returns-clause-value c =
 pub returns-clause-bound : goal.returns-clause-bound
 returns-clause-bound c =
     subst (AreSumsWithin (max_dimension + max_dimension)) (sym c.plus.ensures)
-      (plus_within max_dimension max_dimension c.of_glue.result c.of_glue-2.result c.of_glue.ensures.bound c.of_glue-2.ensures.bound)
+    (plus_within max_dimension max_dimension c.of_glue.result c.of_glue-2.result c.of_glue.ensures.bound c.of_glue-2.ensures.bound)

@@ -10,13 +10,13 @@ pub loop-i-preserved : goal.loop-i-preserved
 loop-i-preserved c =
     let params = c.args.params.now in let discs = c.args.discs in let items = c.args.items.now in let i = c.loop-i.i in
     elim c.if-may_break.branch [
-        then-may_break+in_ok-push w ↦
-            ap (λ v. v.items) w.places-is ∙ w.in_ok-push.ensures.items
-            ∙ place_taken params discs items i past_end c.loop-i.places.items c.loop-i-test.true c.loop-i.invariant (sym c.may_break.ensures ∙ w.if-may_break.true)
+      | then-may_break+in_ok-push w ↦
+          ap (λ v. v.items) w.places-is ∙ w.in_ok-push.ensures.items
+          ∙ place_taken params discs items i past_end c.loop-i.places.items c.loop-i-test.true c.loop-i.invariant (sym c.may_break.ensures ∙ w.if-may_break.true)
       | else-may_break w ↦
-            ap (λ v. v.items) w.places-is
-            ∙ place_passed params discs items i past_end c.loop-i.places.items c.loop-i-test.true c.loop-i.invariant (sym c.may_break.ensures ∙ w.if-may_break.false)
-      ]
+          ap (λ v. v.items) w.places-is
+          ∙ place_passed params discs items i past_end c.loop-i.places.items c.loop-i-test.true c.loop-i.invariant (sym c.may_break.ensures ∙ w.if-may_break.false)
+    ]
 
 pub returns : goal.returns
 returns c =

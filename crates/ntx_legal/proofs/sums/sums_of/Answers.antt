@@ -10,8 +10,8 @@ pub with-sums-requires : goal.with-sums-requires
 with-sums-requires c =
     let items = c.args.items.now in let i = c.loop-item.item-index in
     subst (λ (s : Sums). AreSumsWithin max_total (sums_with s (get_or items i past_end))) (sym c.loop-item.invariant)
-      (subst (AreSumsWithin max_total) (sums_more items i past_end c.loop-item-test.true)
-        (sums_within (take (i + 1) items) (parts_are_in_range.front items (i + 1) c.requires)))
+    (subst (AreSumsWithin max_total) (sums_more items i past_end c.loop-item-test.true)
+    (sums_within (take (i + 1) items) (parts_are_in_range.front items (i + 1) c.requires)))
 
 pub loop-item-preserved : goal.loop-item-preserved
 loop-item-preserved c =
