@@ -1,20 +1,18 @@
 -- The sums of lists that stand together, and of the parts of a line.
-use Rattle.std.proofs.Common.{◌≡◌, ℕ, ◌+◌, ◌-◌, ◌≤◌, ℤ, pos, ◌+ℤ◌, List, [], ◌∷◌, ◌++◌, Bool, true, false, cond, Option, Some, None, take, drop, refl, ap, sym, ◌∙◌, arith}
+use Rattle.std.proofs.Common.{◌≡◌, ℕ, ◌+◌, ◌-◌, ◌≤◌, ℤ, pos, ◌+ℤ◌, List, [], ◌∷◌, ◌++◌, Bool, true, false, cond, Option, Some, None, drop, refl, ap, sym, ◌∙◌, arith}
 use Rattle.std.specs.Int.RustNames.{unsigned_abs}
 use Rattle.std.specs.List.{prefix_len}
 use Rattle.std.proofs.lemmas.Int.{ints}
-use Rattle.ntx_num.specs.Dimension.{max_dimension}
 use Rattle.ntx_item.proofs.ItemsLemmas.{parts_are_in_range}
 use Rattle.ntx_item.proofs.SumLemmas.{signed_sum-append, absolute_sum}
 use Rattle.ntx_item.specs.declared.item.Item.{Item}
 use Rattle.ntx_item.specs.declared.item.Item.TheVariants.{Box, Glyph, Rule, Glue, Kern, Penalty, Disc}
 use Rattle.ntx_item.specs.declared.glue_change.GlueChange.TheVariants.{Stretch}
-use Rattle.ntx_item.specs.Items.{AreItemsInRange, max_total}
+use Rattle.ntx_item.specs.Items.{AreItemsInRange}
 use Rattle.ntx_item.specs.Sums.{signed_sum, natural_width, amount_in}
 use Rattle.ntx_legal.specs.Kept.{is_discardable, keeps_all, items_between, kept_items}
-use Rattle.ntx_legal.specs.LineSums.{shrink_of, stretch_of, sums_of, sums_plus, sums_wider, stretch_plus, IsStretchWithin, AreSumsWithin}
+use Rattle.ntx_legal.specs.LineSums.{shrink_of, sums_of, sums_plus, sums_wider, AreSumsWithin}
 use Rattle.ntx_legal.specs.Lines.{shown_after, shown_before}
-use Rattle.ntx_legal.specs.declared.stretch.GlueStretch.{GlueStretch}
 use Rattle.ntx_legal.specs.declared.sums.Sums.{Sums}
 
 -- the sums of two lists

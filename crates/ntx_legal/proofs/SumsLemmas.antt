@@ -6,12 +6,11 @@ use Rattle.std.specs.Int.RustNames.{unsigned_abs}
 use Rattle.std.proofs.lemmas.List.Sums.{fold_more}
 use Rattle.ntx_item.proofs.SumLemmas.{sums_are_bounded}
 use Rattle.ntx_item.specs.declared.item.Item.{Item}
-use Rattle.ntx_item.specs.declared.item.Item.TheVariants.{Box, Glyph, Rule, Glue, Kern, Penalty, Disc}
+use Rattle.ntx_item.specs.declared.item.Item.TheVariants.{Box, Glue, Penalty, Disc}
 use Rattle.ntx_item.specs.declared.glue_change.GlueChange.TheVariants.{Stretch}
 use Rattle.ntx_item.specs.Items.{absolute_width, absolute_stretch, absolute_shrink, AreItemsInRange, max_total}
 use Rattle.ntx_item.specs.Sums.{signed_sum, natural_width, amount_in}
-use Rattle.ntx_legal.specs.declared.sums.Sums.{Sums}
-use Rattle.ntx_legal.specs.LineSums.{shrink_of, stretch_of, sums_of, sums_with, stretch_with, IsStretchWithin, AreSumsWithin}
+use Rattle.ntx_legal.specs.LineSums.{shrink_of, sums_of, sums_with, AreSumsWithin}
 
 chosen_le : (b : Bool) (x : ℤ) → unsigned_abs (cond b x (pos 0)) ≤ unsigned_abs x
 chosen_le true x = omega arith

@@ -1,17 +1,17 @@
 -- The totals of the first items, and what stands between two places.
-use Rattle.std.proofs.Common.{◌≡◌, ℕ, zero, suc, ◌+◌, ◌-◌, ◌^◌, ◌<◌, ◌≤◌, ℤ, ◌-ℤ◌, List, [], ◌∷◌, ◌++◌, Bool, true, false, cond, length, take, drop, get_or, map, sym, ap, ◌∙◌, subst, refl, arith}
+use Rattle.std.proofs.Common.{◌≡◌, ℕ, zero, suc, ◌+◌, ◌-◌, ◌^◌, ◌<◌, ◌≤◌, ℤ, ◌-ℤ◌, List, [], ◌∷◌, ◌++◌, Bool, true, false, cond, length, take, drop, get_or, map, sym, ap, ◌∙◌, arith}
 use Rattle.std.specs.Prelude.{min}
 use Rattle.std.specs.Int.RustNames.{unsigned_abs}
 use Rattle.std.specs.List.{range_with_len, prefix_len}
 use Rattle.std.proofs.Math.Nat.{min-zero, zero-min}
 use Rattle.std.proofs.lemmas.Int.{ints}
 use Rattle.std.proofs.lemmas.List.{drop-take, drop-drop}
-use Rattle.std.proofs.lemmas.List.FromFn.{get_or-map-range_with_len, length-map-range_with_len, map-range_with_len_more}
+use Rattle.std.proofs.lemmas.List.FromFn.{get_or-map-range_with_len, map-range_with_len_more}
 use Rattle.ntx_item.proofs.SumLemmas.{signed_sum-between}
 use Rattle.ntx_item.specs.declared.item.Item.{Item}
 use Rattle.ntx_item.specs.declared.glue_change.GlueChange.TheVariants.{Stretch}
-use Rattle.ntx_item.specs.Items.{AreItemsInRange, max_total}
-use Rattle.ntx_item.specs.Sums.{signed_sum, natural_width, amount_in}
+use Rattle.ntx_item.specs.Items.{max_total}
+use Rattle.ntx_item.specs.Sums.{natural_width, amount_in}
 use Rattle.ntx_legal.specs.Kept.{is_discardable, keeps_all, items_between, kept_items}
 use Rattle.ntx_legal.specs.LineSums.{shrink_of, sums_of, AreSumsWithin}
 use Rattle.ntx_legal.specs.Totals.{sums_minus, entry_of}

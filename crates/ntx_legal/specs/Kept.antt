@@ -1,10 +1,10 @@
 -- Which items of a line count ("TeX: The Program", sections 148, 837 and 879): those between its two places, but that what a break discards
 -- does not count.
 --     kept_items items from to          the items of the line between two places that count
-use Rattle.std.specs.Prelude.{ℕ, zero, suc, ◌+◌, ◌-◌, nat_eq, Bool, true, false, ◌||◌, not, if◌then◌else◌, Option, Some, None, List, take, drop}
+use Rattle.std.specs.Prelude.{ℕ, ◌-◌, nat_eq, Bool, true, false, ◌||◌, not, if◌then◌else◌, Option, Some, List, take, drop}
 use Rattle.std.specs.List.{prefix_len}
 use Rattle.ntx_item.specs.declared.item.Item.{Item}
-use Rattle.ntx_item.specs.declared.item.Item.TheVariants.{Box, Glyph, Rule, Glue, Kern, Penalty, Disc}
+use Rattle.ntx_item.specs.declared.item.Item.TheVariants.{Glue, Kern, Penalty, Disc}
 use Rattle.ntx_legal.specs.Places.{item_at}
 
 -- an item that is discarded directly after a break

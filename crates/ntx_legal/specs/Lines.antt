@@ -2,7 +2,7 @@
 --     parts_of params items from to          what the line is made of: leftskip, what a discretionary at its start shows after the break, the items
 --                                            that count, what a discretionary at its end shows before the break, and rightskip
 --     line_of params items from to extra     how far it is from hsize, its badness and its class; `extra` is further finite stretch
-use Rattle.std.specs.Prelude.{ℕ, ℤ, pos, ◌+ℤ◌, ◌-ℤ◌, Bool, true, not, ◌||◌, Option, Some, None, List, [], ◌∷◌, ◌++◌}
+use Rattle.std.specs.Prelude.{ℕ, ℤ, pos, ◌+ℤ◌, ◌-ℤ◌, Bool, true, not, ◌||◌, Option, Some, List, [], ◌∷◌, ◌++◌}
 use Rattle.std.specs.Ordering.{int_eq}
 use Rattle.ntx_item.specs.declared.item.Item.{Item}
 use Rattle.ntx_item.specs.declared.item.Item.TheVariants.{Glue, Kern, Disc}

@@ -2,7 +2,7 @@
 -- running totals for the same end).
 --     entry_of items n                  of the first n items
 --     AreTotalsOf items totals          one entry for each number of items
-use Rattle.std.specs.Prelude.{◌≡◌, ℕ, ◌+◌, ℤ, ◌-ℤ◌, List, length, take, drop, map}
+use Rattle.std.specs.Prelude.{◌≡◌, ℕ, ◌+◌, ◌-ℤ◌, List, length, take, drop, map}
 use Rattle.std.specs.List.{range_with_len, prefix_len}
 use Rattle.ntx_item.specs.declared.item.Item.{Item}
 use Rattle.ntx_legal.specs.Kept.{is_discardable}

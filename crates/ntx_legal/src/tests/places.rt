@@ -44,7 +44,7 @@ fn lines_end_at_legal_places(rt: HostRuntime) -> Result<(), test::Fail> {
         let items = paragraph(rt.alloc(), text)?;
         assert!(rt; is_in_range(&items));
         let mut found = places(rt.alloc(), &items, &params, discs)?;
-        while found.len() < 4 {
+        for _ in found.len()..4 {
             found.push(0)?;
         }
         assert!(rt; found.as_slice() == wanted.as_slice(), "{text}");

@@ -1,5 +1,4 @@
-use Rattle.std.proofs.Common.{ℕ, List, ◌≡◌, ◌*◌, ◌^◌, ◌+◌, ◌≤◌, ◌+ℤ◌, [], ◌∷◌, ◌∙◌, sym, ap, subst, w64, rules, FitsSigned, arith}
-use Rattle.std.specs.Int.RustNames.{unsigned_abs}
+use Rattle.std.proofs.Common.{ℕ, List, ◌≡◌, ◌*◌, ◌^◌, ◌+◌, ◌∙◌, sym, ap, subst, w64, rules, FitsSigned, arith}
 use Rattle.std.proofs.lemmas.Int.{to_z-of_z}
 use Rattle.ntx_num.specs.Dimension.{max_dimension}
 use Rattle.ntx_item.proofs.SumLemmas.{absolute_sum}

@@ -2,7 +2,7 @@ use Rattle.std.proofs.Common.{◌+◌, get_or, subst, sym, ap, ◌∙◌, take}
 use Rattle.ntx_item.specs.Items.{max_total}
 use Rattle.ntx_item.proofs.ItemsLemmas.{parts_are_in_range}
 use Rattle.ntx_legal.specs.declared.sums.Sums.{Sums}
-use Rattle.ntx_legal.specs.LineSums.{sums_of, sums_with, AreSumsWithin}
+use Rattle.ntx_legal.specs.LineSums.{sums_with, AreSumsWithin}
 use Rattle.ntx_legal.proofs.SumsLemmas.{sums_within, sums_more, past_end}
 use Rattle.ntx_legal.proofs.sums.sums_of.Goals as goal
 

@@ -1,7 +1,7 @@
-use Rattle.std.proofs.Common.{◌-◌, ◌∙◌, ap, sym, subst, take}
+use Rattle.std.proofs.Common.{◌-◌, ◌∙◌, sym, subst, take}
 use Rattle.ntx_item.specs.Items.{max_total}
 use Rattle.ntx_item.proofs.ItemsLemmas.{parts_are_in_range}
-use Rattle.ntx_legal.specs.LineSums.{sums_of, AreSumsWithin}
+use Rattle.ntx_legal.specs.LineSums.{AreSumsWithin}
 use Rattle.ntx_legal.specs.Totals.{sums_minus}
 use Rattle.ntx_legal.proofs.SumsLemmas.{sums_within}
 use Rattle.ntx_legal.proofs.TotalsLemmas.{sums_between, minus_within}

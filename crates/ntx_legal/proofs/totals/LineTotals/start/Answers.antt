@@ -1,7 +1,7 @@
 use Rattle.std.proofs.Common.{◌≡◌, ◌-◌, ◌∙◌, ap, sym, take, drop}
 use Rattle.std.specs.Prelude.{min}
 use Rattle.ntx_legal.specs.LineSums.{sums_of}
-use Rattle.ntx_legal.proofs.TotalsLemmas.{kept_later, kept_whole, kept_start}
+use Rattle.ntx_legal.proofs.TotalsLemmas.{kept_later, kept_start}
 use Rattle.ntx_legal.proofs.totals.LineTotals.start.Goals as goal
 
 pub returns-clause-value : goal.returns-clause-value
