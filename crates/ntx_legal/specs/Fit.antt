@@ -25,6 +25,6 @@ shrunk shortfall shrink =
     if int_lt shrink (neg_ℤ shortfall) then record { shortfall = shortfall; b = pos 10001; class = 3 }
     else let b = badness_of (unsigned_abs shortfall) shrink in record { shortfall = shortfall; b = pos b; class = shrunk_class b }
 
--- `infinite` is whether the line has glue that stretches infinitely
+-- `infinite` is whether the total stretch of some infinite order is not 0
 abbrev pub fitted : ℤ → Bool → ℤ → ℤ → Line
 fitted shortfall infinite stretch shrink = if int_lt (pos 0) shortfall then stretched shortfall infinite stretch else shrunk shortfall shrink

@@ -1,5 +1,5 @@
--- Which items of a line count ("TeX: The Program", sections 148, 837 and 879): those between its two places, but that what a break discards
--- does not count.
+-- Which items of a line count ("TeX: The Program", sections 148, 837 and 879): those between its two places, except the items
+-- that the break discards.
 --     kept_items items from to          the items of the line between two places that count
 use Rattle.std.specs.Prelude.{ℕ, ◌-◌, nat_eq, Bool, true, false, ◌||◌, not, if◌then◌else◌, Option, Some, List, take, drop}
 use Rattle.std.specs.List.{prefix_len}

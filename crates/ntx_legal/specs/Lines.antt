@@ -15,7 +15,7 @@ use Rattle.ntx_legal.specs.declared.stretch.GlueStretch.{GlueStretch}
 use Rattle.ntx_legal.specs.declared.sums.Sums.{Sums}
 use Rattle.ntx_legal.specs.declared.fit.Line.{Line}
 
--- what a discretionary shows after a break, and before it: as wide as a kern
+-- what a discretionary shows after a break, and before it, as a kern of that width
 abbrev pub shown_after : Option Item → List Item
 shown_after (Some (Disc pre post replace pre_empty post_empty regular)) = Kern post.w true ∷ []
 shown_after _ = []
@@ -28,7 +28,7 @@ abbrev pub parts_of : Settings → List Item → ℕ → ℕ → List Item
 parts_of params items from to =
     Glue params.leftskip ∷ shown_after (item_at items from) ++ kept_items items from to ++ shown_before (item_at items to) ++ Glue params.rightskip ∷ []
 
--- whether some glue of an infinite order stretches
+-- whether the total stretch of some infinite order is not 0
 abbrev pub is_infinite : GlueStretch → Bool
 is_infinite stretch = not (int_eq stretch.fil (pos 0)) || not (int_eq stretch.fill (pos 0)) || not (int_eq stretch.filll (pos 0))
 

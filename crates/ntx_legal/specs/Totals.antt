@@ -1,6 +1,6 @@
 -- Totals of the first items of a list, from which the sums of any line are found in constant time ("TeX: The Program", section 823, keeps
 -- running totals for the same end).
---     entry_of items n                  of the first n items
+--     entry_of items n                  the totals of the first n items
 --     AreTotalsOf items totals          one entry for each number of items
 use Rattle.std.specs.Prelude.{◌≡◌, ℕ, ◌+◌, ◌-ℤ◌, List, length, take, drop, map}
 use Rattle.std.specs.List.{range_with_len, prefix_len}

@@ -60,7 +60,7 @@ fn background(params: &Params) -> Sums
     )))
 }
 
-/// Whether some glue of an infinite order stretches.
+/// Whether the total stretch of some infinite order is not 0.
 fn is_infinite(stretch: GlueStretch) -> bool
     ensures { result ≡ is_infinite stretch }
 {

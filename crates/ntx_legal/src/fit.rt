@@ -16,7 +16,7 @@ pub struct Line {
     pub class: u8,
 }
 
-/// The greatest shortfall whose badness is found by dividing it by the stretch.
+/// The greatest shortfall that badness multiplies by 297 before it divides.
 const GREATEST_SHORTFALL: i64 = 7_230_584;
 
 /// The least stretch for which a larger shortfall can have a badness below 10000.
@@ -98,7 +98,8 @@ fn shrunk(shortfall: i64, shrink: i64) -> Line
     }
 }
 
-/// A line that is too narrow by `shortfall`, or too wide if that is below 0. `infinite` says whether it has glue that stretches infinitely.
+/// A line that is too narrow by `shortfall`, or too wide if that is below 0. `infinite` says whether the total stretch of some
+/// infinite order is not 0.
 pub(crate) fn fitted(shortfall: i64, infinite: bool, stretch: i64, shrink: i64) -> Line
     requires { unsigned_abs shortfall ≤ 2 ^ 62 }
     ensures { result ≡ fitted shortfall infinite stretch shrink }

@@ -7,7 +7,7 @@ ghost use Rattle.ntx_legal.specs.Kept.{is_discardable, keeps_all, without_discar
 
 use ntx_item::Item;
 
-/// Whether a break discards the item if it stands directly after it.
+/// Whether a break discards this item if the item follows it.
 pub(crate) fn is_discardable(item: &Item) -> bool
     ensures { result ≡ is_discardable item.now }
 {

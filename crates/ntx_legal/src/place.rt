@@ -31,7 +31,7 @@ fn is_glue(item: &Item) -> bool
     matches!(item, Item::Glue { .. })
 }
 
-/// What a break at a discretionary costs.
+/// What a break at a discretionary costs: `exhyphenpenalty` if it shows nothing before the break.
 fn disc_penalty(params: &Params, pre_empty: bool) -> i64
     ensures { result ≡ disc_penalty params.now pre_empty }
 {
@@ -42,7 +42,7 @@ fn disc_penalty(params: &Params, pre_empty: bool) -> i64
     }
 }
 
-/// Whether an item stands before that with this index, after which glue may be broken at.
+/// Whether a line may end at glue with this index: a box, a glyph, a rule, a discretionary or a font's kern stands directly before it.
 fn follows_matter(items: &[Item], i: usize) -> bool
     requires { i < length items.now }
     ensures { result ≡ is_there_with Places.precedes_break (item_at items.now i) }
@@ -78,8 +78,8 @@ fn may_break(items: &[Item], params: &Params, discs: bool, i: usize, item: &Item
 
 /// The places where a line may end, in ascending order, counted from 1; the last is the end of the paragraph. They are glue directly
 /// after a glyph, a box, a rule, a discretionary or a kern of a font; an explicit kern directly before glue; a penalty below
-/// 10000; and a discretionary whose cost is below 10000. A discretionary that comes from hyphenation is a place only if
-/// `discs` is true.
+/// 10000; and a discretionary whose cost is below 10000, which is `hyphenpenalty` if it shows something before the break, and
+/// `exhyphenpenalty` if it does not. A discretionary that comes from hyphenation is a place only if `discs` is true.
 pub fn places(
     alloc: Global,
     items: &[Item],

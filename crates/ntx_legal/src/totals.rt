@@ -17,11 +17,11 @@ use std::alloc::Global;
 pub struct Entry {
     /// What they come to together.
     pub sums: Sums,
-    /// How many items there are up to the first that a break after them does not discard.
+    /// How many items stand before the first one that a break after these does not discard.
     pub kept: u64,
 }
 
-/// Totals of the first items of a list, for each number of them. They take about 64 bytes an item.
+/// Totals of the first items of a list, for each number of them: seven numbers of 64 bits each.
 #[derive(Drop)]
 pub struct LineTotals {
     /// One entry for each number of items, from none to all.

@@ -77,7 +77,7 @@ fn rigid(letter: u8) -> Item {
 
 /// The item that a letter is written for: `a` a glyph, `b` a box, `r` a rule, `k` an explicit kern, `n` a font kern, `p`, `q`, `P` and `F` penalties of 50,
 /// 9999, 10000 and -10000; a space, `i`, `j` and `s` glue that stretches and shrinks, stretches infinitely by 1, by -1, and
-/// shrinks; `-`, `=`, `e` and `d` discretionaries: hyphenation's, one that shows something after the break alone, an explicit hyphen without a
+/// shrinks; `-`, `=`, `e` and `d` discretionaries: hyphenation's, one that shows something only after the break, an explicit hyphen without a
 /// list, and one with three lists.
 fn item_of(letter: u8) -> Item {
     match letter {
