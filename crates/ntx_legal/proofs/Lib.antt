@@ -1,0 +1,5 @@
+pub mod SumsLemmas
+pub mod PlaceLemmas
+pub mod PartLemmas
+pub mod TotalsLemmas
+pub mod SmallItems
