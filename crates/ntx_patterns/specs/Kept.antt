@@ -13,7 +13,7 @@ child_in places children symbol = slice_get children (place_of places symbol)
 abbrev pub child_of : Node → ℕ → Option Node
 child_of node symbol = child_in (out-Node node).places (out-Node node).children.items symbol
 
--- the table of a node: the digits at the end of the way that the symbols name; none where the way ends before
+-- the table of a node: the digits of the node to which the symbols lead; empty if they lead to none
 unfoldable pub row : Node → Table
 row node [] = (out-Node node).digits.items
 row node (symbol ∷ others) = unwrap_or (option_map (λ child. row child others) (child_of node symbol)) []

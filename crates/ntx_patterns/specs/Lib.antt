@@ -6,7 +6,7 @@ pub mod File
 pub mod Table
 -- the points at which a word may be divided
 pub mod Points
--- where a node of a trie has its children
+-- the places of a node's children
 pub mod Places
 -- the table of patterns as they are kept
 pub mod Kept

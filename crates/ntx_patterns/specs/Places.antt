@@ -1,4 +1,4 @@
--- Where a node of a trie has its children.
+-- The places of a node's children in a trie.
 use Rattle.std.specs.Prelude.{◌≡◌, ◌≢◌, ℕ, ◌+◌, ◌-◌, ◌<◌, ◌==◌, List, length, count_by, slice_index, slice_index_or, if◌then◌else◌}
 use Rattle.ntx_patterns.specs.Pattern.{dot, is_letter}
 

@@ -1,4 +1,4 @@
--- Nodes of a trie, in all of which the places name the children.
+-- Nodes of a trie whose places name their children.
 use Rattle.std.specs.Prelude.{ℕ, List, [], ◌∷◌, length, IfSome}
 use Rattle.std.specs.Option.{option_map, unwrap_or}
 use Rattle.ntx_patterns.specs.declared.trie.Node.{Node, out-Node}
