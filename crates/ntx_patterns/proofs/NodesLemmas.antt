@@ -1,6 +1,6 @@
 -- The table of a node, and what is left of it after a child or a pattern is added.
 use Rattle.std.specs.Option.{option_map, unwrap_or}
-use Rattle.std.proofs.Common.{◌≡◌, ◌≢◌, ℕ, zero, suc, ◌+◌, ◌-◌, ◌<◌, ◌≤◌, ◌⊎◌, Bool, true, false, List, [], ◌∷◌, ◌++◌, length, take, drop, set, get_or, Option, Some, None, IfSome, MatchOption, is_some, ltb, bytes_eq, nat_eq, if◌then◌else◌, refl, ap, sym, ◌∙◌, arith, inl, inr}
+use Rattle.std.proofs.Common.{◌≡◌, ◌≢◌, ℕ, ◌+◌, ◌-◌, ◌<◌, ◌≤◌, ◌⊎◌, true, false, List, [], ◌∷◌, ◌++◌, length, take, drop, set, get_or, Option, Some, None, IfSome, MatchOption, is_some, ltb, bytes_eq, nat_eq, if◌then◌else◌, refl, ap, sym, ◌∙◌, arith, inl, inr}
 use Rattle.std.specs.List.{slice_get}
 use Rattle.std.proofs.Common.{get_or-set_other, get_or-set_same}
 use Rattle.std.proofs.Math.Path.{fun_ext}
@@ -14,11 +14,11 @@ use Rattle.ntx_patterns.specs.declared.trie.Node.{Node}
 use Rattle.ntx_patterns.specs.declared.trie.Node.TheOpen.{Node-F}
 use Rattle.ntx_patterns.specs.declared.trie.Node.TheViews.{out-Node, roll-Node, out-roll-Node}
 use Rattle.ntx_patterns.specs.Places.{symbol_index, place_of, IsPacked}
-use Rattle.ntx_patterns.specs.Table.{Table, greater_digits}
+use Rattle.ntx_patterns.specs.Table.{greater_digits}
 use Rattle.ntx_patterns.specs.Kept.{row, child_in}
 use Rattle.ntx_patterns.specs.inner.Adding.{added}
 use Rattle.ntx_patterns.specs.inner.Packed.{IsPackedAt, AllPacked, ArePacked, row_in}
-use Rattle.ntx_patterns.proofs.PlacesLemmas.{few, place_cases, places_apart, room, more_packed}
+use Rattle.ntx_patterns.proofs.PlacesLemmas.{few, place_cases, places_apart, more_packed}
 
 -- ---- a node
 pub rolled_digits : (x : Node-F Node) → (out-Node (roll-Node x)).digits.items ≡ x.digits.items

@@ -1,5 +1,5 @@
 -- Patterns as they are kept: a trie, seen as a table ("TeX: The Program", sections 943 to 949).
-use Rattle.std.specs.Prelude.{ℕ, List, [], ◌∷◌, Option, None, Some, slice_get}
+use Rattle.std.specs.Prelude.{ℕ, List, [], ◌∷◌, Option, slice_get}
 use Rattle.std.specs.Option.{option_map, unwrap_or}
 use Rattle.ntx_patterns.specs.declared.patterns.Patterns.{Patterns}
 use Rattle.ntx_patterns.specs.declared.trie.Node.{Node, out-Node}

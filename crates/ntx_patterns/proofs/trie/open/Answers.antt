@@ -1,5 +1,4 @@
-use Rattle.std.proofs.Common.{◌≡◌, ◌++◌, ◌∷◌, [], ap, sym, ◌∙◌, length, get_or, arith}
-use Rattle.ntx_patterns.specs.Places.{symbol_index}
+use Rattle.std.proofs.Common.{◌≡◌, ◌++◌, ◌∷◌, [], ap, ◌∙◌, length, arith}
 use Rattle.ntx_patterns.proofs.NodesLemmas.{opened_rows, opened_packed}
 use Rattle.ntx_patterns.proofs.trie.open.Goals as goal
 

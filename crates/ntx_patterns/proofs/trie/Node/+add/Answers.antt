@@ -1,8 +1,7 @@
-use Rattle.std.proofs.Common.{◌≡◌, ◌+◌, ◌-◌, ◌<◌, ℕ, get_or, set, take, drop, length, length-drop, ap, sym, ◌∙◌, refl, arith}
+use Rattle.std.proofs.Common.{◌≡◌, ◌+◌, ◌-◌, ◌<◌, get_or, set, take, drop, length, length-drop, ap, ◌∙◌, refl, arith}
 use Rattle.std.proofs.lemmas.List.{get_or_read, take_rest}
 use Rattle.std.proofs.lemmas.Grind.{get_or_after_one}
 use Rattle.std.proofs.lemmas.Result.{on_ok_weaker}
-use Rattle.ntx_patterns.specs.declared.trie.Node.TheViews.{out-Node}
 use Rattle.ntx_patterns.specs.Kept.{row}
 use Rattle.ntx_patterns.specs.inner.Adding.{added}
 use Rattle.ntx_patterns.proofs.NodesLemmas.{opened_node, child_packed, rolled_digits, rolled_places, rolled_children, rolled_packed, raised_node, added_child, changed_packed}

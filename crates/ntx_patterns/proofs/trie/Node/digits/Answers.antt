@@ -1,4 +1,4 @@
-use Rattle.std.proofs.Common.{ap, sym, ◌∙◌}
+use Rattle.std.proofs.Common.{sym, ◌∙◌}
 use Rattle.ntx_patterns.proofs.NodesLemmas.{row-nil}
 use Rattle.ntx_patterns.proofs.trie.Node.digits.Goals as goal
 
