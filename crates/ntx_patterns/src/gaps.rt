@@ -93,7 +93,8 @@ fn is_allowed(value: u8, n: usize, left: u64, right: u64, i: usize) -> bool
 /// there, 0 if none does, when each pattern is matched at each place of the word between two dots. Letters match in either
 /// case; any other byte matches nothing.
 ///
-/// Each place takes at most as many steps down the trie as the longest pattern has symbols, however many patterns there are.
+/// Each place takes at most as many steps down the trie as the longest pattern has symbols, and each step takes constant
+/// time, however many patterns there are.
 pub fn points(
     alloc: Global,
     p: &Patterns,

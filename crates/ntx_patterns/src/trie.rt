@@ -19,14 +19,13 @@ const ABSENT: u8 = 255;
 
 /// A node of a trie, and all nodes below it.
 ///
-/// A child is found in constant time: `places` has for each symbol where its child stands. A node takes 80 bytes.
-/// Each byte of a pattern adds at most one node. So a file of 4 MiB takes at most about 400 MB, if its patterns have few symbols
-/// in common.
+/// A child is found in constant time: `places` has the place of each symbol's child. A node takes 80 bytes, and each symbol of a
+/// pattern adds at most one. So a file of 4 MiB takes at most about 400 MB, if few of its patterns begin alike.
 #[derive(Debug, Drop)]
 pub struct Node {
     /// The digits of the patterns that end here, the greatest of each place; none if no pattern does.
     digits: Vec<u8>,
-    /// Where the child for each letter and for the dot stands among the children.
+    /// The place of the child for each letter and for the dot among the children.
     places: [u8; SYMBOLS],
     /// The nodes for one more symbol.
     children: Vec<Node>,
@@ -59,7 +58,7 @@ fn symbol_index(symbol: u8) -> usize
     }
 }
 
-/// Where the child for a symbol stands; past all children if there is none.
+/// The place of a symbol's child; past all children if there is none.
 fn place_of(places: &[u8], symbol: u8) -> usize
     ensures { result ≡ place_of places.now symbol }
 {
@@ -71,7 +70,7 @@ fn place_of(places: &[u8], symbol: u8) -> usize
     }
 }
 
-/// Where the child for a symbol stands; a child with nothing is made if there is none.
+/// The place of a symbol's child; a child with nothing is made if there is none.
 fn open(
     alloc: Global,
     places: &mut [u8; SYMBOLS],
