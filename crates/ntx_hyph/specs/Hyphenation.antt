@@ -1,9 +1,9 @@
 -- Hyphenating a list ("TeX: The Program", sections 891 to 918; LuaTeX Reference Manual, chapter "Languages, characters, fonts and glyphs"), as a trace of
 -- heaps.
---     list_names heap head          the nodes of the list itself, where the list with all in it is a horizontal one
+--     list_names heap head          the nodes of the list itself; it refuses as the check of a horizontal list does
 --     hyphenated char gap heap      a discretionary in one gap, with a hyphen before the break
---     hyphenation points s head heap      the pass over the list: in each gap with a point, from the left to the right, where `points`
---                                   gives those of a word
+--     hyphenation points s head heap      the pass over the list, in each gap with a point, from the left to the right; `points`
+--                                   gives the points of a word
 use Rattle.std.specs.Prelude.{◌≡◌, ◌⊎◌, ℕ, ℤ, pos, negsuc, unsigned_abs, List, map, Option, None, Some, Result, Ok, Err}
 use Rattle.ntx_num.specs.Answer.{result_map, result_and_then}
 use Rattle.ntx_num.specs.declared.answer.Fail.{Fail}

@@ -1,8 +1,8 @@
 -- The words of a list: maximal runs of adjacent glyphs of one font whose codes are letters, A to Z or a to z ("TeX: The Program", sections 891 to 899).
 --     letter_at heap n        the node of this name as a letter, if it is one
---     words_of letters        the words of a list, from its nodes as letters, as far as they are letters
+--     words_of letters        the words of a list; each of its nodes is given as a letter, or as none
 --     gap_in word i           the gap after the first i letters of a word
---     gaps_in points letters  the gaps of a list in which there is a point, where `points` gives those of a word's codes
+--     gaps_in points letters  the gaps of a list in which there is a point; `points` gives the points of a word's codes
 use Rattle.std.specs.Prelude.{ℕ, zero, suc, nat_eq, Bool, false, if◌then◌else◌, List, [], ◌∷◌, map, slice_get, Option, None, Some}
 use Rattle.std.specs.List.{flat_map, filter_map}
 use Rattle.std.specs.Option.{option_map, option_and_then}

@@ -18,7 +18,7 @@ use ntx_num::Fail;
 use ntx_patterns::Patterns;
 use std::alloc::Global;
 
-/// The nodes of the list itself, where the list with all in it is a horizontal one. Refuses as `check`.
+/// The nodes of the list itself. Refuses as the check of a horizontal list does.
 fn list_names<N: Nodes>(alloc: Global, nodes: &mut N, head: u64) -> Result<Vec<u64>, Fail<Trouble>>
     ensures same { N.heap nodes.new ≡ N.heap nodes.old }
     ensures names { Answers (result_map (λ names. names.items) result) (list_names (N.heap nodes.old) head) }

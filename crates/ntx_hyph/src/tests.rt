@@ -170,3 +170,25 @@ fn a_refusal_leaves_what_was_made(rt: HostRuntime) -> Result<(), test::Fail> {
     assert_eq!(rt; refused, Err(Fail::Is(Trouble::Loop(first))));
     Ok(())
 }
+
+#[test]
+fn a_full_heap_keeps_what_was_made(rt: HostRuntime) -> Result<(), test::Fail> {
+    let patterns = read_patterns(rt.alloc(), b"b1b")?;
+    let params = params_of(1, 1, 45);
+    let most = 1 << 18;
+    let mut heap = PlainHeap::new(rt.alloc(), 1)?;
+    list_of(&mut heap, b"bbb")?;
+    for _ in 6..most {
+        heap.make(Kind::Kern, 0)?;
+    }
+    assert_eq!(rt; heap.live(), most - 3);
+    let refused = hyphenate(rt.alloc(), &mut heap, &patterns, &params, 1);
+    assert_eq!(rt; refused, Err(Fail::Is(Trouble::NodesFull)));
+    assert_eq!(rt; heap.live(), most);
+    let text = written(rt.alloc(), &heap)?;
+    assert!(rt; text.as_slice() == b"b-b?b".as_slice());
+    assert_eq!(rt; heap.get(2, Field::Next), Ok(FieldValue::Link(Some(most))));
+    assert_eq!(rt; heap.kind_of(most), Ok((Kind::Disc, 3)));
+    assert_eq!(rt; heap.get(most, Field::Pre), Ok(FieldValue::Link(None)));
+    Ok(())
+}

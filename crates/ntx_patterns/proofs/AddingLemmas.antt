@@ -4,10 +4,8 @@ use Rattle.std.proofs.Math.Path.{fun_ext}
 use Rattle.std.proofs.lemmas.Bool.{cases_Bool}
 use Rattle.ntx_num.specs.Answer.{result_map, result_and_then}
 use Rattle.ntx_patterns.specs.declared.fault.PatternFault.{PatternFault}
-use Rattle.ntx_patterns.specs.declared.trie.Trie.TheVariants.{Empty}
 use Rattle.ntx_patterns.specs.Pattern.{Pattern}
 use Rattle.ntx_patterns.specs.Table.{Table, greater_digits, table_of}
-use Rattle.ntx_patterns.specs.Kept.{row}
 use Rattle.ntx_patterns.specs.inner.Adding.{with_pattern, with_patterns}
 use Rattle.ntx_patterns.proofs.DigitsLemmas.{greater-none, greater_assoc}
 
@@ -55,6 +53,5 @@ with_patterns_is table (pattern ∷ patterns) key =
       | inr other ↦ rw other refl
     ]
 
-pub with_patterns-empty : (patterns : List Pattern) → with_patterns (row Empty) patterns ≡ table_of patterns
-unfolding row
-with_patterns-empty patterns = fun_ext (with_patterns_is (row Empty) patterns)
+pub with_patterns-empty : (table : Table) (patterns : List Pattern) → ((key : List ℕ) → table key ≡ []) → with_patterns table patterns ≡ table_of patterns
+with_patterns-empty table patterns none = fun_ext (λ key. with_patterns_is table patterns key ∙ ap (λ digits. greater_digits digits (table_of patterns key)) (none key))

@@ -1,5 +1,6 @@
 pub mod DigitsLemmas
-pub mod TrieLemmas
+pub mod PlacesLemmas
+pub mod NodesLemmas
 pub mod AddingLemmas
 pub mod Position
 pub mod WordsLemmas

@@ -4,10 +4,8 @@ use Rattle.std.specs.List.{slice_split}
 use Rattle.std.proofs.Math.Path.{fun_ext}
 use Rattle.ntx_num.specs.Answer.{result_map}
 use Rattle.ntx_patterns.specs.declared.fault.PatternFault.{PatternFault}
-use Rattle.ntx_patterns.specs.declared.trie.Trie.TheVariants.{Empty}
 use Rattle.ntx_patterns.specs.File.{is_feed, words_of, patterns_on, patterns_from, patterns_of}
 use Rattle.ntx_patterns.specs.Table.{Table, table_of}
-use Rattle.ntx_patterns.specs.Kept.{row}
 use Rattle.ntx_patterns.specs.inner.Adding.{with_patterns}
 use Rattle.ntx_patterns.proofs.AddingLemmas.{lines_go_on, lines_stop, with_patterns-empty}
 
@@ -15,9 +13,10 @@ use Rattle.ntx_patterns.proofs.AddingLemmas.{lines_go_on, lines_stop, with_patte
 abbrev pub IsCut : List ℕ → List ℕ → List ℕ → Type 0
 IsCut rest line behind = (slice_split is_feed rest ≡ line ∷ slice_split is_feed behind) ⊎ ((slice_split is_feed rest ≡ line ∷ []) × (behind ≡ []))
 
-pub read_start : (bytes : List ℕ) → result_map table_of (patterns_of bytes) ≡ result_map (with_patterns (row Empty)) (patterns_from (0 + 1) (slice_split is_feed bytes))
+pub read_start : (table : Table) (bytes : List ℕ) → ((key : List ℕ) → table key ≡ [])
+    → result_map table_of (patterns_of bytes) ≡ result_map (with_patterns table) (patterns_from (0 + 1) (slice_split is_feed bytes))
 unfolding patterns_of
-read_start bytes = ap (λ f. result_map f (patterns_from 1 (slice_split is_feed bytes))) (sym (fun_ext with_patterns-empty))
+read_start table bytes none = ap (λ f. result_map f (patterns_from 1 (slice_split is_feed bytes))) (sym (fun_ext (λ patterns. with_patterns-empty table patterns none)))
 
 no_more : (number : ℕ) (behind : List ℕ) → behind ≡ [] → patterns_from number (slice_split is_feed behind) ≡ Ok []
 no_more number behind none = ap (λ text. patterns_from number (slice_split is_feed text)) none

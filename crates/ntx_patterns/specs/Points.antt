@@ -9,7 +9,7 @@ use Rattle.std.specs.Char.{to_ascii_lowercase}
 use Rattle.ntx_patterns.specs.Pattern.{Pattern, dot, is_letter}
 use Rattle.ntx_patterns.specs.Table.{Table}
 
--- a letter in lower case; 0, which no pattern has, for any other byte
+-- a letter in lower case; any other byte is 0, and no pattern has the symbol 0
 abbrev pub symbol_of : ℕ → ℕ
 symbol_of byte = if is_letter (to_ascii_lowercase byte) then to_ascii_lowercase byte else 0
 
@@ -22,13 +22,13 @@ unfoldable pub greatest : ℕ → (ℕ → ℕ) → ℕ
 greatest zero f = 0
 greatest (suc n) f = max (greatest n f) (f n)
 
--- What digits put before symbol `gap` of a text, if they begin before symbol `place`; 0 if they do not reach it.
+-- The digit before symbol `gap` of a text, if the first of these digits stands before symbol `place`; 0 if there is none.
 abbrev pub digit_at : List ℕ → ℕ → ℕ → ℕ
 digit_at digits place gap = if nat_le place gap then slice_index digits (gap - place) else 0
 
 -- ---- by all pairs of a pattern and a place
 
--- what a pattern puts there, if it matches at the front of the rest of the text from symbol `place` on; 0 otherwise
+-- the digit that a pattern puts there if it matches at the start of the rest of the text from symbol `place` on; else 0
 abbrev pub digit_of : Pattern → List ℕ → ℕ → ℕ → ℕ
 digit_of pattern rest place gap = if starts_with nat_eq rest pattern.symbols then digit_at pattern.digits place gap else 0
 

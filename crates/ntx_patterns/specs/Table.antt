@@ -3,7 +3,7 @@
 use Rattle.std.specs.Prelude.{ℕ, max, List, [], ◌∷◌, bytes_eq, if◌then◌else◌}
 use Rattle.ntx_patterns.specs.Pattern.{Pattern}
 
--- the digits for each list of symbols; none where there is no pattern
+-- the digits for each list of symbols; empty if there is no pattern
 abbrev pub Table : Type 0
 Table = List ℕ → List ℕ
 

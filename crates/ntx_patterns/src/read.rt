@@ -7,12 +7,13 @@ ghost use Rattle.ntx_patterns.specs.Pattern.{pattern_of};
 ghost use Rattle.ntx_patterns.specs.File.{patterns_of};
 ghost use Rattle.ntx_patterns.specs.File as file;
 ghost use Rattle.ntx_patterns.specs.inner.Adding.{with_pattern, with_patterns};
+ghost use Rattle.ntx_patterns.specs.inner.Packed.{AllPacked};
 ghost use Rattle.ntx_patterns.specs.Table.{table_of};
 ghost use Rattle.ntx_patterns.specs.Kept.{row, table};
 
 use crate::fault::PatternFault;
 use crate::patterns::Patterns;
-use crate::trie::Trie;
+use crate::trie::Node;
 use crate::word::{digits, is_pattern, symbols};
 use ntx_num::Fail;
 use std::alloc::Global;
@@ -92,11 +93,13 @@ fn next_word(text: &[u8]) -> Option<(&[u8], &[u8])>
 /// Adds the pattern of a word on the line of this number to a trie.
 fn add_word(
     alloc: Global,
-    trie: &mut Trie,
+    trie: &mut Node,
     number: u64,
     word: &[u8],
 ) -> Result<(), Fail<PatternFault>>
-    ensures { Answers (result_map (λ _. row trie.new) result) (result_map (with_pattern (row trie.old)) (file.read_at number (pattern_of word.now))) }
+    requires { AllPacked trie.old }
+    ensures rows { Answers (result_map (λ _. row trie.new) result) (result_map (with_pattern (row trie.old)) (file.read_at number (pattern_of word.now))) }
+    ensures packed { AllPacked trie.new }
 {
     if !is_pattern(word) {
         return Err(Fail::Is(PatternFault { line: number }));
@@ -110,11 +113,13 @@ fn add_word(
 /// Adds the patterns of the line of this number to a trie.
 fn add_line(
     alloc: Global,
-    trie: &mut Trie,
+    trie: &mut Node,
     number: u64,
     line: &[u8],
 ) -> Result<(), Fail<PatternFault>>
-    ensures { Answers (result_map (λ _. row trie.new) result) (result_map (with_patterns (row trie.old)) (file.patterns_on number (file.words_of line.now))) }
+    requires { AllPacked trie.old }
+    ensures rows { Answers (result_map (λ _. row trie.new) result) (result_map (with_patterns (row trie.old)) (file.patterns_on number (file.words_of line.now))) }
+    ensures packed { AllPacked trie.new }
 {
     let mut rest = before_comment(line);
     while let Some((word, behind)) = next_word(rest) {
@@ -134,7 +139,7 @@ fn add_line(
 pub fn read_patterns(alloc: Global, bytes: &[u8]) -> Result<Patterns, Fail<PatternFault>>
     ensures { Answers (result_map table result) (result_map table_of (patterns_of bytes.now)) }
 {
-    let mut trie = Trie::Empty;
+    let mut trie = Node::new(alloc);
     let mut number: u64 = 0;
     let mut rest = bytes;
     while !rest.is_empty() {

@@ -5,12 +5,13 @@ use Rattle.ntx_patterns.proofs.ReadLemmas.{read_start, line_read, read_end}
 use Rattle.ntx_patterns.proofs.read.read_patterns.Goals as goal
 
 pub loop-rest-init : goal.loop-rest-init
-loop-rest-init c = (read_start c.args.bytes.now, omega arith)
+loop-rest-init c = (read_start (row c.new-trie.result) c.args.bytes.now c.new-trie.ensures.rows, c.new-trie.ensures.packed, omega arith)
 
 pub loop-rest-preserved : goal.loop-rest-preserved
 loop-rest-preserved c = (
   c.loop-rest.invariant.0
-      ∙ line_read (row c.loop-rest.trie) (row c.add_line.new.trie) (c.loop-rest.number + 1) c.loop-rest.rest.now c.next_line.result.0.now c.next_line.result.1.now c.next_line.ensures.lines c.in_ok-add_line.ensures,
+      ∙ line_read (row c.loop-rest.trie) (row c.add_line.new.trie) (c.loop-rest.number + 1) c.loop-rest.rest.now c.next_line.result.0.now c.next_line.result.1.now c.next_line.ensures.lines c.in_ok-add_line.ensures.rows,
+  c.add_line.ensures.packed,
   omega arith,
 )
 
