@@ -1,5 +1,5 @@
 -- The fonts of a file: what a definition leaves, and that each operation of a character finds what it needs.
-use Rattle.std.proofs.Common.{◌≡◌, ◌≢◌, ⊎_elim, ℕ, zero, suc, ◌+◌, ◌<◌, ◌≤◌, Bool, true, false, List, [], ◌∷◌, ◌++◌, length, drop, set, replicate, Option, Some, None, Result, Ok, refl, sym, ap, ◌∙◌, subst, arith}
+use Rattle.std.proofs.Common.{◌≡◌, ◌≢◌, ⊎_elim, ℕ, zero, suc, ◌<◌, ◌≤◌, Bool, true, false, List, [], ◌∷◌, ◌++◌, length, drop, replicate, Option, Some, None, Result, Ok, refl, sym, ap, ◌∙◌, subst, arith}
 use Rattle.std.specs.Prelude.{All, IsSome, is_some, IfSome, MatchOption, slice_set, if◌then◌else◌}
 use Rattle.std.proofs.lemmas.List.{get_or-set_same, get_or-set_other, length-replicate}
 use Rattle.std.proofs.lemmas.List.Elements.{All-replicate}
@@ -49,8 +49,8 @@ pub others_stay_set : (old new : List (Option FontDef)) (number : ℕ) (def : Fo
 others_stay_set old new number def is =
     record {
       each =
-        λ other differs.
-        ap (λ (f : List (Option FontDef)). definition_in f other) is ∙ get_or-set_other old number other (Some def) None differs;
+          λ other differs.
+          ap (λ (f : List (Option FontDef)). definition_in f other) is ∙ get_or-set_other old number other (Some def) None differs;
     }
 
 -- A font that is known by its number may be used.
@@ -70,10 +70,10 @@ pub are_known_still : (old new : List (Option FontDef)) (known : ℕ → Option 
 are_known_still old new known number def are is again others =
     record {
       each = λ other.
-        ⊎_elim
-        (λ (same : other ≡ number). subst (λ (n : ℕ). IfSome (definition_in new n) (λ d. known n ≡ Some d)) (sym same) (known_again (definition_in new number) (known number) def is again))
-        (λ (differs : other ≢ number). subst (λ (found : Option FontDef). IfSome found (λ d. known other ≡ Some d)) (sym (others.each other differs)) (are.each other))
-        (cases_eq other number);
+          ⊎_elim
+          (λ (same : other ≡ number). subst (λ (n : ℕ). IfSome (definition_in new n) (λ d. known n ≡ Some d)) (sym same) (known_again (definition_in new number) (known number) def is again))
+          (λ (differs : other ≢ number). subst (λ (found : Option FontDef). IfSome found (λ d. known other ≡ Some d)) (sym (others.each other differs)) (are.each other))
+          (cases_eq other number);
     }
 
 pub are_known_as : (old new : List (Option FontDef)) (known : ℕ → Option FontDef) → new ≡ old → AreKnown old known → AreKnown new known

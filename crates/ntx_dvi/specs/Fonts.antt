@@ -1,6 +1,6 @@
 -- The fonts of a DVI file ("TeX: The Program", sections 588 and 621): each that is used has one definition among the pages, before its first
 -- use, and is chosen in each page before its first character there. The postamble defines them again.
-use Rattle.std.specs.Prelude.{◌≡◌, ◌≢◌, ◌≤◌, ℕ, ℤ, pos, ◌≤ℤ◌, nat_eq, Bool, false, if◌then◌else◌, List, [], ◌∷◌, ◌++◌, length, slice_index_or, Option, Some, None, MatchOption, IfSome, IsSome, is_some}
+use Rattle.std.specs.Prelude.{◌≡◌, ◌≢◌, ◌≤◌, ℕ, pos, ◌≤ℤ◌, nat_eq, Bool, false, if◌then◌else◌, List, [], ◌∷◌, ◌++◌, length, slice_index_or, Option, Some, None, MatchOption, IfSome, IsSome, is_some}
 use Rattle.ntx_tfm.specs.declared.def.FontDef.{FontDef}
 use Rattle.ntx_dvi.specs.Operation.{Operation, Begin, PageStart, Push, Pop, Right, Down, Rule, DefineFont, ChooseFont, SetCharacter, PageEnd, End}
 use Rattle.ntx_dvi.specs.Progress.{Progress}

@@ -212,8 +212,8 @@ impl Dvi {
         requires same { MayBe self.old.progress.fonts font def.now }
         ensures writes { Writes result self.old self.new (glyph_operations self.old.progress font def.now code) }
         ensures ready { AreReady self.old.progress (glyph_operations self.old.progress font def.now code) }
-        ensures in_page { OnOk result (IsInPage self.new) }
-        ensures pushes { OnOk result (self.new.progress.open_pushes ≡ self.old.progress.open_pushes) }
+        ensures in_page { IsInPage self.new }
+        ensures pushes { self.new.progress.open_pushes ≡ self.old.progress.open_pushes }
         ensures fonts { OnOk result (self.new.progress.fonts ≡ slice_set self.old.progress.fonts font (Some def.now)) }
         ensures again { MayBe self.new.progress.fonts font def.now }
         ensures others { OthersStay self.old.progress.fonts self.new.progress.fonts font }

@@ -1,8 +1,8 @@
 //! Files whose bytes are known from outside, by DVItype's description of the format.
 
-ghost use Rattle.std.specs.Prelude.{◌≡◌, ◌≤◌, ◌<◌, ◌≤ℤ◌, pos, All, length, slice_get, IfOk, OnOk};
+ghost use Rattle.std.specs.Prelude.{◌≡◌, ◌≤◌, ◌<◌, ◌^◌, ◌≤ℤ◌, pos, All, length, replicate, slice_get, None, IfOk};
 ghost use Rattle.ntx_dvi.specs.Fonts.{IsDefinable, AreKnown};
-ghost use Rattle.ntx_dvi.specs.Writer.{IsInPage};
+ghost use Rattle.ntx_dvi.specs.Writer.{IsInPage, HasNoOpenPush};
 
 use super::*;
 use ntx_num::Fail::Is;
@@ -178,6 +178,29 @@ fn font(
     })
 }
 
+/// Two fonts.
+fn two_fonts(alloc: Global) -> Result<[FontDef; 2], NoMemory>
+    ensures { IfOk result (All IsDefinable) }
+{
+    let roman = font(alloc, 0x0102_0304, 0x0008_0000, 0x000a_0000, b"cmr10")?;
+    let tiny = font(alloc, 0xfffe_fdfc, 1, 0x03ff_ffff, b"t")?;
+    Ok([roman, tiny])
+}
+
+/// A file whose first page has begun, without the bytes up to there.
+fn begun(alloc: Global, limit: u64) -> Result<Dvi, ntx_num::Fail<DviFull>>
+    requires { limit < 2 ^ 31 }
+    ensures in_page { IfOk result IsInPage }
+    ensures no_push { IfOk result HasNoOpenPush }
+    ensures fonts { IfOk result (λ dvi. dvi.progress.fonts ≡ replicate 64 None) }
+{
+    let mut dvi = Dvi::new(alloc, limit)?;
+    dvi.begin()?;
+    dvi.page_start(1)?;
+    let _start = dvi.take();
+    Ok(dvi)
+}
+
 /// Sets a character in one of the fonts of a file, which has no others.
 fn set(
     dvi: &mut Dvi,
@@ -189,8 +212,8 @@ fn set(
     requires number { number < 2 }
     requires definable { All IsDefinable fonts.now }
     requires known { AreKnown dvi.old.progress.fonts (slice_get fonts.now) }
-    ensures in_page { OnOk result (IsInPage dvi.new) }
-    ensures pushes { OnOk result (dvi.new.progress.open_pushes ≡ dvi.old.progress.open_pushes) }
+    ensures in_page { IsInPage dvi.new }
+    ensures pushes { dvi.new.progress.open_pushes ≡ dvi.old.progress.open_pushes }
     ensures known { AreKnown dvi.new.progress.fonts (slice_get fonts.now) }
 {
     dvi.glyph(number, &fonts[usize::from(number)], code)
@@ -198,13 +221,8 @@ fn set(
 
 #[test]
 fn a_font_is_defined_once_and_chosen_when_it_changes(rt: HostRuntime) -> Result<(), Fail> {
-    let roman = font(rt.alloc(), 0x0102_0304, 0x0008_0000, 0x000a_0000, b"cmr10")?;
-    let tiny = font(rt.alloc(), 0xfffe_fdfc, 1, 0x03ff_ffff, b"t")?;
-    let fonts = [roman, tiny];
-    let mut dvi = Dvi::new(rt.alloc(), 240)?;
-    dvi.begin()?;
-    dvi.page_start(1)?;
-    assert_eq!(rt; dvi.take().len(), 63);
+    let fonts = two_fonts(rt.alloc())?;
+    let mut dvi = begun(rt.alloc(), 240)?;
     set(&mut dvi, &fonts, 0, 65)?;
     set(&mut dvi, &fonts, 1, 128)?;
     set(&mut dvi, &fonts, 1, 127)?;
@@ -233,13 +251,12 @@ fn a_font_is_defined_once_and_chosen_when_it_changes(rt: HostRuntime) -> Result<
 #[test]
 fn a_font_is_chosen_again_in_each_page(rt: HostRuntime) -> Result<(), Fail> {
     let def = font(rt.alloc(), 0, 1, 1, b"t")?;
-    let mut dvi = Dvi::new(rt.alloc(), 240)?;
-    dvi.begin()?;
-    dvi.page_start(1)?;
-    assert_eq!(rt; dvi.take().len(), 63);
+    let mut dvi = begun(rt.alloc(), 240)?;
     dvi.glyph(63, &def, 1)?;
     dvi.page_end(0, 0)?;
-    let first = [0xf3, 0x3f, 0, 0, 0, 0, 0, 0, 0, 1, 0, 0, 0, 1, 0, 1, 0x74, 0xea, 1, 0x8c];
+    let first = [
+        0xf3, 0x3f, 0, 0, 0, 0, 0, 0, 0, 1, 0, 0, 0, 1, 0, 1, 0x74, 0xea, 1, 0x8c,
+    ];
     assert_eq!(rt; dvi.take().as_slice(), first.as_slice());
     dvi.page_start(2)?;
     assert_eq!(rt; dvi.take().len(), 45);
@@ -251,21 +268,19 @@ fn a_font_is_chosen_again_in_each_page(rt: HostRuntime) -> Result<(), Fail> {
 #[test]
 fn a_character_is_written_as_far_as_there_is_room(rt: HostRuntime) -> Result<(), Fail> {
     let def = font(rt.alloc(), 0, 0x0008_0000, 0x000a_0000, b"cmr10")?;
-    for (limit, written) in [
-        (63, 0),
-        (83, 0),
-        (84, 21),
-        (85, 22),
-        (86, 22),
-        (87, 24),
-    ] {
-        let mut dvi = Dvi::new(rt.alloc(), limit)?;
-        dvi.begin()?;
-        dvi.page_start(1)?;
-        assert_eq!(rt; dvi.take().len(), 63);
-        assert_eq!(rt; dvi.glyph(0, &def, 200).is_ok(), limit == 87, "limit {limit}");
+    for (limit, written) in [(63, 0), (83, 0), (84, 21), (85, 22), (86, 22), (87, 24)] {
+        let mut dvi = begun(rt.alloc(), limit)?;
+        assert_eq!(rt;
+            dvi.glyph(0, &def, 200).is_ok(),
+            limit == 87,
+            "limit {limit}"
+        );
         assert_eq!(rt; dvi.take().len(), written, "limit {limit}");
-        assert_eq!(rt; dvi.glyph(0, &def, 65).is_ok(), limit == 86, "limit {limit}");
+        assert_eq!(rt;
+            dvi.glyph(0, &def, 65).is_ok(),
+            limit == 86,
+            "limit {limit}"
+        );
         assert_eq!(rt; dvi.take().len(), usize::from(limit == 86), "limit {limit}");
     }
     Ok(())
