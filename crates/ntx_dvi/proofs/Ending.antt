@@ -1,17 +1,14 @@
--- The bytes that end a file are the front of the longest that there may be.
+-- The bytes that end a file: the postamble, what follows it, and fillers up to a length that is a multiple of four.
 use Rattle.std.proofs.Common.{◌≡◌, ℕ, ◌+◌, ◌≤◌, List, ◌++◌, length, take, replicate, ap, ◌∙◌}
-use Rattle.std.proofs.Math.Seq.{take-append-add}
 use Rattle.std.proofs.lemmas.List.{take-replicate}
 use Rattle.ntx_dvi.specs.Operation.{End}
 use Rattle.ntx_dvi.specs.Progress.{Progress}
-use Rattle.ntx_dvi.specs.Bytes.{ending, filler_count, operation_bytes}
+use Rattle.ntx_dvi.specs.Bytes.{postamble, definitions, post_post, filler_count, fillers, operation_bytes}
 
--- some of the elements that are repeated at the end
-take-repeated : (front : List ℕ) (x count most : ℕ) → count ≤ most → take (length front + count) (front ++ replicate most x) ≡ front ++ replicate count x
-take-repeated front x count most h =
-    take-append-add front (replicate most x) count ∙ ap (λ (xs : List ℕ). front ++ xs) (take-replicate count most x h)
-
-pub take-ending : (p : Progress) (count : ℕ) (bytes : List ℕ) → bytes ≡ ending p ++ replicate 7 223 → count ≡ filler_count (p.place + 35) → count ≤ 7 → take (35 + count) bytes ≡ operation_bytes p End
+-- What was put together is the bytes of the operation.
+pub end_bytes : (p : Progress) (bytes all : List ℕ) (count : ℕ) → bytes ≡ (postamble p ++ definitions 0 p.fonts) ++ post_post p → count ≡ filler_count (p.place + length bytes) → count ≤ 7 → all ≡ bytes ++ take count (replicate 7 223) → all ≡ operation_bytes p End
 unfolding operation_bytes
-take-ending p count bytes same counted most =
-    ap (take (35 + count)) same ∙ take-repeated (ending p) 223 count 7 most ∙ ap (λ (n : ℕ). ending p ++ replicate n 223) counted
+end_bytes p bytes all count same counted most is =
+    is ∙ ap (λ (rest : List ℕ). bytes ++ rest) (take-replicate count 7 223 most)
+    ∙ ap (λ (n : ℕ). bytes ++ replicate n 223) counted
+    ∙ ap (λ (b : List ℕ). b ++ fillers (p.place + length b)) same

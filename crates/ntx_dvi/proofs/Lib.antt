@@ -6,3 +6,5 @@ pub mod Ending
 pub mod Writing
 -- the bytes of a file whose operations were all written
 pub mod FileLemmas
+-- the fonts of a file
+pub mod FontsLemmas

@@ -1,10 +1,11 @@
 -- The bytes of each operation ("TeX: The Program", sections 583 to 591, 617, 640 and 642).
 -- A number of several bytes has its highest byte first, and one that may be negative is in two's complement.
-use Rattle.std.specs.Prelude.{ℕ, ◌+◌, ◌-◌, ◌*◌, ◌%◌, ◌^◌, ◌&&◌, Bool, if◌then◌else◌, List, [], ◌∷◌, ◌++◌, length, replicate, codes, ℤ, pos, neg_ℤ, int_le, int_lt}
+use Rattle.std.specs.Prelude.{ℕ, ◌+◌, ◌-◌, ◌*◌, ◌%◌, ◌^◌, nat_lt, ◌&&◌, Bool, if◌then◌else◌, List, [], ◌∷◌, ◌++◌, length, replicate, codes, ℤ, pos, neg_ℤ, int_le, int_lt, Option, Some, None}
 use Rattle.std.specs.Int.{w32, cast_unsigned}
 use Rattle.std.specs.Ordering.{int_eq}
 use Rattle.byteorder.specs.Endian.{big_bytes}
-use Rattle.ntx_dvi.specs.Operation.{Operation, Begin, PageStart, Push, Pop, Right, Down, Rule, PageEnd, End}
+use Rattle.ntx_dvi.specs.Operation.{Operation, Begin, PageStart, Push, Pop, Right, Down, Rule, DefineFont, ChooseFont, SetCharacter, PageEnd, End}
+use Rattle.ntx_tfm.specs.declared.def.FontDef.{FontDef}
 use Rattle.ntx_dvi.specs.Progress.{Progress}
 
 -- the low bytes of a signed number, as many as are wanted
@@ -40,15 +41,38 @@ movement_bytes code z = if int_eq z (pos 0) then [] else (code + shortest z) ∷
 abbrev pub rule_bytes : ℤ → ℤ → List ℕ
 rule_bytes height width = 132 ∷ signed_bytes 4 height ++ signed_bytes 4 width
 
+-- fnt_def1, with the number, the checksum, the size, the design size, no name of a directory, and the name
+abbrev pub definition_bytes : ℕ → FontDef → List ℕ
+definition_bytes number def =
+    243 ∷ number ∷ big_bytes 4 def.checksum ++ signed_bytes 4 def.size ++ signed_bytes 4 def.design ++ 0 ∷ length def.name ∷ def.name
+
+-- set_char, or set1 with the code
+abbrev pub character_bytes : ℕ → List ℕ
+character_bytes code = if nat_lt code 128 then code ∷ [] else 128 ∷ code ∷ []
+
+-- the definition of a font, if it has one
+abbrev pub definition_if : ℕ → Option FontDef → List ℕ
+definition_if number None = []
+definition_if number (Some def) = definition_bytes number def
+
+-- the definitions of fonts, of which the first has this number; the highest number comes first
+abbrev pub definitions : ℕ → List (Option FontDef) → List ℕ
+definitions number [] = []
+definitions number (font ∷ fonts) = definitions (number + 1) fonts ++ definition_if number font
+
 -- post, with the place of the last page, the units, the greatest sizes of pages, the most open pushes, and the number of pages
 abbrev pub postamble : Progress → List ℕ
 postamble p =
     248 ∷ signed_bytes 4 p.last_page ++ units ++ signed_bytes 4 p.tallest ++ signed_bytes 4 p.widest ++ big_bytes 2 p.deepest
     ++ big_bytes 2 (p.pages % 2 ^ 16)
 
--- the postamble, and post_post with its place and the format
+-- post_post, with the place of the postamble and the format
+abbrev pub post_post : Progress → List ℕ
+post_post p = 249 ∷ big_bytes 4 p.place ++ 2 ∷ []
+
+-- the postamble with the definitions of all fonts that were used, and post_post
 abbrev pub ending : Progress → List ℕ
-ending p = postamble p ++ 249 ∷ big_bytes 4 p.place ++ 2 ∷ []
+ending p = postamble p ++ definitions 0 p.fonts ++ post_post p
 
 -- how many bytes fill a file of so many up: four, and up to three more to a length that is a multiple of four
 abbrev pub filler_count : ℕ → ℕ
@@ -67,5 +91,8 @@ operation_bytes p Pop = 142 ∷ []
 operation_bytes p (Right distance) = movement_bytes 142 distance
 operation_bytes p (Down distance) = movement_bytes 156 distance
 operation_bytes p (Rule height width) = rule_bytes height width
+operation_bytes p (DefineFont number def) = definition_bytes number def
+operation_bytes p (ChooseFont number) = (171 + number) ∷ []
+operation_bytes p (SetCharacter code) = character_bytes code
 operation_bytes p (PageEnd total width) = 140 ∷ []
 operation_bytes p End = ending p ++ fillers (p.place + length (ending p))

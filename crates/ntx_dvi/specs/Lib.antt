@@ -6,6 +6,8 @@ pub mod Progress
 pub mod Bytes
 -- the bytes of a whole file
 pub mod File
+-- the fonts of a file
+pub mod Fonts
 -- a limit on the file's length
 pub mod Output
 -- the writer, and what one operation does to it

@@ -53,3 +53,7 @@ MayPush w = w.progress.open_pushes < 2 ^ 16 - 1
 -- No push is open.
 abbrev pub HasNoOpenPush : Writer → Type 0
 HasNoOpenPush w = w.progress.open_pushes ≡ 0
+
+-- The new one is in the same part of the file, with as many open pushes.
+abbrev pub StaysOnPage : Writer → Writer → Type 0
+StaysOnPage old new = (new.progress.part ≡ old.progress.part) × (new.progress.open_pushes ≡ old.progress.open_pushes)

@@ -1,35 +1,40 @@
 //! The writer of DVI files.
 
-ghost use Rattle.std.specs.Prelude.{◌≡◌, ◌<◌, ◌^◌, ◌%◌, ◌+◌, ◌-◌, ◌∷◌, ◌++◌, [], pos, IsOk, OnOk, replicate};
+ghost use Rattle.std.specs.Prelude.{◌≡◌, ◌<◌, ◌≤◌, ◌^◌, ◌%◌, ◌+◌, ◌-◌, ◌∷◌, ◌++◌, [], pos, IsOk, OnOk, OnErr, IfOk, Some, slice_set};
 ghost use Rattle.ntx_num.specs.Answer.{Gives, Steps};
-ghost use Rattle.ntx_dvi.specs.Operation.{Begin, PageStart, Push, Pop, Right, Down, Rule, PageEnd, End};
-ghost use Rattle.ntx_dvi.specs.Bytes.{postamble, ending};
-ghost use Rattle.ntx_dvi.specs.Writer.{new_writer, step, IsNew, IsBetweenPages, IsInPage, HasOpenPush, MayPush, HasNoOpenPush};
+ghost use Rattle.ntx_dvi.specs.Operation.{Begin, PageStart, Push, Pop, Right, Down, Rule, DefineFont, ChooseFont, SetCharacter, PageEnd, End};
+ghost use Rattle.ntx_dvi.specs.Bytes.{postamble, post_post, operation_bytes};
+ghost use Rattle.ntx_dvi.specs.Fonts.{IsDefinable, MayBe, OthersStay, AreReady, is_current, defining, choosing, glyph_operations};
+ghost use Rattle.ntx_dvi.specs.Writer.{new_writer, step, IsNew, IsBetweenPages, IsInPage, HasOpenPush, MayPush, HasNoOpenPush, StaysOnPage};
 ghost use Rattle.ntx_dvi.specs.Written.{Writes};
 
 use crate::encode;
+use crate::fonts::Fonts;
 use crate::full::DviFull;
 use crate::movement::append_movement;
-use crate::opcode::{DOWN, EOP, FILLER, FORMAT, POP, POST, POST_POST, PUSH, RIGHT};
+use crate::opcode::{DOWN, EOP, FILLER, FONT, FORMAT, POP, POST, POST_POST, PUSH, RIGHT, SET_CHAR};
 use crate::output::Output;
 use crate::part::Part;
 use byteorder::{BigEndian, ByteOrder};
 use ntx_num::{Fail, NoMemory};
+use ntx_tfm::FontDef;
 use std::alloc::Global;
 use std::marker::Model;
 
 /// A DVI file in the making. Its operations come in the order of the file: [`Dvi::begin`], then pages, then [`Dvi::end`]; a page is
-/// [`Dvi::page_start`], any of [`Dvi::push`], [`Dvi::pop`], [`Dvi::right`], [`Dvi::down`] and [`Dvi::rule`], and [`Dvi::page_end`].
+/// [`Dvi::page_start`], any of [`Dvi::push`], [`Dvi::pop`], [`Dvi::right`], [`Dvi::down`], [`Dvi::rule`] and [`Dvi::glyph`], and
+/// [`Dvi::page_end`].
 ///
 /// An operation out of order is not refused: that it is in order is a condition of its call. *Between pages* is after the preamble or a page
 /// that has ended, and before [`Dvi::end`].
 ///
 /// # Refusals
 ///
-/// [`DviFull`], of each operation: its bytes would end past the limit on the file's length. Then, and if memory runs out, nothing has
-/// changed.
+/// [`DviFull`], of each operation: its bytes would end past the limit on the file's length. Then, and if memory runs out, it has changed
+/// nothing. [`Dvi::glyph`], which may write three operations, keeps those that it wrote before.
 #[derive(Drop)]
 pub struct Dvi {
+    alloc: Global,
     output: Output,
     part: Part,
     last_page: i32,
@@ -38,10 +43,12 @@ pub struct Dvi {
     deepest: u16,
     tallest: i32,
     widest: i32,
+    fonts: Fonts,
+    font: Option<u8>,
 }
 
 impl Model for Dvi {
-    ghost use Rattle.std.specs.Prelude.{◌≤◌, ◌<◌, ◌^◌};
+    ghost use Rattle.std.specs.Prelude.{◌≡◌, ◌≤◌, ◌<◌, ◌^◌, length};
     ghost use Rattle.ntx_dvi.specs.Writer.{Writer};
     ghost use Rattle.ntx_dvi.specs.PartView.{part_seen};
 
@@ -58,11 +65,13 @@ impl Model for Dvi {
         deepest = d.deepest;
         tallest = d.tallest;
         widest = d.widest;
+        fonts = d.fonts;
+        font = d.font;
       };
       waiting = d.output.waiting;
     } };
 
-    ghost invariant = { λ d. (d.output.place ≤ d.output.limit) × (d.output.limit < 2 ^ 31) × (d.pages ≤ d.output.place) };
+    ghost invariant = { λ d. (d.output.place ≤ d.output.limit) × (d.output.limit < 2 ^ 31) × (d.pages ≤ d.output.place) × (length d.fonts ≡ 64) };
 }
 
 #[tactic(auto, using(crate::proofs::Writing::writes_step), unfolding(crate::specs::Bytes::operation_bytes, crate::specs::Writer::step))]
@@ -73,6 +82,7 @@ impl Dvi {
         ensures { Gives result (new_writer limit) }
     {
         Ok(Dvi {
+            alloc,
             output: Output::new(alloc, limit),
             part: Part::BeforeBegin,
             last_page: -1,
@@ -81,6 +91,8 @@ impl Dvi {
             deepest: 0,
             tallest: 0,
             widest: 0,
+            fonts: Fonts::new(alloc)?,
+            font: None,
         })
     }
 
@@ -90,6 +102,7 @@ impl Dvi {
         ensures steps { Steps result self.old self.new (step Begin self.old) }
         ensures writes { Writes result self.old self.new (Begin ∷ []) }
         ensures between { OnOk result (IsBetweenPages self.new) }
+        ensures fonts { self.new.progress.fonts ≡ self.old.progress.fonts }
     {
         self.output.append(&encode::preamble())?;
         self.part = Part::BetweenPages;
@@ -103,6 +116,7 @@ impl Dvi {
         ensures writes { Writes result self.old self.new (PageStart number ∷ []) }
         ensures in_page { OnOk result (IsInPage self.new) }
         ensures no_push { OnOk result (HasNoOpenPush self.new) }
+        ensures fonts { self.new.progress.fonts ≡ self.old.progress.fonts }
     {
         let place = self.output.place() as i32;
         self.output
@@ -111,6 +125,7 @@ impl Dvi {
         self.last_page = place;
         self.pages += 1;
         self.open_pushes = 0;
+        self.font = None;
         Ok(())
     }
 
@@ -122,6 +137,7 @@ impl Dvi {
         ensures writes { Writes result self.old self.new (Push ∷ []) }
         ensures in_page { OnOk result (IsInPage self.new) }
         ensures pushes { OnOk result (self.new.progress.open_pushes ≡ self.old.progress.open_pushes + 1) }
+        ensures fonts { self.new.progress.fonts ≡ self.old.progress.fonts }
     {
         self.output.append(&[PUSH])?;
         self.open_pushes += 1;
@@ -137,6 +153,7 @@ impl Dvi {
         ensures writes { Writes result self.old self.new (Pop ∷ []) }
         ensures in_page { OnOk result (IsInPage self.new) }
         ensures pushes { OnOk result (self.new.progress.open_pushes ≡ self.old.progress.open_pushes - 1) }
+        ensures fonts { self.new.progress.fonts ≡ self.old.progress.fonts }
     {
         self.output.append(&[POP])?;
         self.open_pushes -= 1;
@@ -152,6 +169,7 @@ impl Dvi {
         ensures in_page { OnOk result (IsInPage self.new) }
         ensures pushes { OnOk result (self.new.progress.open_pushes ≡ self.old.progress.open_pushes) }
         ensures nothing { x ≡ pos 0 → IsOk result }
+        ensures fonts { self.new.progress.fonts ≡ self.old.progress.fonts }
     {
         append_movement(&mut self.output, RIGHT, x)
     }
@@ -164,6 +182,7 @@ impl Dvi {
         ensures in_page { OnOk result (IsInPage self.new) }
         ensures pushes { OnOk result (self.new.progress.open_pushes ≡ self.old.progress.open_pushes) }
         ensures nothing { y ≡ pos 0 → IsOk result }
+        ensures fonts { self.new.progress.fonts ≡ self.old.progress.fonts }
     {
         append_movement(&mut self.output, DOWN, y)
     }
@@ -176,8 +195,35 @@ impl Dvi {
         ensures writes { Writes result self.old self.new (Rule height width ∷ []) }
         ensures in_page { OnOk result (IsInPage self.new) }
         ensures pushes { OnOk result (self.new.progress.open_pushes ≡ self.old.progress.open_pushes) }
+        ensures fonts { self.new.progress.fonts ≡ self.old.progress.fonts }
     {
         self.output.append(&encode::rule(height, width))
+    }
+
+    /// Sets the character of this code in this font, with its reference point at the place on the page, which then moves right by the
+    /// character's width. `font` is at most 63, and stands for one definition throughout the file. It comes in a page.
+    ///
+    /// At the font's first use in the file its definition comes before the character, and then the font is chosen if it is not the page's
+    /// current font. Each is an operation by itself: one that finds no room leaves those before it, and the next call goes on from them.
+    pub fn glyph(&mut self, font: u8, def: &FontDef, code: u8) -> Result<(), Fail<DviFull>>
+        requires in_page { IsInPage self.old }
+        requires number { font ≤ 63 }
+        requires definable { IsDefinable def.now }
+        requires same { MayBe self.old.progress.fonts font def.now }
+        ensures writes { Writes result self.old self.new (glyph_operations self.old.progress font def.now code) }
+        ensures ready { AreReady self.old.progress (glyph_operations self.old.progress font def.now code) }
+        ensures in_page { IsInPage self.new }
+        ensures pushes { self.new.progress.open_pushes ≡ self.old.progress.open_pushes }
+        ensures fonts { OnOk result (self.new.progress.fonts ≡ slice_set self.old.progress.fonts font (Some def.now)) }
+        ensures again { MayBe self.new.progress.fonts font def.now }
+        ensures others { OthersStay self.old.progress.fonts self.new.progress.fonts font }
+        ensures font { OnOk result (self.new.progress.font ≡ Some font) }
+    {
+        // The check knows how many fonts there are where a field is read.
+        let _ = &self.fonts;
+        self.ensure_defined(font, def)?;
+        self.ensure_current(font)?;
+        self.set_character(code)
     }
 
     /// Ends the page. `total` is its height plus depth and `width` its width, both in scaled points. It comes in a page without an open
@@ -188,6 +234,7 @@ impl Dvi {
         ensures steps { Steps result self.old self.new (step (PageEnd total width) self.old) }
         ensures writes { Writes result self.old self.new (PageEnd total width ∷ []) }
         ensures between { OnOk result (IsBetweenPages self.new) }
+        ensures fonts { self.new.progress.fonts ≡ self.old.progress.fonts }
     {
         self.output.append(&[EOP])?;
         self.part = Part::BetweenPages;
@@ -204,9 +251,8 @@ impl Dvi {
         ensures writes { Writes result self.old self.new (End ∷ []) }
         ensures multiple_of_four { OnOk result (self.new.progress.place % 4 ≡ 0) }
     {
-        let bytes = self.ending();
-        let length = 35 + encode::filler_count(self.output.place() + 35);
-        self.output.append(&bytes[..length])?;
+        let bytes = self.ending()?;
+        self.output.append(bytes.as_slice())?;
         self.part = Part::AfterEnd;
         Ok(())
     }
@@ -226,6 +272,89 @@ impl Dvi {
         self.pages
     }
 
+    /// Writes the definition of a font.
+    fn define(&mut self, font: u8, def: &FontDef) -> Result<(), Fail<DviFull>>
+        requires number { font ≤ 63 }
+        requires definable { IsDefinable def.now }
+        ensures writes { Writes result self.old self.new (DefineFont font def.now ∷ []) }
+        ensures page { StaysOnPage self.old self.new }
+        ensures fonts { OnOk result (self.new.progress.fonts ≡ slice_set self.old.progress.fonts font (Some def.now)) }
+        ensures undefined { OnErr result (self.new.progress.fonts ≡ self.old.progress.fonts) }
+        ensures font { OnOk result (self.new.progress.font ≡ self.old.progress.font) }
+    {
+        let kept = def.try_clone(self.alloc)?;
+        let mut bytes = Vec::new(self.alloc);
+        encode::push_definition(&mut bytes, font, def)?;
+        self.output.append(bytes.as_slice())?;
+        self.fonts.define(font, kept);
+        Ok(())
+    }
+
+    /// Writes the definition of a font, unless it is defined.
+    fn ensure_defined(&mut self, font: u8, def: &FontDef) -> Result<(), Fail<DviFull>>
+        requires number { font ≤ 63 }
+        requires definable { IsDefinable def.now }
+        requires same { MayBe self.old.progress.fonts font def.now }
+        ensures writes { Writes result self.old self.new (defining self.old.progress.fonts font def.now) }
+        ensures page { StaysOnPage self.old self.new }
+        ensures fonts { OnOk result (self.new.progress.fonts ≡ slice_set self.old.progress.fonts font (Some def.now)) }
+        ensures undefined { OnErr result (self.new.progress.fonts ≡ self.old.progress.fonts) }
+        ensures font { OnOk result (self.new.progress.font ≡ self.old.progress.font) }
+    {
+        if self.fonts.is_defined(font) {
+            return Ok(());
+        }
+        self.define(font, def)
+    }
+
+    /// Chooses a font that is defined.
+    fn choose(&mut self, font: u8) -> Result<(), Fail<DviFull>>
+        requires number { font ≤ 63 }
+        ensures writes { Writes result self.old self.new (ChooseFont font ∷ []) }
+        ensures page { StaysOnPage self.old self.new }
+        ensures fonts { self.new.progress.fonts ≡ self.old.progress.fonts }
+        ensures font { OnOk result (self.new.progress.font ≡ Some font) }
+    {
+        self.output.append(&[FONT + font])?;
+        self.font = Some(font);
+        Ok(())
+    }
+
+    /// Chooses a font that is defined, unless it is the current one.
+    fn ensure_current(&mut self, font: u8) -> Result<(), Fail<DviFull>>
+        requires number { font ≤ 63 }
+        ensures writes { Writes result self.old self.new (choosing self.old.progress.font font) }
+        ensures page { StaysOnPage self.old self.new }
+        ensures fonts { self.new.progress.fonts ≡ self.old.progress.fonts }
+        ensures font { OnOk result (self.new.progress.font ≡ Some font) }
+    {
+        if self.is_current(font) {
+            return Ok(());
+        }
+        self.choose(font)
+    }
+
+    /// Whether the font of this number is the current one.
+    fn is_current(&self, font: u8) -> bool
+        ensures { result ≡ is_current self.now.progress.font font }
+    {
+        self.font == Some(font)
+    }
+
+    /// Sets a character of the current font.
+    fn set_character(&mut self, code: u8) -> Result<(), Fail<DviFull>>
+        ensures writes { Writes result self.old self.new (SetCharacter code ∷ []) }
+        ensures page { StaysOnPage self.old self.new }
+        ensures fonts { self.new.progress.fonts ≡ self.old.progress.fonts }
+        ensures font { OnOk result (self.new.progress.font ≡ self.old.progress.font) }
+    {
+        if code < 0x80 {
+            self.output.append(&[code])
+        } else {
+            self.output.append(&[SET_CHAR, code])
+        }
+    }
+
     /// The postamble.
     fn postamble(&self) -> [u8; 29]
         ensures { result ≡ postamble self.now.progress }
@@ -241,15 +370,27 @@ impl Dvi {
         bytes
     }
 
-    /// The postamble and what follows it, with as many fillers as there may be.
-    fn ending(&self) -> [u8; 42]
-        ensures { result ≡ ending self.now.progress ++ replicate 7 223 }
+    /// What follows the postamble, up to the fillers.
+    fn post_post(&self) -> [u8; 6]
+        ensures { result ≡ post_post self.now.progress }
     {
-        let mut bytes = [FILLER; 42];
-        bytes[..29].copy_from_slice(&self.postamble());
-        bytes[29] = POST_POST;
-        BigEndian::write_u32(&mut bytes[30..], self.output.place() as u32);
-        bytes[34] = FORMAT;
+        let mut bytes = [0; 6];
+        bytes[0] = POST_POST;
+        BigEndian::write_u32(&mut bytes[1..], self.output.place() as u32);
+        bytes[5] = FORMAT;
         bytes
+    }
+
+    /// The postamble with the definitions of the fonts, and what follows it.
+    fn ending(&self) -> Result<Vec<u8>, NoMemory>
+        ensures { IfOk result (λ bytes. bytes.items ≡ operation_bytes self.now.progress End) }
+    {
+        let mut bytes = Vec::new(self.alloc);
+        bytes.extend_from_slice(&self.postamble())?;
+        self.fonts.push_definitions(&mut bytes)?;
+        bytes.extend_from_slice(&self.post_post())?;
+        let length = self.output.place() + bytes.len() as u64;
+        bytes.extend_from_slice(&[FILLER; 7][..encode::filler_count(length)])?;
+        Ok(bytes)
     }
 }

@@ -1,10 +1,15 @@
 //! The bytes of the operations that have numbers of several bytes, the highest byte first.
 
-ghost use Rattle.std.specs.Prelude.{◌≡◌, ◌≤◌};
-ghost use Rattle.ntx_dvi.specs.Bytes.{units, preamble, page_start_bytes, rule_bytes, filler_count};
+ghost use Rattle.std.specs.Prelude.{◌≡◌, ◌≤◌, ◌++◌, OnOk};
+ghost use Rattle.ntx_dvi.specs.Bytes.{units, preamble, page_start_bytes, rule_bytes, definition_bytes, filler_count};
+ghost use Rattle.ntx_dvi.specs.Fonts.{IsDefinable};
 
-use crate::opcode::{BOP, COMMENT, DENOMINATOR, FORMAT, MAGNIFICATION, NUMERATOR, PRE, SET_RULE};
+use crate::opcode::{
+    BOP, COMMENT, DENOMINATOR, FONT_DEFINITION, FORMAT, MAGNIFICATION, NUMERATOR, PRE, SET_RULE,
+};
 use byteorder::{BigEndian, ByteOrder};
+use ntx_num::NoMemory;
+use ntx_tfm::FontDef;
 
 /// The unit of the file's distances, and the magnification.
 pub fn units() -> [u8; 12]
@@ -50,6 +55,31 @@ pub fn rule(height: i32, width: i32) -> [u8; 9]
     BigEndian::write_i32(&mut bytes[1..], height);
     BigEndian::write_i32(&mut bytes[5..], width);
     bytes
+}
+
+/// The definition of a font up to its name.
+fn definition_front(font: u8, def: &FontDef) -> [u8; 16]
+    requires { IsDefinable def.now }
+    ensures { result ++ def.now.name ≡ definition_bytes font def.now }
+{
+    let mut bytes = [0; 16];
+    bytes[0] = FONT_DEFINITION;
+    bytes[1] = font;
+    BigEndian::write_u32(&mut bytes[2..], def.checksum);
+    BigEndian::write_i32(&mut bytes[6..], def.size as i32);
+    BigEndian::write_i32(&mut bytes[10..], def.design as i32);
+    bytes[15] = def.name.as_bytes().len() as u8;
+    bytes
+}
+
+/// Appends the definition of a font under this number.
+pub fn push_definition(bytes: &mut Vec<u8>, font: u8, def: &FontDef) -> Result<(), NoMemory>
+    requires { IsDefinable def.now }
+    ensures { OnOk result (bytes.new.items ≡ bytes.old.items ++ definition_bytes font def.now) }
+{
+    bytes.extend_from_slice(&definition_front(font, def))?;
+    bytes.extend_from_slice(def.name.as_bytes())?;
+    Ok(())
 }
 
 /// How many fillers follow `count` bytes: four, and up to three more to a length that is a multiple of four.

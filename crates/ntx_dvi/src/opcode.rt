@@ -3,6 +3,15 @@
 /// A rule, whose width then moves the place to the right.
 pub const SET_RULE: u8 = 132;
 
+/// A character whose code stands in the byte after it; one of a code below 128 is its code alone.
+pub const SET_CHAR: u8 = 128;
+
+/// Font 0 becomes the current font; those of the other fonts follow.
+pub const FONT: u8 = 171;
+
+/// The definition of a font whose number has one byte.
+pub const FONT_DEFINITION: u8 = 243;
+
 /// The beginning of a page.
 pub const BOP: u8 = 139;
 

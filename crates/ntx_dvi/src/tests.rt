@@ -1,7 +1,13 @@
 //! Files whose bytes are known from outside, by DVItype's description of the format.
 
+ghost use Rattle.std.specs.Prelude.{◌≡◌, ◌≤◌, ◌<◌, ◌^◌, ◌≤ℤ◌, pos, All, length, replicate, slice_get, None, IfOk};
+ghost use Rattle.ntx_dvi.specs.Fonts.{IsDefinable, AreKnown};
+ghost use Rattle.ntx_dvi.specs.Writer.{IsInPage, HasNoOpenPush};
+
 use super::*;
 use ntx_num::Fail::Is;
+use ntx_num::NoMemory;
+use ntx_tfm::{FontDef, FontName};
 use std::alloc::Global;
 use std::test::Fail;
 
@@ -147,5 +153,135 @@ fn a_movement_has_the_fewest_bytes_that_its_distance_needs(rt: HostRuntime) -> R
     }
     let (right, down) = movements(rt.alloc(), 0)?;
     assert_eq!(rt; right.len() + down.len(), 0);
+    Ok(())
+}
+
+/// The definition of a font.
+fn font(
+    alloc: Global,
+    checksum: u32,
+    size: i64,
+    design: i64,
+    name: &[u8],
+) -> Result<FontDef, NoMemory>
+    requires size { (pos 1 ≤ℤ size) × (size ≤ℤ pos 67108863) }
+    requires design { (pos 1 ≤ℤ design) × (design ≤ℤ pos 67108863) }
+    requires name { (1 ≤ length name.now) × (length name.now ≤ 255) }
+    ensures { IfOk result IsDefinable }
+{
+    let name = FontName::new(alloc, name)?;
+    Ok(FontDef {
+        checksum,
+        size,
+        design,
+        name,
+    })
+}
+
+/// Two fonts.
+fn two_fonts(alloc: Global) -> Result<[FontDef; 2], NoMemory>
+    ensures { IfOk result (All IsDefinable) }
+{
+    let roman = font(alloc, 0x0102_0304, 0x0008_0000, 0x000a_0000, b"cmr10")?;
+    let tiny = font(alloc, 0xfffe_fdfc, 1, 0x03ff_ffff, b"t")?;
+    Ok([roman, tiny])
+}
+
+/// A file whose first page has begun, without the bytes up to there.
+fn begun(alloc: Global, limit: u64) -> Result<Dvi, ntx_num::Fail<DviFull>>
+    requires { limit < 2 ^ 31 }
+    ensures in_page { IfOk result IsInPage }
+    ensures no_push { IfOk result HasNoOpenPush }
+    ensures fonts { IfOk result (λ dvi. dvi.progress.fonts ≡ replicate 64 None) }
+{
+    let mut dvi = Dvi::new(alloc, limit)?;
+    dvi.begin()?;
+    dvi.page_start(1)?;
+    let _start = dvi.take();
+    Ok(dvi)
+}
+
+/// Sets a character in one of the fonts of a file, which has no others.
+fn set(
+    dvi: &mut Dvi,
+    fonts: &[FontDef; 2],
+    number: u8,
+    code: u8,
+) -> Result<(), ntx_num::Fail<DviFull>>
+    requires in_page { IsInPage dvi.old }
+    requires number { number < 2 }
+    requires definable { All IsDefinable fonts.now }
+    requires known { AreKnown dvi.old.progress.fonts (slice_get fonts.now) }
+    ensures in_page { IsInPage dvi.new }
+    ensures pushes { dvi.new.progress.open_pushes ≡ dvi.old.progress.open_pushes }
+    ensures known { AreKnown dvi.new.progress.fonts (slice_get fonts.now) }
+{
+    dvi.glyph(number, &fonts[usize::from(number)], code)
+}
+
+#[test]
+fn a_font_is_defined_once_and_chosen_when_it_changes(rt: HostRuntime) -> Result<(), Fail> {
+    let fonts = two_fonts(rt.alloc())?;
+    let mut dvi = begun(rt.alloc(), 240)?;
+    set(&mut dvi, &fonts, 0, 65)?;
+    set(&mut dvi, &fonts, 1, 128)?;
+    set(&mut dvi, &fonts, 1, 127)?;
+    dvi.push()?;
+    set(&mut dvi, &fonts, 0, 0)?;
+    dvi.pop()?;
+    set(&mut dvi, &fonts, 0, 255)?;
+    dvi.page_end(0, 0)?;
+    let page = [
+        0xf3, 0, 1, 2, 3, 4, 0, 8, 0, 0, 0, 0x0a, 0, 0, 0, 5, 0x63, 0x6d, 0x72, 0x31, 0x30, 0xab,
+        0x41, 0xf3, 1, 0xff, 0xfe, 0xfd, 0xfc, 0, 0, 0, 1, 3, 0xff, 0xff, 0xff, 0, 1, 0x74, 0xac,
+        0x80, 0x80, 0x7f, 0x8d, 0xab, 0, 0x8e, 0x80, 0xff, 0x8c,
+    ];
+    assert_eq!(rt; dvi.take().as_slice(), page.as_slice());
+    dvi.end()?;
+    let rest = [
+        0xf8, 0, 0, 0, 0x12, 0x01, 0x83, 0x92, 0xc0, 0x1c, 0x3b, 0, 0, 0, 0, 0x03, 0xe8, 0, 0, 0,
+        0, 0, 0, 0, 0, 0, 1, 0, 1, 0xf3, 1, 0xff, 0xfe, 0xfd, 0xfc, 0, 0, 0, 1, 3, 0xff, 0xff,
+        0xff, 0, 1, 0x74, 0xf3, 0, 1, 2, 3, 4, 0, 8, 0, 0, 0, 0x0a, 0, 0, 0, 5, 0x63, 0x6d, 0x72,
+        0x31, 0x30, 0xf9, 0, 0, 0, 0x72, 2, 0xdf, 0xdf, 0xdf, 0xdf, 0xdf,
+    ];
+    assert_eq!(rt; dvi.take().as_slice(), rest.as_slice());
+    Ok(())
+}
+
+#[test]
+fn a_font_is_chosen_again_in_each_page(rt: HostRuntime) -> Result<(), Fail> {
+    let def = font(rt.alloc(), 0, 1, 1, b"t")?;
+    let mut dvi = begun(rt.alloc(), 240)?;
+    dvi.glyph(63, &def, 1)?;
+    dvi.page_end(0, 0)?;
+    let first = [
+        0xf3, 0x3f, 0, 0, 0, 0, 0, 0, 0, 1, 0, 0, 0, 1, 0, 1, 0x74, 0xea, 1, 0x8c,
+    ];
+    assert_eq!(rt; dvi.take().as_slice(), first.as_slice());
+    dvi.page_start(2)?;
+    assert_eq!(rt; dvi.take().len(), 45);
+    dvi.glyph(63, &def, 2)?;
+    assert_eq!(rt; dvi.take().as_slice(), [0xea, 2].as_slice());
+    Ok(())
+}
+
+#[test]
+fn a_character_is_written_as_far_as_there_is_room(rt: HostRuntime) -> Result<(), Fail> {
+    let def = font(rt.alloc(), 0, 0x0008_0000, 0x000a_0000, b"cmr10")?;
+    for (limit, written) in [(63, 0), (83, 0), (84, 21), (85, 22), (86, 22), (87, 24)] {
+        let mut dvi = begun(rt.alloc(), limit)?;
+        assert_eq!(rt;
+            dvi.glyph(0, &def, 200).is_ok(),
+            limit == 87,
+            "limit {limit}"
+        );
+        assert_eq!(rt; dvi.take().len(), written, "limit {limit}");
+        assert_eq!(rt;
+            dvi.glyph(0, &def, 65).is_ok(),
+            limit == 86,
+            "limit {limit}"
+        );
+        assert_eq!(rt; dvi.take().len(), usize::from(limit == 86), "limit {limit}");
+    }
     Ok(())
 }
