@@ -9,3 +9,4 @@ pub mod Walks
 -- printed bytes, and each function of the library
 pub mod Output
 pub mod Library
+pub mod inner

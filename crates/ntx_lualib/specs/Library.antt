@@ -25,41 +25,45 @@ use Rattle.ntx_lualib.specs.Output.{PrintedState, print_step, printed_line}
 abbrev pub LibState : Type 0
 LibState = StoreState × PrintedState
 
+-- a step of the store alone
+abbrev pub on_store : (StoreState → Result (List Value × StoreState) LuaWhy) → LibState → Result (List Value × LibState) LuaWhy
+on_store step state = result_map (λ after. (after.0, (after.1, state.1))) (step state.0)
+
 -- values, and nothing changes
-abbrev pub gives : Result (List Value) LuaWhy → LibState → Result (List Value × LibState) LuaWhy
-gives answer state = result_map (λ values. (values, state)) answer
+abbrev pub gives : (StoreState → Result (List Value) LuaWhy) → StoreState → Result (List Value × StoreState) LuaWhy
+gives answer store = result_map (λ values. (values, store)) (answer store)
 
 -- the text with these bytes, which is made where it was not
-abbrev pub gives_text : Result (List ℕ) LuaWhy → LibState → Result (List Value × LibState) LuaWhy
-gives_text answer state = do
-  bytes ← answer
-  made ← text_step bytes state.0
-  Ok (Text made.0 ∷ [], (made.1, state.1))
+abbrev pub gives_text : (StoreState → Result (List ℕ) LuaWhy) → StoreState → Result (List Value × StoreState) LuaWhy
+gives_text answer store = do
+  bytes ← answer store
+  made ← text_step bytes store
+  Ok (Text made.0 ∷ [], made.1)
 
 -- no value, and a line is printed
-abbrev pub prints : List ℕ → LibState → Result (List Value × LibState) LuaWhy
-prints bytes state = result_map (λ out. ([], (state.0, out))) (print_step bytes state.1)
+abbrev pub prints : List Value → LibState → Result (List Value × LibState) LuaWhy
+prints args state = result_map (λ out. ([], (state.0, out))) (print_step (printed_line state.0 args) state.1)
 
 abbrev pub called : LibFn → List Value → LibState → Result (List Value × LibState) LuaWhy
-called Print args state = prints (printed_line state.0 args) state
-called ToString args state = gives_text (Ok (shown state.0 (argument args 0))) state
-called TypeOf args state = gives_text (Ok (type_name (argument args 0))) state
-called Pairs args state = gives (pairs args) state
-called Ipairs args state = gives (ipairs args) state
-called IpairsNext args state = gives (ipairs_next args state.0) state
-called Next args state = gives (next args state.0) state
-called StringLen args state = gives (string_len args state.0) state
-called StringSub args state = gives_text (string_sub args state.0) state
-called StringByte args state = gives (string_byte args state.0) state
-called StringChar args state = gives_text (string_char args) state
-called StringRep args state = gives_text (string_rep args state.0) state
-called StringFormat args state = gives_text (string_format args state.0) state
-called TableInsert args state = result_map (λ store. ([], (store, state.1))) (table_insert args state.0)
-called TableRemove args state = result_map (λ found. (found.0 ∷ [], (found.1, state.1))) (table_remove args state.0)
-called TableConcat args state = gives_text (table_concat args state.0) state
-called MathAbs args state = gives (math_abs args) state
-called MathMax args state = gives (math_max args) state
-called MathMin args state = gives (math_min args) state
+called Print args = prints args
+called ToString args = on_store (gives_text (λ store. Ok (shown store (argument args 0))))
+called TypeOf args = on_store (gives_text (λ _. Ok (type_name (argument args 0))))
+called Pairs args = on_store (gives (λ _. pairs args))
+called Ipairs args = on_store (gives (λ _. ipairs args))
+called IpairsNext args = on_store (gives (ipairs_next args))
+called Next args = on_store (gives (next args))
+called StringLen args = on_store (gives (string_len args))
+called StringSub args = on_store (gives_text (string_sub args))
+called StringByte args = on_store (gives (string_byte args))
+called StringChar args = on_store (gives_text (λ _. string_char args))
+called StringRep args = on_store (gives_text (string_rep args))
+called StringFormat args = on_store (gives_text (string_format args))
+called TableInsert args = on_store (table_insert args)
+called TableRemove args = on_store (table_remove args)
+called TableConcat args = on_store (gives_text (table_concat args))
+called MathAbs args = on_store (gives (λ _. math_abs args))
+called MathMax args = on_store (gives (λ _. math_max args))
+called MathMin args = on_store (gives (λ _. math_min args))
 
 -- The call gives the values and the state that are stated, or makes the refusal and changes nothing. Where memory ran out nothing more
 -- was printed, and the store is one in which old texts, tables and functions stay valid.

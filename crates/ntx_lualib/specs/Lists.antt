@@ -69,25 +69,33 @@ element_text store _ = Err BadArgument
 abbrev pub with_table : StoreState → TableId → Entries → StoreState
 with_table store t entries = record store { tables = slice_set store.tables t.number entries }
 
--- the value at a place, and the store after it was taken out
-abbrev pub taken_out : StoreState → TableId → ℕ → Value × StoreState
-taken_out store t p = (item_at (state.table_of store t) p, with_table store t (remove_at (state.table_of store t) p))
+-- the value at a place, and the table after it was taken out
+abbrev pub taken_out : Entries → ℕ → Value × Entries
+taken_out entries p = (item_at entries p, remove_at entries p)
 
 -- A value is appended, or with more than two arguments put in at a place.
-abbrev pub table_insert : List Value → StoreState → Result StoreState LuaWhy
-table_insert args store =
-    table_of (argument args 0) >>= λ t.
-    let entries = state.table_of store t in
-    if nat_le (length args) 2 then result_map (with_table store t) (written entries (Int (pos (border_of entries + 1))) (argument args 1))
-    else (integer_of (argument args 1) >>= λ i. place_in entries i >>= λ p. result_map (with_table store t) (insert_at entries p (argument args 2)))
+abbrev pub inserted : Entries → List Value → Result Entries LuaWhy
+inserted entries args =
+    if nat_le (length args) 2 then written entries (Int (pos (border_of entries + 1))) (argument args 1)
+    else (integer_of (argument args 1) >>= λ i. place_in entries i >>= λ p. insert_at entries p (argument args 2))
 
--- The value at a place is taken out, at the border if the place is nil. If there is nothing at 1, and the place is nil, nothing is.
-abbrev pub table_remove : List Value → StoreState → Result (Value × StoreState) LuaWhy
+-- no value, and the store with the table changed
+abbrev pub table_insert : List Value → StoreState → Result (List Value × StoreState) LuaWhy
+table_insert args store =
+    table_of (argument args 0) >>= λ t. result_map (λ entries. ([], with_table store t entries)) (inserted (state.table_of store t) args)
+
+-- The value at a place is taken out, at the border if the place is nil. If there is nothing at 1, and the place is nil, the value is
+-- nil and nothing changes.
+abbrev pub removed : Entries → Value → Result (Value × Entries) LuaWhy
+removed entries place =
+    if is_nil place then Ok (if nat_eq (border_of entries) 0 then (Nil, entries) else taken_out entries (border_of entries))
+    else (integer_of place >>= λ i. place_in entries i >>= λ p. Ok (taken_out entries p))
+
+-- the value, and the store with the table changed
+abbrev pub table_remove : List Value → StoreState → Result (List Value × StoreState) LuaWhy
 table_remove args store =
     table_of (argument args 0) >>= λ t.
-    let entries = state.table_of store t in
-    if is_nil (argument args 1) then Ok (if nat_eq (border_of entries) 0 then (Nil, store) else taken_out store t (border_of entries))
-    else (integer_of (argument args 1) >>= λ i. place_in entries i >>= λ p. Ok (taken_out store t p))
+    result_map (λ found. (found.0 ∷ [], with_table store t found.1)) (removed (state.table_of store t) (argument args 1))
 
 -- no text stands between the elements if the second argument is nil
 abbrev pub separator : StoreState → Value → Result (List ℕ) LuaWhy

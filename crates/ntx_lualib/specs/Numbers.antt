@@ -2,7 +2,7 @@
 --     absolute n           the absolute value, which wraps at 64 bits
 --     greatest, least      of one or more
 --     math_abs, math_max, math_min
-use Rattle.std.specs.Prelude.{◌+◌, ◌-◌, ◌^◌, nat_eq, if◌then◌else◌, ℤ, pos, negsuc, List, [], ◌∷◌, Result, Ok, Err}
+use Rattle.std.specs.Prelude.{◌+◌, ◌-◌, ◌^◌, nat_eq, if◌then◌else◌, ℤ, pos, negsuc, List, [], ◌∷◌, fold, Result, Ok, Err}
 use Rattle.std.specs.Int.{int_max, int_min}
 use Rattle.ntx_values.specs.declared.value.Value.{Value}
 use Rattle.ntx_values.specs.declared.value.Value.TheVariants.{Int}
@@ -16,12 +16,10 @@ absolute (pos n) = pos n
 absolute (negsuc n) = if nat_eq n (2 ^ 63 - 1) then negsuc n else pos (n + 1)
 
 abbrev pub greatest : ℤ → List ℤ → ℤ
-greatest n [] = n
-greatest n (m ∷ ms) = int_max n (greatest m ms)
+greatest n ns = fold int_max n ns
 
 abbrev pub least : ℤ → List ℤ → ℤ
-least n [] = n
-least n (m ∷ ms) = int_min n (least m ms)
+least n ns = fold int_min n ns
 
 -- at least one integer has to be given
 abbrev pub of_some : (ℤ → List ℤ → ℤ) → List ℤ → Result (List Value) LuaWhy

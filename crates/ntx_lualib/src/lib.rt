@@ -6,6 +6,10 @@
 //! It stands on `ntx_num` and `ntx_values`.
 #![tactic(auto)]
 
+mod arguments;
+mod line;
 mod printed;
+mod shown;
+mod strings;
 
 pub use printed::Printed;

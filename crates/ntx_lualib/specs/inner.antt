@@ -1,0 +1,3 @@
+-- what private calls say among themselves
+pub mod Lines
+pub mod StoreCalls
