@@ -1,1 +1,4 @@
 pub mod Slices
+pub mod Each
+pub mod Repeats
+pub mod Bounds

@@ -7,7 +7,6 @@ ghost use Rattle.ntx_lualib.specs.Arguments.{argument, text_of, integer_of, inte
 
 use ntx_num::Fail;
 use ntx_values::{LuaWhy, Store, TableId, TextId, Value};
-use std::alloc::Global;
 
 /// An argument of a wrong sort or value.
 pub(crate) const BAD: Fail<LuaWhy> = Fail::Is(LuaWhy::BadArgument);
@@ -35,14 +34,21 @@ pub(crate) fn text_at(store: &Store, args: &[Value], n: usize) -> Result<TextId,
     }
 }
 
+/// The integer that a value is.
+pub(crate) fn integer_of(value: Value) -> Result<i64, Fail<LuaWhy>>
+    ensures { Answers result (integer_of value) }
+{
+    match value {
+        Value::Int(integer) => Ok(integer),
+        _ => Err(BAD),
+    }
+}
+
 /// The integer after `n` other arguments.
 pub(crate) fn integer_at(args: &[Value], n: usize) -> Result<i64, Fail<LuaWhy>>
     ensures { Answers result (integer_of (argument args.now n)) }
 {
-    match argument(args, n) {
-        Value::Int(integer) => Ok(integer),
-        _ => Err(BAD),
-    }
+    integer_of(argument(args, n))
 }
 
 /// The integer after `n` other arguments, or what nil means there.

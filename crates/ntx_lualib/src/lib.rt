@@ -8,8 +8,10 @@
 
 mod arguments;
 mod line;
+mod numbers;
 mod printed;
 mod shown;
 mod strings;
+mod walks;
 
 pub use printed::Printed;

@@ -9,6 +9,9 @@ use ntx_values::LuaWhy;
 use std::alloc::Global;
 use std::marker::Model;
 
+/// The most bytes of one text.
+pub(crate) const MAX_TEXT: usize = 1 << 20;
+
 /// Bytes under a limit. Once they pass it they are given up, and only that is kept. It is seen as an Option.
 #[derive(Drop)]
 pub(crate) struct Line {

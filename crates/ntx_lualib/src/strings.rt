@@ -3,9 +3,12 @@
 ghost use Rattle.std.specs.Prelude.{◌≡◌, ◌^◌, ◌<◌, length, take, drop, Ok, Err, IfOk, IfSome};
 ghost use Rattle.ntx_num.specs.Answer.{result_map, Answers};
 ghost use Rattle.ntx_values.specs.State.{StoreState, IsOf, AreOf};
-ghost use Rattle.ntx_lualib.specs.Strings.{place, substring, byte_at, string_len, string_sub, string_byte};
+ghost use Rattle.std.specs.List.{repeat};
+ghost use Rattle.ntx_lualib.specs.Strings.{place, substring, byte_at, byte_of, times, string_len, string_sub, string_byte, string_char, string_rep};
+ghost use Rattle.ntx_lualib.specs.inner.Lines.{limited};
 
-use crate::arguments::{integer_at, integer_or, text_at};
+use crate::line::MAX_TEXT;
+use crate::arguments::{BAD, integer_at, integer_or, text_at};
 use ntx_num::Fail;
 use ntx_values::{LuaWhy, Store, Value};
 use std::alloc::Global;
@@ -54,7 +57,8 @@ fn byte_at(bytes: &[u8], place: usize) -> Value
 /// `string.len`
 pub(crate) fn string_len(alloc: Global, store: &Store, args: &[Value]) -> Result<Vec<Value>, Fail<LuaWhy>>
     requires { AreOf store.now args.now }
-    ensures { Answers (result_map (λ values. values.items) result) (string_len args.now store.now) }
+    ensures value { Answers (result_map (λ values. values.items) result) (string_len args.now store.now) }
+    ensures of { IfOk result (λ values. AreOf store.now values.items) }
 {
     let text = text_at(store, args, 0)?;
     let len = store.bytes_of(text).len();
@@ -75,11 +79,67 @@ pub(crate) fn string_sub(alloc: Global, store: &Store, args: &[Value]) -> Result
 /// `string.byte`
 pub(crate) fn string_byte(alloc: Global, store: &Store, args: &[Value]) -> Result<Vec<Value>, Fail<LuaWhy>>
     requires { AreOf store.now args.now }
-    ensures { Answers (result_map (λ values. values.items) result) (string_byte args.now store.now) }
+    ensures value { Answers (result_map (λ values. values.items) result) (string_byte args.now store.now) }
+    ensures of { IfOk result (λ values. AreOf store.now values.items) }
 {
     let text = text_at(store, args, 0)?;
     let i = integer_or(1, args, 1)?;
     let bytes = store.bytes_of(text);
     let value = byte_at(bytes, place(bytes.len(), i));
     Ok(vec![in alloc; value]?)
+}
+
+/// The byte with a code.
+fn byte_of(value: Value) -> Result<u8, Fail<LuaWhy>>
+    ensures { Answers result (byte_of value) }
+{
+    match value {
+        Value::Int(code) if (0..256).contains(&code) => Ok(code as u8),
+        _ => Err(BAD),
+    }
+}
+
+/// `string.char`
+pub(crate) fn string_char(alloc: Global, args: &[Value]) -> Result<Vec<u8>, Fail<LuaWhy>>
+    ensures { Answers (result_map (λ bytes. bytes.items) result) (string_char args.now) }
+{
+    let mut bytes = Vec::new(alloc);
+    for value in args {
+        bytes.push(byte_of(*value)?)?;
+    }
+    Ok(bytes)
+}
+
+/// How many times a text is repeated.
+fn times(n: i64) -> usize
+    ensures { result ≡ times n }
+{
+    if n < 0 { 0 } else { n as usize }
+}
+
+/// Bytes repeated, if they are not too many for a text.
+fn repeated(alloc: Global, bytes: &[u8], n: usize) -> Result<Vec<u8>, Fail<LuaWhy>>
+    ensures { Answers (result_map (λ bytes. bytes.items) result) (limited (Ok (repeat n bytes.now))) }
+{
+    let mut all = Vec::new(alloc);
+    if bytes.is_empty() {
+        return Ok(all);
+    }
+    if n > MAX_TEXT / bytes.len() {
+        return Err(Fail::Is(LuaWhy::TextsFull));
+    }
+    for _k in 0..n {
+        all.extend_from_slice(bytes)?;
+    }
+    Ok(all)
+}
+
+/// `string.rep`
+pub(crate) fn string_rep(alloc: Global, store: &Store, args: &[Value]) -> Result<Vec<u8>, Fail<LuaWhy>>
+    requires { AreOf store.now args.now }
+    ensures { Answers (result_map (λ bytes. bytes.items) result) (limited (string_rep args.now store.now)) }
+{
+    let text = text_at(store, args, 0)?;
+    let n = integer_at(args, 1)?;
+    repeated(alloc, store.bytes_of(text), times(n))
 }
