@@ -2,3 +2,5 @@ pub mod Slices
 pub mod Each
 pub mod Repeats
 pub mod Bounds
+pub mod Pieces
+pub mod Joins

@@ -1,3 +1,5 @@
 -- what private calls say among themselves
 pub mod Lines
 pub mod StoreCalls
+pub mod Prints
+pub mod Pieces

@@ -7,8 +7,11 @@
 #![tactic(auto)]
 
 mod arguments;
+mod format;
+mod items;
 mod line;
 mod numbers;
+mod print;
 mod printed;
 mod shown;
 mod strings;

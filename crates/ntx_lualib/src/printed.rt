@@ -11,7 +11,7 @@ use std::marker::Model;
 use std::mem;
 
 /// The most bytes that one run prints.
-const MAX_PRINTED: usize = 1 << 24;
+pub(crate) const MAX_PRINTED: usize = 1 << 24;
 
 /// The bytes that scripts of one run have printed: those not yet taken, and how many there were in all.
 #[derive(Drop)]
