@@ -1,7 +1,7 @@
 -- Parts that are joined one after another.
-use Rattle.std.proofs.Common.{◌≡◌, ℕ, zero, suc, ◌+◌, ◌-◌, ◌<◌, ◌≤◌, Bool, true, false, cond, List, [], ◌∷◌, ◌++◌, length, refl, ap, sym, ◌∙◌, subst, arith, append_assoc, length-append, Ok, Err, Some, None}
+use Rattle.std.proofs.Common.{◌≡◌, ℕ, zero, suc, ◌+◌, ◌-◌, ◌<◌, ◌≤◌, Bool, true, false, cond, List, [], ◌∷◌, ◌++◌, length, map, take, get_or, refl, ap, sym, ◌∙◌, subst, arith, append_assoc, length-append, Ok, Err, Some, None}
 use Rattle.std.specs.Prelude.{nat_eq, Option, Result, ok_or}
-use Rattle.std.proofs.lemmas.List.{append-nil}
+use Rattle.std.proofs.lemmas.List.{append-nil, map_more, take_all, length-map, length-take}
 use Rattle.std.proofs.lemmas.Bool.Decides.{nat_tests}
 use Rattle.ntx_num.specs.Answer.{result_map, Answers}
 use Rattle.ntx_num.specs.declared.answer.Fail.{Fail}
@@ -19,7 +19,7 @@ use Rattle.ntx_lualib.specs.inner.Lines.{bounded, added, limited}
 use Rattle.ntx_lualib.proofs.Bounds.{added_all}
 
 joined_push : (between first : List ℕ) (parts : List (List ℕ)) (part : List ℕ) → joined between (first ∷ parts ++ part ∷ []) ≡ (joined between (first ∷ parts) ++ between) ++ part
-joined_push between first [] part = sym (append_assoc first between part)
+joined_push between first [] part = refl
 joined_push between first (next ∷ parts) part =
     ap (λ l. (first ++ between) ++ l) (joined_push between next parts part)
     ∙ sym (append_assoc (first ++ between) (joined between (next ∷ parts) ++ between) part)
@@ -36,6 +36,21 @@ part_added limit between (first ∷ parts) part old e =
     ∙ ap (λ o. added limit o part) (added_all limit (joined between (first ∷ parts)) between)
     ∙ added_all limit (joined between (first ∷ parts) ++ between) part
     ∙ ap (bounded limit) (sym (joined_push between first parts part))
+
+-- a line of values
+pub line_more : {A : Type 0} (f : A → List ℕ) (limit : ℕ) (between : List ℕ) (vs : List A) (i : ℕ) (d : A) (old new : Option (List ℕ)) (part : List ℕ) → i < length vs
+    → old ≡ bounded limit (joined between (map f (take i vs))) → part ≡ f (get_or vs i d) → new ≡ added limit (cond (nat_eq i 0) old (added limit old between)) part
+    → new ≡ bounded limit (joined between (map f (take (i + 1) vs)))
+line_more f limit between vs i d old new part less e is h =
+    let count : i ≡ length (map f (take i vs)) = omega (arith, length-map (take i vs) f, length-take i vs) in
+    h ∙ ap (λ n. added limit (cond (nat_eq n 0) old (added limit old between)) part) count ∙ part_added limit between (map f (take i vs)) part old e
+    ∙ ap (λ l. bounded limit (joined between l)) (ap (λ x. map f (take i vs) ++ x ∷ []) is ∙ sym (map_more f vs i d less))
+
+pub line_end : {A : Type 0} (f : A → List ℕ) (limit : ℕ) (between last : List ℕ) (vs : List A) (i : ℕ) (old new : Option (List ℕ)) → length vs ≤ i
+    → old ≡ bounded limit (joined between (map f (take i vs))) → new ≡ added limit old last → new ≡ bounded limit (joined between (map f vs) ++ last)
+line_end f limit between last vs i old new past e h =
+    h ∙ ap (λ o. added limit o last) e ∙ added_all limit (joined between (map f (take i vs))) last
+    ∙ ap (λ l. bounded limit (joined between (map f l) ++ last)) (take_all i vs past)
 
 -- the elements after the first k, of n
 module _ (read : Value → Result (List ℕ) LuaWhy) (entries : Entries) (n : ℕ) where

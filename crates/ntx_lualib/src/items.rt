@@ -1,6 +1,6 @@
 //! What tables hold at numbers.
 
-ghost use Rattle.std.specs.Prelude.{◌≡◌, ◌<◌, ◌^◌, pos};
+ghost use Rattle.std.specs.Prelude.{◌≡◌, ◌-◌, ◌<◌, ◌^◌, pos};
 ghost use Rattle.ntx_num.specs.Answer.{Steps};
 ghost use Rattle.ntx_values.specs.Table.{item_at, border_of};
 ghost use Rattle.ntx_values.specs.State.{IsOf, Grows, table_of};
