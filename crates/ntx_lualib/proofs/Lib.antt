@@ -4,3 +4,7 @@ pub mod Repeats
 pub mod Bounds
 pub mod Pieces
 pub mod Joins
+pub mod Refills
+pub mod Numbering
+pub mod Moves
+pub mod Insertions

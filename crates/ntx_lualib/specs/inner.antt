@@ -3,3 +3,4 @@ pub mod Lines
 pub mod StoreCalls
 pub mod Prints
 pub mod Pieces
+pub mod Moves

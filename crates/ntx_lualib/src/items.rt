@@ -1,6 +1,6 @@
 //! What tables hold at numbers.
 
-ghost use Rattle.std.specs.Prelude.{◌≡◌, ◌-◌, ◌<◌, ◌^◌, pos};
+ghost use Rattle.std.specs.Prelude.{◌≡◌, ◌<◌, ◌≤◌, ◌^◌, pos};
 ghost use Rattle.ntx_num.specs.Answer.{Steps};
 ghost use Rattle.ntx_values.specs.Table.{item_at, border_of};
 ghost use Rattle.ntx_values.specs.State.{IsOf, Grows, table_of};
@@ -34,7 +34,8 @@ pub(crate) fn set_item(store: &mut Store, table: TableId, n: usize, value: Value
 pub(crate) fn border(store: &Store, table: TableId) -> usize
     requires { IsOf store.now (Value.Table table) }
     ensures value { result ≡ border_of (table_of store.now table) }
-    ensures small { result < 2 ^ 63 - 1 }
+    ensures small { result ≤ 2 ^ 16 }
 {
+    store.lawful();
     store.border(table) as usize
 }

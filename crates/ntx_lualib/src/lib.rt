@@ -10,6 +10,7 @@ mod arguments;
 mod format;
 mod items;
 mod line;
+mod lists;
 mod numbers;
 mod print;
 mod printed;
