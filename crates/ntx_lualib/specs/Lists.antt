@@ -5,7 +5,6 @@
 use Rattle.std.specs.Prelude.{ℕ, zero, suc, ◌+◌, ◌-◌, nat_le, nat_lt, nat_eq, ◌&&◌, if◌then◌else◌, ℤ, pos, negsuc, List, [], ◌∷◌, map, length, slice_set, Result, Ok, Err}
 use Rattle.std.specs.Fmt.{signed_decimal}
 use Rattle.ntx_num.specs.Answer.{result_map}
-use Rattle.ntx_values.specs.Value.{is_nil}
 use Rattle.ntx_values.specs.Table.{Entries, value_at, item_at, border_of, written}
 use Rattle.ntx_values.specs.State as state
 use Rattle.ntx_values.specs.State.{StoreState, bytes_of}
@@ -84,12 +83,14 @@ abbrev pub table_insert : List Value → StoreState → Result (List Value × St
 table_insert args store =
     table_of (argument args 0) >>= λ t. result_map (λ entries. ([], with_table store t entries)) (inserted (state.table_of store t) args)
 
--- The value at a place is taken out, at the border if the place is nil. If there is nothing at 1, and the place is nil, the value is
--- nil and nothing changes.
+-- The place at which a value is taken out: the border if it is nil, which is 0 where there is nothing at 1.
+abbrev pub removal_place : Entries → Value → Result ℕ LuaWhy
+removal_place entries Nil = Ok (border_of entries)
+removal_place entries place = integer_of place >>= place_in entries
+
+-- At place 0 the value is nil and nothing changes.
 abbrev pub removed : Entries → Value → Result (Value × Entries) LuaWhy
-removed entries place =
-    if is_nil place then Ok (if nat_eq (border_of entries) 0 then (Nil, entries) else taken_out entries (border_of entries))
-    else (integer_of place >>= λ i. place_in entries i >>= λ p. Ok (taken_out entries p))
+removed entries place = removal_place entries place >>= λ p. Ok (if nat_eq p 0 then (Nil, entries) else taken_out entries p)
 
 -- the value, and the store with the table changed
 abbrev pub table_remove : List Value → StoreState → Result (List Value × StoreState) LuaWhy

@@ -7,6 +7,7 @@
 #![tactic(auto)]
 
 mod arguments;
+mod call;
 mod format;
 mod items;
 mod line;
@@ -18,4 +19,5 @@ mod shown;
 mod strings;
 mod walks;
 
+pub use call::call_lib;
 pub use printed::Printed;

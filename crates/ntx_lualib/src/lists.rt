@@ -5,7 +5,7 @@ ghost use Rattle.ntx_num.specs.Answer.{result_map, result_and_then, Answers};
 ghost use Rattle.ntx_values.specs.Table.{Entries, has_key, border_of};
 ghost use Rattle.ntx_values.specs.State.{IsOf, AreOf, Grows, table_of};
 ghost use Rattle.ntx_lualib.specs.Arguments.{argument, integer_of};
-ghost use Rattle.ntx_lualib.specs.Lists.{insert_at, remove_at, place_in, inserted, removed, table_insert, table_remove};
+ghost use Rattle.ntx_lualib.specs.Lists.{insert_at, remove_at, place_in, inserted, removal_place, table_insert, table_remove};
 ghost use Rattle.ntx_lualib.specs.inner.Moves.{raised, lowered, Moves, Changes};
 ghost use Rattle.ntx_lualib.specs.inner.StoreCalls.{StoreCalls};
 
@@ -91,6 +91,7 @@ fn place_at(store: &Store, table: TableId, args: &[Value]) -> Result<usize, Fail
     ensures place { Answers result (result_and_then (integer_of (argument args.now 1)) (place_in (table_of store.now table))) }
     ensures low { IfOk result (λ p. 1 ≤ p) }
     ensures high { IfOk result (λ p. p ≤ border_of (table_of store.now table) + 1) }
+    ensures small { IfOk result (λ p. p ≤ 2 ^ 16 + 1) }
 {
     let p = integer_at(args, 1)?;
     let count = border(store, table);
@@ -98,6 +99,21 @@ fn place_at(store: &Store, table: TableId, args: &[Value]) -> Result<usize, Fail
         return Err(BAD);
     }
     Ok(p as usize)
+}
+
+/// Puts the last argument in, at the end or at a place.
+fn insert(store: &mut Store, table: TableId, args: &[Value]) -> Result<(), Fail<LuaWhy>>
+    requires table { IsOf store.old (Value.Table table) }
+    requires of { AreOf store.old args.now }
+    ensures changes { Changes result store.old store.new table (inserted (table_of store.old table) args.now) }
+    ensures grows { Grows store.old store.new }
+{
+    if args.len() <= 2 {
+        let place = border(store, table) + 1;
+        return set_item(store, table, place, argument(args, 1));
+    }
+    let place = place_at(store, table, args)?;
+    insert_at(store, table, place, argument(args, 2))
 }
 
 /// `table.insert`
@@ -110,16 +126,24 @@ pub(crate) fn table_insert(alloc: Global, store: &mut Store, args: &[Value]) -> 
     requires { AreOf store.old args.now }
     ensures calls { StoreCalls (result_map (λ values. values.items) result) store.old store.new (table_insert args.now store.old) }
     ensures grows { Grows store.old store.new }
+    ensures of { IfOk result (λ values. AreOf store.new values.items) }
 {
     let table = table_at(args, 0)?;
-    if args.len() <= 2 {
-        let place = border(store, table) + 1;
-        set_item(store, table, place, argument(args, 1))?;
-    } else {
-        let place = place_at(store, table, args)?;
-        insert_at(store, table, place, argument(args, 2))?;
-    }
+    insert(store, table, args)?;
     Ok(Vec::new(alloc))
+}
+
+/// The place at which a value is taken out, 0 if there is none.
+fn removal_place(store: &Store, table: TableId, args: &[Value]) -> Result<usize, Fail<LuaWhy>>
+    requires { IsOf store.now (Value.Table table) }
+    ensures place { Answers result (removal_place (table_of store.now table) (argument args.now 1)) }
+    ensures high { IfOk result (λ p. p ≤ border_of (table_of store.now table) + 1) }
+    ensures small { IfOk result (λ p. p ≤ 2 ^ 16 + 1) }
+{
+    match argument(args, 1) {
+        Value::Nil => Ok(border(store, table)),
+        _ => place_at(store, table, args),
+    }
 }
 
 /// `table.remove`
@@ -134,12 +158,10 @@ pub(crate) fn table_remove(alloc: Global, store: &mut Store, args: &[Value]) -> 
     ensures of { IfOk result (λ values. AreOf store.new values.items) }
 {
     let table = table_at(args, 0)?;
-    let count = border(store, table);
-    let whole = argument(args, 1).is_nil();
-    if whole && count == 0 {
+    let place = removal_place(store, table, args)?;
+    if place == 0 {
         return Ok(vec![in alloc; Value::Nil]?);
     }
-    let place = if whole { count } else { place_at(store, table, args)? };
     let values = vec![in alloc; item(store, table, place)]?;
     remove_at(store, table, place)?;
     Ok(values)

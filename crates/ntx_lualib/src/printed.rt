@@ -16,7 +16,7 @@ pub(crate) const MAX_PRINTED: usize = 1 << 24;
 /// The bytes that scripts of one run have printed: those not yet taken, and how many there were in all.
 #[derive(Drop)]
 pub struct Printed {
-    pub(crate) alloc: Global,
+    alloc: Global,
     bytes: Vec<u8>,
     count: usize,
 }
@@ -41,6 +41,11 @@ impl Printed {
             bytes: Vec::new(alloc),
             count: 0,
         })
+    }
+
+    /// The allocator of the printed bytes.
+    pub(crate) fn alloc(&self) -> Global {
+        self.alloc
     }
 
     /// The bytes that were printed and not yet taken. They are taken by this. It takes no memory.
