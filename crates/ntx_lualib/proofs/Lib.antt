@@ -8,4 +8,3 @@ pub mod Refills
 pub mod Numbering
 pub mod Moves
 pub mod Insertions
-pub mod Calling

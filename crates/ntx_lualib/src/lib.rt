@@ -7,7 +7,6 @@
 #![tactic(auto)]
 
 mod arguments;
-mod call;
 mod format;
 mod items;
 mod line;
@@ -17,7 +16,8 @@ mod print;
 mod printed;
 mod shown;
 mod strings;
+#[cfg(test)]
+mod tests;
 mod walks;
 
-pub use call::call_lib;
 pub use printed::Printed;
