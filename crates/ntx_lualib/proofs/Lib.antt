@@ -1,0 +1,10 @@
+pub mod Slices
+pub mod Each
+pub mod Repeats
+pub mod Bounds
+pub mod Pieces
+pub mod Joins
+pub mod Refills
+pub mod Numbering
+pub mod Moves
+pub mod Insertions

@@ -1,0 +1,6 @@
+-- what private calls say among themselves
+pub mod Lines
+pub mod StoreCalls
+pub mod Prints
+pub mod Pieces
+pub mod Moves
