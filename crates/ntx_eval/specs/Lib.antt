@@ -1,0 +1,17 @@
+pub mod Library
+pub mod State
+pub mod Ending
+pub mod Integers
+pub mod Operators
+pub mod Host
+pub mod Setting
+pub mod Variables
+pub mod Fields
+pub mod Parts
+pub mod Expressions
+pub mod Loops
+pub mod Statements
+pub mod Blocks
+pub mod Trees
+pub mod Meaning
+pub mod Calls
