@@ -15,3 +15,5 @@ pub mod Blocks
 pub mod Trees
 pub mod Meaning
 pub mod Calls
+pub mod Script
+pub mod Worked
