@@ -2,9 +2,12 @@
 #![tactic(auto)]
 
 mod host;
+mod integers;
 mod laws;
+mod operators;
 mod stop;
 
 pub use host::HostStep;
 pub use laws::worked_examples;
+pub use operators::{is_decided, is_true};
 pub use stop::{ScriptFault, ScriptStop};
