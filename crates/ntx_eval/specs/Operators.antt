@@ -40,24 +40,42 @@ is_decided _ a = false
 abbrev pub ValueStep : Type 0
 ValueStep = StoreState → Result (Value × StoreState) LuaWhy
 
--- the store stays as it is
-abbrev pub unchanged : (StoreState → Result Value LuaWhy) → ValueStep
-unchanged answer store = result_map (λ v. (v, store)) (answer store)
-
 abbrev pub integer_of : Value → Result ℤ LuaWhy
 integer_of (Int n) = Ok n
 integer_of _ = Err WrongType
 
-abbrev pub on_integers : (ℤ → ℤ → Result ℤ LuaWhy) → Value → Value → Result Value LuaWhy
-on_integers f a b = result_map Int (result_and_then (integer_of a) (λ x. result_and_then (integer_of b) (f x)))
+-- The operators that take integers alone. Another one takes none.
+abbrev pub arithmetic : BinaryOp → ℤ → ℤ → Result ℤ LuaWhy
+arithmetic binary.BitOr x y = Ok (int_bit_or w64 x y)
+arithmetic binary.BitXor x y = Ok (int_bit_xor w64 x y)
+arithmetic binary.BitAnd x y = Ok (int_bit_and w64 x y)
+arithmetic binary.ShiftLeft x y = Ok (shifted_left x y)
+arithmetic binary.ShiftRight x y = Ok (shifted_right x y)
+arithmetic binary.Add x y = Ok (int_wrapping_add w64 x y)
+arithmetic binary.Subtract x y = Ok (int_wrapping_sub w64 x y)
+arithmetic binary.Multiply x y = Ok (int_wrapping_mul w64 x y)
+arithmetic binary.FloorDivide x y = quotient x y
+arithmetic binary.Modulo x y = remainder x y
+arithmetic _ x y = Err WrongType
+
+abbrev pub on_integers : BinaryOp → Value → Value → Result Value LuaWhy
+on_integers op a b = result_map Int (result_and_then (integer_of a) (λ x. result_and_then (integer_of b) (arithmetic op x)))
 
 abbrev pub order_of : StoreState → Value → Value → Result Ordering LuaWhy
 order_of store (Int a) (Int b) = Ok (int_cmp a b)
 order_of store (Text a) (Text b) = Ok (slice_cmp nat_cmp (bytes_of store a) (bytes_of store b))
 order_of store _ _ = Err WrongType
 
-abbrev pub compared : (Ordering → Bool) → Value → Value → StoreState → Result Value LuaWhy
-compared holds a b store = result_map (λ o. value.Bool (holds o)) (order_of store a b)
+-- whether a comparison holds of two values that stand so to each other
+abbrev pub holds : BinaryOp → Ordering → Bool
+holds binary.Less o = is_lt o
+holds binary.Greater o = is_gt o
+holds binary.LessEqual o = is_le o
+holds binary.GreaterEqual o = is_ge o
+holds _ o = false
+
+abbrev pub compared : BinaryOp → Value → Value → StoreState → Result Value LuaWhy
+compared op a b store = result_map (λ o. value.Bool (holds op o)) (order_of store a b)
 
 -- what `..` takes: a text, or an integer as its decimal digits
 abbrev pub written : StoreState → Value → Result (List ℕ) LuaWhy
@@ -71,26 +89,21 @@ joined a b store = result_and_then (written store a) (λ xs. result_map (λ ys. 
 abbrev pub text_of_bytes : Result (List ℕ) LuaWhy → ValueStep
 text_of_bytes answer store = result_and_then answer (λ bytes. result_map (λ made. (Text made.0, made.1)) (text_step bytes store))
 
+-- every operator but `..`, which makes a text
+abbrev pub value_of : BinaryOp → Value → Value → StoreState → Result Value LuaWhy
+value_of binary.Or a b store = Ok (if is_true a then a else b)
+value_of binary.And a b store = Ok (if is_true a then b else a)
+value_of binary.Equal a b store = Ok (value.Bool (is_same a b))
+value_of binary.NotEqual a b store = Ok (value.Bool (not (is_same a b)))
+value_of binary.Less a b store = compared binary.Less a b store
+value_of binary.Greater a b store = compared binary.Greater a b store
+value_of binary.LessEqual a b store = compared binary.LessEqual a b store
+value_of binary.GreaterEqual a b store = compared binary.GreaterEqual a b store
+value_of op a b store = on_integers op a b
+
 abbrev pub binary_step : BinaryOp → Value → Value → ValueStep
-binary_step binary.Or a b = unchanged (λ _. Ok (if is_true a then a else b))
-binary_step binary.And a b = unchanged (λ _. Ok (if is_true a then b else a))
-binary_step binary.Less a b = unchanged (compared is_lt a b)
-binary_step binary.Greater a b = unchanged (compared is_gt a b)
-binary_step binary.LessEqual a b = unchanged (compared is_le a b)
-binary_step binary.GreaterEqual a b = unchanged (compared is_ge a b)
-binary_step binary.NotEqual a b = unchanged (λ _. Ok (value.Bool (not (is_same a b))))
-binary_step binary.Equal a b = unchanged (λ _. Ok (value.Bool (is_same a b)))
-binary_step binary.BitOr a b = unchanged (λ _. on_integers (λ x y. Ok (int_bit_or w64 x y)) a b)
-binary_step binary.BitXor a b = unchanged (λ _. on_integers (λ x y. Ok (int_bit_xor w64 x y)) a b)
-binary_step binary.BitAnd a b = unchanged (λ _. on_integers (λ x y. Ok (int_bit_and w64 x y)) a b)
-binary_step binary.ShiftLeft a b = unchanged (λ _. on_integers (λ x y. Ok (shifted_left x y)) a b)
-binary_step binary.ShiftRight a b = unchanged (λ _. on_integers (λ x y. Ok (shifted_right x y)) a b)
-binary_step binary.Concat a b = λ store. text_of_bytes (joined a b store) store
-binary_step binary.Add a b = unchanged (λ _. on_integers (λ x y. Ok (int_wrapping_add w64 x y)) a b)
-binary_step binary.Subtract a b = unchanged (λ _. on_integers (λ x y. Ok (int_wrapping_sub w64 x y)) a b)
-binary_step binary.Multiply a b = unchanged (λ _. on_integers (λ x y. Ok (int_wrapping_mul w64 x y)) a b)
-binary_step binary.FloorDivide a b = unchanged (λ _. on_integers quotient a b)
-binary_step binary.Modulo a b = unchanged (λ _. on_integers remainder a b)
+binary_step binary.Concat a b store = text_of_bytes (joined a b store) store
+binary_step op a b store = result_map (λ v. (v, store)) (value_of op a b store)
 
 -- the bytes of a text, or the border of a table
 abbrev pub length_of : Value → StoreState → Result Value LuaWhy

@@ -9,5 +9,5 @@ mod stop;
 
 pub use host::HostStep;
 pub use laws::worked_examples;
-pub use operators::{is_decided, is_true};
+pub use operators::{binary, is_decided, is_true, unary};
 pub use stop::{ScriptFault, ScriptStop};
