@@ -7,7 +7,7 @@ mod laws;
 mod operators;
 mod stop;
 
-pub use host::HostStep;
+pub use host::{Host, HostStep, NoHost};
 pub use laws::worked_examples;
 pub use operators::{binary, is_decided, is_true, unary};
 pub use stop::{ScriptFault, ScriptStop};
