@@ -104,7 +104,7 @@ remainder_less (pos zero) (negsuc b) negative some = absurd (some (ap pos (zero-
 remainder_less (pos (suc a)) (negsuc b) negative some =
     let same : suc a / suc b ≡ a / suc b = next_same a b (early a b (λ e. some (ap pos e))) in
     above (suc a) (suc b * suc (a / suc b)) (suc b * (a / suc b)) (suc a % suc b) b (mul-suc (suc b) (a / suc b))
-      (ap (λ q. suc b * q + suc a % suc b) (sym same) ∙ div-add-mod (suc a) (suc b))
+    (ap (λ q. suc b * q + suc a % suc b) (sym same) ∙ div-add-mod (suc a) (suc b))
 remainder_less (negsuc a) (negsuc b) negative some =
     let same : suc a / suc b ≡ a / suc b = next_same a b (early a b (λ e. some (ap pos (before_multiple a b (last a b e))))) in
     rw same (under a (suc b * (a / suc b)) (a % suc b) b (div-add-mod a (suc b)) (mod-lt a (zero-lt-suc b)))

@@ -46,9 +46,9 @@ abbrev pub enter_at : {S : Type 0} → Bodies S → World S → ℕ → ℕ → 
 enter_at bodies world zero level f args line = out_of_steps line
 enter_at bodies world (suc most) level f args line =
     enter_value
-      (record { world = world; most = most; enter = enter_at bodies world most level })
-      (bodies (record { world = world; most = most; enter = enter_at bodies world most (suc level) }))
-      level f args line
+    (record { world = world; most = most; enter = enter_at bodies world most level })
+    (bodies (record { world = world; most = most; enter = enter_at bodies world most (suc level) }))
+    level f args line
 
 -- the setting at a level, for at most so many charges
 abbrev pub setting : {S : Type 0} → Bodies S → World S → ℕ → ℕ → Setting S

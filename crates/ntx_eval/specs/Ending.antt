@@ -12,7 +12,6 @@ use Rattle.ntx_eval.specs.declared.stop.ScriptStop.TheVariants.{Fault, Budget}
 
 infixl 10 ◌>>=◌
 infixl 10 ◌>>◌
-
 abbrev pub Ending : Type 0 → Type 0 → Type 0
 Ending S A = Result A ScriptStop × State S
 

@@ -38,7 +38,7 @@ while_loop (suc n) condition body here = do
   charge here.line
   goes_on ← holds condition here
   if goes_on then (turn [] [] body here >>= λ flow. unless_left flow (while_loop n condition body here))
-    else give onward
+      else give onward
 
 -- The condition sees the local variables of the body.
 abbrev pub repeat_loop : {S : Type 0} → ℕ → BlockMeaning S → ExpMeaning S → Here → Action S Flow
@@ -48,7 +48,7 @@ repeat_loop zero body condition here = do
 repeat_loop (suc n) body condition here = do
   ended ← body here
   unless_left ended.0 (charge here.line >> holds condition (record { scope = ended.1; line = here.line })
-    >>= λ ends. if ends then give onward else repeat_loop n body condition here)
+      >>= λ ends. if ends then give onward else repeat_loop n body condition here)
 
 -- ---- the numeric for
 
@@ -61,8 +61,8 @@ numeric_loop zero name limit step body here i = out_of_steps here.line
 numeric_loop (suc n) name limit step body here i =
     charge here.line >>
     (if is_within_limit limit step i
-     then (turn (name ∷ []) (Int i ∷ []) body here >>= λ flow. unless_left flow (numeric_loop n name limit step body here (i +ℤ step)))
-     else give onward)
+    then (turn (name ∷ []) (Int i ∷ []) body here >>= λ flow. unless_left flow (numeric_loop n name limit step body here (i +ℤ step)))
+    else give onward)
 
 -- All three values are integers, and the step is not 0.
 abbrev pub numeric_for : {S : Type 0} → ℕ → List ℕ → Value → Value → Value → BlockMeaning S → Here → Action S Flow
@@ -79,4 +79,4 @@ generic_loop run (suc n) names iterator walked body here control = do
   charge here.line
   vs ← run.enter iterator (walked ∷ control ∷ []) here.line
   if is_nil (first vs) then give onward
-    else (turn names vs body here >>= λ flow. unless_left flow (generic_loop run n names iterator walked body here (first vs)))
+      else (turn names vs body here >>= λ flow. unless_left flow (generic_loop run n names iterator walked body here (first vs)))

@@ -24,9 +24,9 @@ use Rattle.ntx_eval.specs.Blocks.{block_layer, body_layer, return_layer, stat_la
 abbrev pub body_meaning : {S : Type 0} → Setting S → FunctionBody → BodyMeaning S
 body_meaning {S} run =
     para-FunctionBody (ExpMeaning S) (FieldMeaning S) (ExpMeaning S) (KindMeaning S) (SuffixMeaning S) (VarMeaning S) (BlockMeaning S)
-      (ExpMeaning S) (BodyMeaning S) (ArmMeaning S) (OperationMeaning S) (ExpMeaning S) (ReturnMeaning S) (StatMeaning S)
-      (λ p. exp_layer (meanings Exp-F map-Exp p)) (λ p. field_layer run (meanings Field-F map-Field p)) (λ p. head_layer (meanings Head-F map-Head p))
-      (λ p. kind_layer run (meanings StatKind-F map-StatKind p)) (λ p. suffix_layer run (meanings Suffix-F map-Suffix p)) (λ p. var_layer (meanings Var-F map-Var p))
-      (λ p. block_layer (meanings Block-F map-Block p)) (λ p. call_layer run (meanings Call-F map-Call p)) (λ p. body_layer (meanings FunctionBody-F map-FunctionBody p))
-      (λ p. arm_layer (meanings IfArm-F map-IfArm p)) (λ p. operation_layer (meanings Operation-F map-Operation p)) (λ p. prefix_layer (meanings Prefix-F map-Prefix p))
-      (λ p. return_layer (meanings Return-F map-Return p)) (λ p. stat_layer (meanings Stat-F map-Stat p))
+    (ExpMeaning S) (BodyMeaning S) (ArmMeaning S) (OperationMeaning S) (ExpMeaning S) (ReturnMeaning S) (StatMeaning S)
+    (λ p. exp_layer (meanings Exp-F map-Exp p)) (λ p. field_layer run (meanings Field-F map-Field p)) (λ p. head_layer (meanings Head-F map-Head p))
+    (λ p. kind_layer run (meanings StatKind-F map-StatKind p)) (λ p. suffix_layer run (meanings Suffix-F map-Suffix p)) (λ p. var_layer (meanings Var-F map-Var p))
+    (λ p. block_layer (meanings Block-F map-Block p)) (λ p. call_layer run (meanings Call-F map-Call p)) (λ p. body_layer (meanings FunctionBody-F map-FunctionBody p))
+    (λ p. arm_layer (meanings IfArm-F map-IfArm p)) (λ p. operation_layer (meanings Operation-F map-Operation p)) (λ p. prefix_layer (meanings Prefix-F map-Prefix p))
+    (λ p. return_layer (meanings Return-F map-Return p)) (λ p. stat_layer (meanings Stat-F map-Stat p))

@@ -30,13 +30,13 @@ MapOf F =
 abbrev pub With : Type 0 → Layer → Type 0
 With S F =
     F (Exp × ExpMeaning S) (Field × FieldMeaning S) (Head × ExpMeaning S) (StatKind × KindMeaning S) (Suffix × SuffixMeaning S) (Var × VarMeaning S) (Block × BlockMeaning S)
-      (Call × ExpMeaning S) (FunctionBody × BodyMeaning S) (IfArm × ArmMeaning S) (Operation × OperationMeaning S) (Prefix × ExpMeaning S) (Return × ReturnMeaning S) (Stat × StatMeaning S)
+    (Call × ExpMeaning S) (FunctionBody × BodyMeaning S) (IfArm × ArmMeaning S) (Operation × OperationMeaning S) (Prefix × ExpMeaning S) (Return × ReturnMeaning S) (Stat × StatMeaning S)
 
 abbrev pub meanings : {S : Type 0} (F : Layer) → MapOf F → With S F → Of S F
 meanings {S} F map layer =
     map (Exp × ExpMeaning S) (Field × FieldMeaning S) (Head × ExpMeaning S) (StatKind × KindMeaning S) (Suffix × SuffixMeaning S) (Var × VarMeaning S) (Block × BlockMeaning S)
-      (Call × ExpMeaning S) (FunctionBody × BodyMeaning S) (IfArm × ArmMeaning S) (Operation × OperationMeaning S) (Prefix × ExpMeaning S) (Return × ReturnMeaning S) (Stat × StatMeaning S)
-      (ExpMeaning S) (FieldMeaning S) (ExpMeaning S) (KindMeaning S) (SuffixMeaning S) (VarMeaning S) (BlockMeaning S)
-      (ExpMeaning S) (FunctionBody × BodyMeaning S) (ArmMeaning S) (OperationMeaning S) (ExpMeaning S) (ReturnMeaning S) (StatMeaning S)
-      (λ x. x.1) (λ x. x.1) (λ x. x.1) (λ x. x.1) (λ x. x.1) (λ x. x.1) (λ x. x.1)
-      (λ x. x.1) (λ x. x) (λ x. x.1) (λ x. x.1) (λ x. x.1) (λ x. x.1) (λ x. x.1) layer
+    (Call × ExpMeaning S) (FunctionBody × BodyMeaning S) (IfArm × ArmMeaning S) (Operation × OperationMeaning S) (Prefix × ExpMeaning S) (Return × ReturnMeaning S) (Stat × StatMeaning S)
+    (ExpMeaning S) (FieldMeaning S) (ExpMeaning S) (KindMeaning S) (SuffixMeaning S) (VarMeaning S) (BlockMeaning S)
+    (ExpMeaning S) (FunctionBody × BodyMeaning S) (ArmMeaning S) (OperationMeaning S) (ExpMeaning S) (ReturnMeaning S) (StatMeaning S)
+    (λ x. x.1) (λ x. x.1) (λ x. x.1) (λ x. x.1) (λ x. x.1) (λ x. x.1) (λ x. x.1)
+    (λ x. x.1) (λ x. x) (λ x. x.1) (λ x. x.1) (λ x. x.1) (λ x. x.1) (λ x. x.1) layer

@@ -43,7 +43,12 @@ pub trait Host {
     ghost resume_step: { List Value → State → StoreState → Answered State };
 
     /// Begins a primitive with these arguments. It is not one of the library.
-    fn begin(&mut self, store: &mut Store, primitive: Primitive, args: &[Value]) -> Result<HostStep, NoMemory>
+    fn begin(
+        &mut self,
+        store: &mut Store,
+        primitive: Primitive,
+        args: &[Value],
+    ) -> Result<HostStep, NoMemory>
         requires fits { Fits (state self.old) store.old }
         requires args { AreOf store.old args.now }
         ensures step { Does result (state self.new) store.new (begin_step primitive args.now (state self.old) store.old) }
@@ -83,7 +88,12 @@ impl Host for NoHost {
 
     ghost goes_on_fitting = { λ s old new grows fits. tt };
 
-    fn begin(&mut self, _store: &mut Store, _primitive: Primitive, _args: &[Value]) -> Result<HostStep, NoMemory> {
+    fn begin(
+        &mut self,
+        _store: &mut Store,
+        _primitive: Primitive,
+        _args: &[Value],
+    ) -> Result<HostStep, NoMemory> {
         Ok(HostStep::Fail(LuaWhy::WrongType))
     }
 

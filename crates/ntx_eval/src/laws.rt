@@ -1,9 +1,20 @@
 //! Facts about the meaning of scripts.
 
-ghost use Rattle.ntx_eval.specs.Worked.{Floors, Budgets};
+ghost use Rattle.ntx_eval.specs.Worked as worked;
 
-/// Examples.
+/// Examples of scripts, each with what it gives, or why it stops and in which line, and the steps that are left.
 pub fn worked_examples()
-    ensures floors { Floors }
-    ensures budgets { Budgets }
+    ensures floors { worked.Floors }
+    ensures faults_have_lines { worked.FaultsHaveLines }
+    ensures loops_are_charged { worked.LoopsAreCharged }
+    ensures calls_are_charged { worked.CallsAreCharged }
+    ensures operands_decide { worked.OperandsDecide }
+    ensures calls_in_the_middle_give_one { worked.CallsInTheMiddleGiveOne }
+    ensures for_never_wraps { worked.ForNeverWraps }
+    ensures steps_are_not_zero { worked.StepsAreNotZero }
+    ensures until_sees_locals { worked.UntilSeesLocals }
+    ensures calls_of_nil { worked.CallsOfNil }
+    ensures turns_have_their_own_variables { worked.TurnsHaveTheirOwnVariables }
+    ensures break_leaves { worked.BreakLeaves }
+    ensures levels_are_bounded { worked.LevelsAreBounded }
 {}

@@ -6,6 +6,8 @@ mod integers;
 mod laws;
 mod operators;
 mod stop;
+#[cfg(test)]
+mod tests;
 
 pub use host::{Host, HostStep, NoHost};
 pub use laws::worked_examples;

@@ -247,7 +247,13 @@ fn value_of(store: &Store, op: BinaryOp, a: Value, b: Value) -> Result<Value, Lu
 ///
 /// WrongType of operands of another sort than the operator takes; ZeroDivisor of `//` and `%` by 0; TextsFull where the
 /// store cannot hold the text of `..`.
-pub fn binary(alloc: Global, store: &mut Store, op: BinaryOp, a: Value, b: Value) -> Result<Value, Fail<LuaWhy>>
+pub fn binary(
+    alloc: Global,
+    store: &mut Store,
+    op: BinaryOp,
+    a: Value,
+    b: Value,
+) -> Result<Value, Fail<LuaWhy>>
     requires first { IsOf store.old a }
     requires second { IsOf store.old b }
     ensures step { Steps result store.old store.new (spec.binary_step op a b store.old) }
