@@ -1,19 +1,19 @@
 -- The meaning of a tree, one layer after the other: as many layers as are wanted, and what is below them by the recursion over the tree.
 use Rattle.std.proofs.Common.{◌≡◌, ◌∙◌, ℕ, zero, suc, refl, sym, ap}
-use Rattle.ntx_syntax.specs.declared.tree.Exp.{Exp, map-Exp, para-Exp, para-roll-Exp, out-Exp, roll-out-Exp}
-use Rattle.ntx_syntax.specs.declared.tree.Field.{Field, map-Field, para-Field, para-roll-Field, out-Field, roll-out-Field}
-use Rattle.ntx_syntax.specs.declared.tree.Head.{Head, map-Head, para-Head, para-roll-Head, out-Head, roll-out-Head}
-use Rattle.ntx_syntax.specs.declared.tree.StatKind.{StatKind, map-StatKind, para-StatKind, para-roll-StatKind, out-StatKind, roll-out-StatKind}
-use Rattle.ntx_syntax.specs.declared.tree.Suffix.{Suffix, map-Suffix, para-Suffix, para-roll-Suffix, out-Suffix, roll-out-Suffix}
-use Rattle.ntx_syntax.specs.declared.tree.Var.{Var, map-Var, para-Var, para-roll-Var, out-Var, roll-out-Var}
-use Rattle.ntx_syntax.specs.declared.tree.Block.{Block, map-Block, para-Block, para-roll-Block, out-Block, roll-out-Block}
-use Rattle.ntx_syntax.specs.declared.tree.Call.{Call, map-Call, para-Call, para-roll-Call, out-Call, roll-out-Call}
-use Rattle.ntx_syntax.specs.declared.tree.FunctionBody.{FunctionBody, map-FunctionBody, para-FunctionBody, para-roll-FunctionBody, out-FunctionBody, roll-out-FunctionBody}
-use Rattle.ntx_syntax.specs.declared.tree.IfArm.{IfArm, map-IfArm, para-IfArm, para-roll-IfArm, out-IfArm, roll-out-IfArm}
-use Rattle.ntx_syntax.specs.declared.tree.Operation.{Operation, map-Operation, para-Operation, para-roll-Operation, out-Operation, roll-out-Operation}
-use Rattle.ntx_syntax.specs.declared.tree.Prefix.{Prefix, map-Prefix, para-Prefix, para-roll-Prefix, out-Prefix, roll-out-Prefix}
-use Rattle.ntx_syntax.specs.declared.tree.Return.{Return, map-Return, para-Return, para-roll-Return, out-Return, roll-out-Return}
-use Rattle.ntx_syntax.specs.declared.tree.Stat.{Stat, map-Stat, para-Stat, para-roll-Stat, out-Stat, roll-out-Stat}
+use Rattle.ntx_syntax.specs.declared.tree.Exp.{Exp, map-Exp, para-Exp, para-roll-Exp, roll-Exp, out-Exp, roll-out-Exp}
+use Rattle.ntx_syntax.specs.declared.tree.Field.{Field, map-Field, para-Field, para-roll-Field, roll-Field, out-Field, roll-out-Field}
+use Rattle.ntx_syntax.specs.declared.tree.Head.{Head, map-Head, para-Head, para-roll-Head, roll-Head, out-Head, roll-out-Head}
+use Rattle.ntx_syntax.specs.declared.tree.StatKind.{StatKind, map-StatKind, para-StatKind, para-roll-StatKind, roll-StatKind, out-StatKind, roll-out-StatKind}
+use Rattle.ntx_syntax.specs.declared.tree.Suffix.{Suffix, map-Suffix, para-Suffix, para-roll-Suffix, roll-Suffix, out-Suffix, roll-out-Suffix}
+use Rattle.ntx_syntax.specs.declared.tree.Var.{Var, map-Var, para-Var, para-roll-Var, roll-Var, out-Var, roll-out-Var}
+use Rattle.ntx_syntax.specs.declared.tree.Block.{Block, map-Block, para-Block, para-roll-Block, roll-Block, out-Block, roll-out-Block}
+use Rattle.ntx_syntax.specs.declared.tree.Call.{Call, map-Call, para-Call, para-roll-Call, roll-Call, out-Call, roll-out-Call}
+use Rattle.ntx_syntax.specs.declared.tree.FunctionBody.{FunctionBody, map-FunctionBody, para-FunctionBody, para-roll-FunctionBody, roll-FunctionBody, out-FunctionBody, roll-out-FunctionBody}
+use Rattle.ntx_syntax.specs.declared.tree.IfArm.{IfArm, map-IfArm, para-IfArm, para-roll-IfArm, roll-IfArm, out-IfArm, roll-out-IfArm}
+use Rattle.ntx_syntax.specs.declared.tree.Operation.{Operation, map-Operation, para-Operation, para-roll-Operation, roll-Operation, out-Operation, roll-out-Operation}
+use Rattle.ntx_syntax.specs.declared.tree.Prefix.{Prefix, map-Prefix, para-Prefix, para-roll-Prefix, roll-Prefix, out-Prefix, roll-out-Prefix}
+use Rattle.ntx_syntax.specs.declared.tree.Return.{Return, map-Return, para-Return, para-roll-Return, roll-Return, out-Return, roll-out-Return}
+use Rattle.ntx_syntax.specs.declared.tree.Stat.{Stat, map-Stat, para-Stat, para-roll-Stat, roll-Stat, out-Stat, roll-out-Stat}
 use Rattle.ntx_syntax.specs.declared.tree.Exp.TheOpen.{Exp-F, Field-F, Head-F, StatKind-F, Suffix-F, Var-F, Block-F, Call-F, FunctionBody-F, IfArm-F, Operation-F, Prefix-F, Return-F, Stat-F}
 use Rattle.ntx_eval.specs.Setting.{Setting}
 use Rattle.ntx_eval.specs.Parts.{ExpMeaning, FieldMeaning, KindMeaning, SuffixMeaning, VarMeaning, BlockMeaning, BodyMeaning, ArmMeaning, OperationMeaning, ReturnMeaning, StatMeaning}
@@ -315,3 +315,131 @@ unrolled_body n run = (unrolled n run).body
 
 pub unrolled_body_is : {S : Type 0} (n : ℕ) → body_meaning {S = S} ≡ unrolled_body n
 unrolled_body_is n = λ i run. (unrolled_is n run i).body
+
+-- ---- at a tree made of its layer
+
+pub exp_rolls : {S : Type 0} (run : Setting S) (x : Exp-F Exp Field Head StatKind Suffix Var Block Call FunctionBody IfArm Operation Prefix Return Stat) → (whole run).exp (roll-Exp x) ≡ exp_layer (meanings Exp-F map-Exp (with_trees Exp-F map-Exp (whole run) x))
+exp_rolls {S} run x = para-roll-Exp (ExpMeaning S) (FieldMeaning S) (ExpMeaning S) (KindMeaning S) (SuffixMeaning S) (VarMeaning S) (BlockMeaning S)
+    (ExpMeaning S) (BodyMeaning S) (ArmMeaning S) (OperationMeaning S) (ExpMeaning S) (ReturnMeaning S) (StatMeaning S)
+    (λ p. exp_layer (meanings Exp-F map-Exp p)) (λ p. field_layer run (meanings Field-F map-Field p)) (λ p. head_layer (meanings Head-F map-Head p))
+    (λ p. kind_layer run (meanings StatKind-F map-StatKind p)) (λ p. suffix_layer run (meanings Suffix-F map-Suffix p)) (λ p. var_layer (meanings Var-F map-Var p))
+    (λ p. block_layer (meanings Block-F map-Block p)) (λ p. call_layer run (meanings Call-F map-Call p)) (λ p. body_layer (meanings FunctionBody-F map-FunctionBody p))
+    (λ p. arm_layer (meanings IfArm-F map-IfArm p)) (λ p. operation_layer (meanings Operation-F map-Operation p)) (λ p. prefix_layer (meanings Prefix-F map-Prefix p))
+    (λ p. return_layer (meanings Return-F map-Return p)) (λ p. stat_layer (meanings Stat-F map-Stat p)) x
+
+pub field_rolls : {S : Type 0} (run : Setting S) (x : Field-F Exp Field Head StatKind Suffix Var Block Call FunctionBody IfArm Operation Prefix Return Stat) → (whole run).field (roll-Field x) ≡ field_layer run (meanings Field-F map-Field (with_trees Field-F map-Field (whole run) x))
+field_rolls {S} run x = para-roll-Field (ExpMeaning S) (FieldMeaning S) (ExpMeaning S) (KindMeaning S) (SuffixMeaning S) (VarMeaning S) (BlockMeaning S)
+    (ExpMeaning S) (BodyMeaning S) (ArmMeaning S) (OperationMeaning S) (ExpMeaning S) (ReturnMeaning S) (StatMeaning S)
+    (λ p. exp_layer (meanings Exp-F map-Exp p)) (λ p. field_layer run (meanings Field-F map-Field p)) (λ p. head_layer (meanings Head-F map-Head p))
+    (λ p. kind_layer run (meanings StatKind-F map-StatKind p)) (λ p. suffix_layer run (meanings Suffix-F map-Suffix p)) (λ p. var_layer (meanings Var-F map-Var p))
+    (λ p. block_layer (meanings Block-F map-Block p)) (λ p. call_layer run (meanings Call-F map-Call p)) (λ p. body_layer (meanings FunctionBody-F map-FunctionBody p))
+    (λ p. arm_layer (meanings IfArm-F map-IfArm p)) (λ p. operation_layer (meanings Operation-F map-Operation p)) (λ p. prefix_layer (meanings Prefix-F map-Prefix p))
+    (λ p. return_layer (meanings Return-F map-Return p)) (λ p. stat_layer (meanings Stat-F map-Stat p)) x
+
+pub head_rolls : {S : Type 0} (run : Setting S) (x : Head-F Exp Field Head StatKind Suffix Var Block Call FunctionBody IfArm Operation Prefix Return Stat) → (whole run).head (roll-Head x) ≡ head_layer (meanings Head-F map-Head (with_trees Head-F map-Head (whole run) x))
+head_rolls {S} run x = para-roll-Head (ExpMeaning S) (FieldMeaning S) (ExpMeaning S) (KindMeaning S) (SuffixMeaning S) (VarMeaning S) (BlockMeaning S)
+    (ExpMeaning S) (BodyMeaning S) (ArmMeaning S) (OperationMeaning S) (ExpMeaning S) (ReturnMeaning S) (StatMeaning S)
+    (λ p. exp_layer (meanings Exp-F map-Exp p)) (λ p. field_layer run (meanings Field-F map-Field p)) (λ p. head_layer (meanings Head-F map-Head p))
+    (λ p. kind_layer run (meanings StatKind-F map-StatKind p)) (λ p. suffix_layer run (meanings Suffix-F map-Suffix p)) (λ p. var_layer (meanings Var-F map-Var p))
+    (λ p. block_layer (meanings Block-F map-Block p)) (λ p. call_layer run (meanings Call-F map-Call p)) (λ p. body_layer (meanings FunctionBody-F map-FunctionBody p))
+    (λ p. arm_layer (meanings IfArm-F map-IfArm p)) (λ p. operation_layer (meanings Operation-F map-Operation p)) (λ p. prefix_layer (meanings Prefix-F map-Prefix p))
+    (λ p. return_layer (meanings Return-F map-Return p)) (λ p. stat_layer (meanings Stat-F map-Stat p)) x
+
+pub kind_rolls : {S : Type 0} (run : Setting S) (x : StatKind-F Exp Field Head StatKind Suffix Var Block Call FunctionBody IfArm Operation Prefix Return Stat) → (whole run).kind (roll-StatKind x) ≡ kind_layer run (meanings StatKind-F map-StatKind (with_trees StatKind-F map-StatKind (whole run) x))
+kind_rolls {S} run x = para-roll-StatKind (ExpMeaning S) (FieldMeaning S) (ExpMeaning S) (KindMeaning S) (SuffixMeaning S) (VarMeaning S) (BlockMeaning S)
+    (ExpMeaning S) (BodyMeaning S) (ArmMeaning S) (OperationMeaning S) (ExpMeaning S) (ReturnMeaning S) (StatMeaning S)
+    (λ p. exp_layer (meanings Exp-F map-Exp p)) (λ p. field_layer run (meanings Field-F map-Field p)) (λ p. head_layer (meanings Head-F map-Head p))
+    (λ p. kind_layer run (meanings StatKind-F map-StatKind p)) (λ p. suffix_layer run (meanings Suffix-F map-Suffix p)) (λ p. var_layer (meanings Var-F map-Var p))
+    (λ p. block_layer (meanings Block-F map-Block p)) (λ p. call_layer run (meanings Call-F map-Call p)) (λ p. body_layer (meanings FunctionBody-F map-FunctionBody p))
+    (λ p. arm_layer (meanings IfArm-F map-IfArm p)) (λ p. operation_layer (meanings Operation-F map-Operation p)) (λ p. prefix_layer (meanings Prefix-F map-Prefix p))
+    (λ p. return_layer (meanings Return-F map-Return p)) (λ p. stat_layer (meanings Stat-F map-Stat p)) x
+
+pub suffix_rolls : {S : Type 0} (run : Setting S) (x : Suffix-F Exp Field Head StatKind Suffix Var Block Call FunctionBody IfArm Operation Prefix Return Stat) → (whole run).suffix (roll-Suffix x) ≡ suffix_layer run (meanings Suffix-F map-Suffix (with_trees Suffix-F map-Suffix (whole run) x))
+suffix_rolls {S} run x = para-roll-Suffix (ExpMeaning S) (FieldMeaning S) (ExpMeaning S) (KindMeaning S) (SuffixMeaning S) (VarMeaning S) (BlockMeaning S)
+    (ExpMeaning S) (BodyMeaning S) (ArmMeaning S) (OperationMeaning S) (ExpMeaning S) (ReturnMeaning S) (StatMeaning S)
+    (λ p. exp_layer (meanings Exp-F map-Exp p)) (λ p. field_layer run (meanings Field-F map-Field p)) (λ p. head_layer (meanings Head-F map-Head p))
+    (λ p. kind_layer run (meanings StatKind-F map-StatKind p)) (λ p. suffix_layer run (meanings Suffix-F map-Suffix p)) (λ p. var_layer (meanings Var-F map-Var p))
+    (λ p. block_layer (meanings Block-F map-Block p)) (λ p. call_layer run (meanings Call-F map-Call p)) (λ p. body_layer (meanings FunctionBody-F map-FunctionBody p))
+    (λ p. arm_layer (meanings IfArm-F map-IfArm p)) (λ p. operation_layer (meanings Operation-F map-Operation p)) (λ p. prefix_layer (meanings Prefix-F map-Prefix p))
+    (λ p. return_layer (meanings Return-F map-Return p)) (λ p. stat_layer (meanings Stat-F map-Stat p)) x
+
+pub var_rolls : {S : Type 0} (run : Setting S) (x : Var-F Exp Field Head StatKind Suffix Var Block Call FunctionBody IfArm Operation Prefix Return Stat) → (whole run).var (roll-Var x) ≡ var_layer (meanings Var-F map-Var (with_trees Var-F map-Var (whole run) x))
+var_rolls {S} run x = para-roll-Var (ExpMeaning S) (FieldMeaning S) (ExpMeaning S) (KindMeaning S) (SuffixMeaning S) (VarMeaning S) (BlockMeaning S)
+    (ExpMeaning S) (BodyMeaning S) (ArmMeaning S) (OperationMeaning S) (ExpMeaning S) (ReturnMeaning S) (StatMeaning S)
+    (λ p. exp_layer (meanings Exp-F map-Exp p)) (λ p. field_layer run (meanings Field-F map-Field p)) (λ p. head_layer (meanings Head-F map-Head p))
+    (λ p. kind_layer run (meanings StatKind-F map-StatKind p)) (λ p. suffix_layer run (meanings Suffix-F map-Suffix p)) (λ p. var_layer (meanings Var-F map-Var p))
+    (λ p. block_layer (meanings Block-F map-Block p)) (λ p. call_layer run (meanings Call-F map-Call p)) (λ p. body_layer (meanings FunctionBody-F map-FunctionBody p))
+    (λ p. arm_layer (meanings IfArm-F map-IfArm p)) (λ p. operation_layer (meanings Operation-F map-Operation p)) (λ p. prefix_layer (meanings Prefix-F map-Prefix p))
+    (λ p. return_layer (meanings Return-F map-Return p)) (λ p. stat_layer (meanings Stat-F map-Stat p)) x
+
+pub block_rolls : {S : Type 0} (run : Setting S) (x : Block-F Exp Field Head StatKind Suffix Var Block Call FunctionBody IfArm Operation Prefix Return Stat) → (whole run).block (roll-Block x) ≡ block_layer (meanings Block-F map-Block (with_trees Block-F map-Block (whole run) x))
+block_rolls {S} run x = para-roll-Block (ExpMeaning S) (FieldMeaning S) (ExpMeaning S) (KindMeaning S) (SuffixMeaning S) (VarMeaning S) (BlockMeaning S)
+    (ExpMeaning S) (BodyMeaning S) (ArmMeaning S) (OperationMeaning S) (ExpMeaning S) (ReturnMeaning S) (StatMeaning S)
+    (λ p. exp_layer (meanings Exp-F map-Exp p)) (λ p. field_layer run (meanings Field-F map-Field p)) (λ p. head_layer (meanings Head-F map-Head p))
+    (λ p. kind_layer run (meanings StatKind-F map-StatKind p)) (λ p. suffix_layer run (meanings Suffix-F map-Suffix p)) (λ p. var_layer (meanings Var-F map-Var p))
+    (λ p. block_layer (meanings Block-F map-Block p)) (λ p. call_layer run (meanings Call-F map-Call p)) (λ p. body_layer (meanings FunctionBody-F map-FunctionBody p))
+    (λ p. arm_layer (meanings IfArm-F map-IfArm p)) (λ p. operation_layer (meanings Operation-F map-Operation p)) (λ p. prefix_layer (meanings Prefix-F map-Prefix p))
+    (λ p. return_layer (meanings Return-F map-Return p)) (λ p. stat_layer (meanings Stat-F map-Stat p)) x
+
+pub call_rolls : {S : Type 0} (run : Setting S) (x : Call-F Exp Field Head StatKind Suffix Var Block Call FunctionBody IfArm Operation Prefix Return Stat) → (whole run).call (roll-Call x) ≡ call_layer run (meanings Call-F map-Call (with_trees Call-F map-Call (whole run) x))
+call_rolls {S} run x = para-roll-Call (ExpMeaning S) (FieldMeaning S) (ExpMeaning S) (KindMeaning S) (SuffixMeaning S) (VarMeaning S) (BlockMeaning S)
+    (ExpMeaning S) (BodyMeaning S) (ArmMeaning S) (OperationMeaning S) (ExpMeaning S) (ReturnMeaning S) (StatMeaning S)
+    (λ p. exp_layer (meanings Exp-F map-Exp p)) (λ p. field_layer run (meanings Field-F map-Field p)) (λ p. head_layer (meanings Head-F map-Head p))
+    (λ p. kind_layer run (meanings StatKind-F map-StatKind p)) (λ p. suffix_layer run (meanings Suffix-F map-Suffix p)) (λ p. var_layer (meanings Var-F map-Var p))
+    (λ p. block_layer (meanings Block-F map-Block p)) (λ p. call_layer run (meanings Call-F map-Call p)) (λ p. body_layer (meanings FunctionBody-F map-FunctionBody p))
+    (λ p. arm_layer (meanings IfArm-F map-IfArm p)) (λ p. operation_layer (meanings Operation-F map-Operation p)) (λ p. prefix_layer (meanings Prefix-F map-Prefix p))
+    (λ p. return_layer (meanings Return-F map-Return p)) (λ p. stat_layer (meanings Stat-F map-Stat p)) x
+
+pub body_rolls : {S : Type 0} (run : Setting S) (x : FunctionBody-F Exp Field Head StatKind Suffix Var Block Call FunctionBody IfArm Operation Prefix Return Stat) → (whole run).body (roll-FunctionBody x) ≡ body_layer (meanings FunctionBody-F map-FunctionBody (with_trees FunctionBody-F map-FunctionBody (whole run) x))
+body_rolls {S} run x = para-roll-FunctionBody (ExpMeaning S) (FieldMeaning S) (ExpMeaning S) (KindMeaning S) (SuffixMeaning S) (VarMeaning S) (BlockMeaning S)
+    (ExpMeaning S) (BodyMeaning S) (ArmMeaning S) (OperationMeaning S) (ExpMeaning S) (ReturnMeaning S) (StatMeaning S)
+    (λ p. exp_layer (meanings Exp-F map-Exp p)) (λ p. field_layer run (meanings Field-F map-Field p)) (λ p. head_layer (meanings Head-F map-Head p))
+    (λ p. kind_layer run (meanings StatKind-F map-StatKind p)) (λ p. suffix_layer run (meanings Suffix-F map-Suffix p)) (λ p. var_layer (meanings Var-F map-Var p))
+    (λ p. block_layer (meanings Block-F map-Block p)) (λ p. call_layer run (meanings Call-F map-Call p)) (λ p. body_layer (meanings FunctionBody-F map-FunctionBody p))
+    (λ p. arm_layer (meanings IfArm-F map-IfArm p)) (λ p. operation_layer (meanings Operation-F map-Operation p)) (λ p. prefix_layer (meanings Prefix-F map-Prefix p))
+    (λ p. return_layer (meanings Return-F map-Return p)) (λ p. stat_layer (meanings Stat-F map-Stat p)) x
+
+pub arm_rolls : {S : Type 0} (run : Setting S) (x : IfArm-F Exp Field Head StatKind Suffix Var Block Call FunctionBody IfArm Operation Prefix Return Stat) → (whole run).arm (roll-IfArm x) ≡ arm_layer (meanings IfArm-F map-IfArm (with_trees IfArm-F map-IfArm (whole run) x))
+arm_rolls {S} run x = para-roll-IfArm (ExpMeaning S) (FieldMeaning S) (ExpMeaning S) (KindMeaning S) (SuffixMeaning S) (VarMeaning S) (BlockMeaning S)
+    (ExpMeaning S) (BodyMeaning S) (ArmMeaning S) (OperationMeaning S) (ExpMeaning S) (ReturnMeaning S) (StatMeaning S)
+    (λ p. exp_layer (meanings Exp-F map-Exp p)) (λ p. field_layer run (meanings Field-F map-Field p)) (λ p. head_layer (meanings Head-F map-Head p))
+    (λ p. kind_layer run (meanings StatKind-F map-StatKind p)) (λ p. suffix_layer run (meanings Suffix-F map-Suffix p)) (λ p. var_layer (meanings Var-F map-Var p))
+    (λ p. block_layer (meanings Block-F map-Block p)) (λ p. call_layer run (meanings Call-F map-Call p)) (λ p. body_layer (meanings FunctionBody-F map-FunctionBody p))
+    (λ p. arm_layer (meanings IfArm-F map-IfArm p)) (λ p. operation_layer (meanings Operation-F map-Operation p)) (λ p. prefix_layer (meanings Prefix-F map-Prefix p))
+    (λ p. return_layer (meanings Return-F map-Return p)) (λ p. stat_layer (meanings Stat-F map-Stat p)) x
+
+pub operation_rolls : {S : Type 0} (run : Setting S) (x : Operation-F Exp Field Head StatKind Suffix Var Block Call FunctionBody IfArm Operation Prefix Return Stat) → (whole run).operation (roll-Operation x) ≡ operation_layer (meanings Operation-F map-Operation (with_trees Operation-F map-Operation (whole run) x))
+operation_rolls {S} run x = para-roll-Operation (ExpMeaning S) (FieldMeaning S) (ExpMeaning S) (KindMeaning S) (SuffixMeaning S) (VarMeaning S) (BlockMeaning S)
+    (ExpMeaning S) (BodyMeaning S) (ArmMeaning S) (OperationMeaning S) (ExpMeaning S) (ReturnMeaning S) (StatMeaning S)
+    (λ p. exp_layer (meanings Exp-F map-Exp p)) (λ p. field_layer run (meanings Field-F map-Field p)) (λ p. head_layer (meanings Head-F map-Head p))
+    (λ p. kind_layer run (meanings StatKind-F map-StatKind p)) (λ p. suffix_layer run (meanings Suffix-F map-Suffix p)) (λ p. var_layer (meanings Var-F map-Var p))
+    (λ p. block_layer (meanings Block-F map-Block p)) (λ p. call_layer run (meanings Call-F map-Call p)) (λ p. body_layer (meanings FunctionBody-F map-FunctionBody p))
+    (λ p. arm_layer (meanings IfArm-F map-IfArm p)) (λ p. operation_layer (meanings Operation-F map-Operation p)) (λ p. prefix_layer (meanings Prefix-F map-Prefix p))
+    (λ p. return_layer (meanings Return-F map-Return p)) (λ p. stat_layer (meanings Stat-F map-Stat p)) x
+
+pub prefix_rolls : {S : Type 0} (run : Setting S) (x : Prefix-F Exp Field Head StatKind Suffix Var Block Call FunctionBody IfArm Operation Prefix Return Stat) → (whole run).prefix (roll-Prefix x) ≡ prefix_layer (meanings Prefix-F map-Prefix (with_trees Prefix-F map-Prefix (whole run) x))
+prefix_rolls {S} run x = para-roll-Prefix (ExpMeaning S) (FieldMeaning S) (ExpMeaning S) (KindMeaning S) (SuffixMeaning S) (VarMeaning S) (BlockMeaning S)
+    (ExpMeaning S) (BodyMeaning S) (ArmMeaning S) (OperationMeaning S) (ExpMeaning S) (ReturnMeaning S) (StatMeaning S)
+    (λ p. exp_layer (meanings Exp-F map-Exp p)) (λ p. field_layer run (meanings Field-F map-Field p)) (λ p. head_layer (meanings Head-F map-Head p))
+    (λ p. kind_layer run (meanings StatKind-F map-StatKind p)) (λ p. suffix_layer run (meanings Suffix-F map-Suffix p)) (λ p. var_layer (meanings Var-F map-Var p))
+    (λ p. block_layer (meanings Block-F map-Block p)) (λ p. call_layer run (meanings Call-F map-Call p)) (λ p. body_layer (meanings FunctionBody-F map-FunctionBody p))
+    (λ p. arm_layer (meanings IfArm-F map-IfArm p)) (λ p. operation_layer (meanings Operation-F map-Operation p)) (λ p. prefix_layer (meanings Prefix-F map-Prefix p))
+    (λ p. return_layer (meanings Return-F map-Return p)) (λ p. stat_layer (meanings Stat-F map-Stat p)) x
+
+pub ret_rolls : {S : Type 0} (run : Setting S) (x : Return-F Exp Field Head StatKind Suffix Var Block Call FunctionBody IfArm Operation Prefix Return Stat) → (whole run).ret (roll-Return x) ≡ return_layer (meanings Return-F map-Return (with_trees Return-F map-Return (whole run) x))
+ret_rolls {S} run x = para-roll-Return (ExpMeaning S) (FieldMeaning S) (ExpMeaning S) (KindMeaning S) (SuffixMeaning S) (VarMeaning S) (BlockMeaning S)
+    (ExpMeaning S) (BodyMeaning S) (ArmMeaning S) (OperationMeaning S) (ExpMeaning S) (ReturnMeaning S) (StatMeaning S)
+    (λ p. exp_layer (meanings Exp-F map-Exp p)) (λ p. field_layer run (meanings Field-F map-Field p)) (λ p. head_layer (meanings Head-F map-Head p))
+    (λ p. kind_layer run (meanings StatKind-F map-StatKind p)) (λ p. suffix_layer run (meanings Suffix-F map-Suffix p)) (λ p. var_layer (meanings Var-F map-Var p))
+    (λ p. block_layer (meanings Block-F map-Block p)) (λ p. call_layer run (meanings Call-F map-Call p)) (λ p. body_layer (meanings FunctionBody-F map-FunctionBody p))
+    (λ p. arm_layer (meanings IfArm-F map-IfArm p)) (λ p. operation_layer (meanings Operation-F map-Operation p)) (λ p. prefix_layer (meanings Prefix-F map-Prefix p))
+    (λ p. return_layer (meanings Return-F map-Return p)) (λ p. stat_layer (meanings Stat-F map-Stat p)) x
+
+pub stat_rolls : {S : Type 0} (run : Setting S) (x : Stat-F Exp Field Head StatKind Suffix Var Block Call FunctionBody IfArm Operation Prefix Return Stat) → (whole run).stat (roll-Stat x) ≡ stat_layer (meanings Stat-F map-Stat (with_trees Stat-F map-Stat (whole run) x))
+stat_rolls {S} run x = para-roll-Stat (ExpMeaning S) (FieldMeaning S) (ExpMeaning S) (KindMeaning S) (SuffixMeaning S) (VarMeaning S) (BlockMeaning S)
+    (ExpMeaning S) (BodyMeaning S) (ArmMeaning S) (OperationMeaning S) (ExpMeaning S) (ReturnMeaning S) (StatMeaning S)
+    (λ p. exp_layer (meanings Exp-F map-Exp p)) (λ p. field_layer run (meanings Field-F map-Field p)) (λ p. head_layer (meanings Head-F map-Head p))
+    (λ p. kind_layer run (meanings StatKind-F map-StatKind p)) (λ p. suffix_layer run (meanings Suffix-F map-Suffix p)) (λ p. var_layer (meanings Var-F map-Var p))
+    (λ p. block_layer (meanings Block-F map-Block p)) (λ p. call_layer run (meanings Call-F map-Call p)) (λ p. body_layer (meanings FunctionBody-F map-FunctionBody p))
+    (λ p. arm_layer (meanings IfArm-F map-IfArm p)) (λ p. operation_layer (meanings Operation-F map-Operation p)) (λ p. prefix_layer (meanings Prefix-F map-Prefix p))
+    (λ p. return_layer (meanings Return-F map-Return p)) (λ p. stat_layer (meanings Stat-F map-Stat p)) x

@@ -16,4 +16,5 @@ pub mod Trees
 pub mod Meaning
 pub mod Calls
 pub mod Script
+pub mod Laws
 pub mod Worked

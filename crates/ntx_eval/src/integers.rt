@@ -64,7 +64,7 @@ pub(crate) fn remainder(a: i64, b: i64) -> Result<i64, LuaWhy>
 fn to_the_left(a: i64, count: u64) -> i64
     ensures { result ≡ spec.to_the_left a count }
 {
-    if count >= 64 {
+    if count > 63 {
         return 0;
     }
     a << count

@@ -1,6 +1,6 @@
 //! Hosts.
 
-use crate::{Host, HostStep, NoHost, worked_examples};
+use crate::{Host, HostStep, NoHost, more_steps_are_the_same, steps_never_rise, worked_examples};
 use ntx_values::{LuaWhy, Primitive, Store, Value};
 use std::test;
 
@@ -13,5 +13,7 @@ fn a_host_without_primitives_fails(rt: HostRuntime) -> Result<(), test::Fail> {
     let resumed = host.resume(&mut store, &[])?;
     assert!(rt; matches!(resumed, HostStep::Fail(LuaWhy::WrongType)));
     worked_examples();
+    steps_never_rise::<NoHost>();
+    more_steps_are_the_same::<NoHost>();
     Ok(())
 }

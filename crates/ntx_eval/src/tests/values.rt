@@ -4,37 +4,8 @@ use crate::{binary, is_decided, is_true, unary};
 use ntx_num::Fail;
 use ntx_syntax::{BinaryOp, UnaryOp};
 use ntx_values::{LuaWhy, Store, Value};
+use std::alloc::Global;
 use std::test;
-
-#[test]
-fn texts_stand_in_the_order_of_their_bytes(rt: HostRuntime) -> Result<(), test::Fail> {
-    let mut store = Store::new(rt.alloc())?;
-    for (a, b, less, equal) in [
-        (b"a".as_slice(), b"b".as_slice(), true, false),
-        (b"a".as_slice(), b"ab".as_slice(), true, false),
-        (b"".as_slice(), b"a".as_slice(), true, false),
-        (b"B".as_slice(), b"a".as_slice(), true, false),
-        (b"b".as_slice(), b"ab".as_slice(), false, false),
-        (b"\xff".as_slice(), b"a".as_slice(), false, false),
-        (b"ab".as_slice(), b"ab".as_slice(), false, true),
-        (b"10".as_slice(), b"9".as_slice(), true, false),
-    ] {
-        let x = Value::Text(store.text(a)?);
-        let y = Value::Text(store.text(b)?);
-        for (op, holds) in [
-            (BinaryOp::Less, less),
-            (BinaryOp::GreaterEqual, !less),
-            (BinaryOp::LessEqual, less || equal),
-            (BinaryOp::Greater, !less && !equal),
-            (BinaryOp::Equal, equal),
-            (BinaryOp::NotEqual, !equal),
-        ] {
-            let result = binary(rt.alloc(), &mut store, op, x, y);
-            assert_eq!(rt; result, Ok(Value::Bool(holds)));
-        }
-    }
-    Ok(())
-}
 
 #[test]
 fn integers_stand_in_order(rt: HostRuntime) -> Result<(), test::Fail> {
@@ -50,6 +21,7 @@ fn integers_stand_in_order(rt: HostRuntime) -> Result<(), test::Fail> {
         (BinaryOp::GreaterEqual, 2, 2, true),
         (BinaryOp::GreaterEqual, 1, 2, false),
         (BinaryOp::Equal, 5, 5, true),
+        (BinaryOp::Equal, 5, 6, false),
         (BinaryOp::NotEqual, 5, 6, true),
     ] {
         let result = binary(rt.alloc(), &mut store, op, Value::Int(a), Value::Int(b));
@@ -58,95 +30,165 @@ fn integers_stand_in_order(rt: HostRuntime) -> Result<(), test::Fail> {
     Ok(())
 }
 
+/// An operator between two texts of a new store.
+fn between_texts(alloc: Global, op: BinaryOp, a: &[u8], b: &[u8]) -> Result<Value, Fail<LuaWhy>> {
+    let mut store = Store::new(alloc)?;
+    let x = store.text(a)?;
+    let y = store.text(b)?;
+    binary(alloc, &mut store, op, Value::Text(x), Value::Text(y))
+}
+
 #[test]
-fn texts_and_integers_are_joined(rt: HostRuntime) -> Result<(), test::Fail> {
-    let mut store = Store::new(rt.alloc())?;
-    let a = Value::Text(store.text(b"a")?);
-    let empty = Value::Text(store.text(b"")?);
-    for (x, y, bytes) in [
-        (a, a, b"aa".as_slice()),
-        (a, empty, b"a".as_slice()),
-        (Value::Int(1), Value::Int(2), b"12".as_slice()),
-        (a, Value::Int(-5), b"a-5".as_slice()),
-        (Value::Int(0), a, b"0a".as_slice()),
+fn texts_stand_in_the_order_of_their_bytes(rt: HostRuntime) -> Result<(), test::Fail> {
+    for (op, a, b, holds) in [
+        (BinaryOp::Less, b"a".as_slice(), b"b".as_slice(), true),
+        (BinaryOp::Less, b"a".as_slice(), b"ab".as_slice(), true),
+        (BinaryOp::Less, b"".as_slice(), b"a".as_slice(), true),
+        (BinaryOp::Less, b"B".as_slice(), b"a".as_slice(), true),
+        (BinaryOp::Less, b"10".as_slice(), b"9".as_slice(), true),
+        (BinaryOp::Less, b"\xff".as_slice(), b"a".as_slice(), false),
+        (BinaryOp::Less, b"ab".as_slice(), b"ab".as_slice(), false),
         (
-            Value::Int(i64::MIN),
-            empty,
-            b"-9223372036854775808".as_slice(),
+            BinaryOp::LessEqual,
+            b"ab".as_slice(),
+            b"ab".as_slice(),
+            true,
+        ),
+        (BinaryOp::Greater, b"b".as_slice(), b"ab".as_slice(), true),
+        (
+            BinaryOp::GreaterEqual,
+            b"a".as_slice(),
+            b"b".as_slice(),
+            false,
+        ),
+        (BinaryOp::Equal, b"ab".as_slice(), b"ab".as_slice(), true),
+        (
+            BinaryOp::NotEqual,
+            b"ab".as_slice(),
+            b"ab".as_slice(),
+            false,
         ),
     ] {
-        let result = binary(rt.alloc(), &mut store, BinaryOp::Concat, x, y);
+        let result = between_texts(rt.alloc(), op, a, b);
+        assert_eq!(rt; result, Ok(Value::Bool(holds)));
+    }
+    Ok(())
+}
+
+#[test]
+fn integers_are_joined_by_their_digits(rt: HostRuntime) -> Result<(), test::Fail> {
+    for (a, b, bytes) in [
+        (1, 2, b"12".as_slice()),
+        (0, 0, b"00".as_slice()),
+        (-5, 7, b"-57".as_slice()),
+        (i64::MIN, -1, b"-9223372036854775808-1".as_slice()),
+    ] {
+        let mut store = Store::new(rt.alloc())?;
+        let result = binary(
+            rt.alloc(),
+            &mut store,
+            BinaryOp::Concat,
+            Value::Int(a),
+            Value::Int(b),
+        );
         let made = store.find_text(bytes);
         assert!(rt; made.is_some());
         assert_eq!(rt; result.ok(), made.map(Value::Text));
     }
+    let mut store = Store::new(rt.alloc())?;
+    let t = store.text(b"a")?;
+    let joined = binary(
+        rt.alloc(),
+        &mut store,
+        BinaryOp::Concat,
+        Value::Text(t),
+        Value::Int(1),
+    );
+    assert_eq!(rt; joined.ok(), store.find_text(b"a1").map(Value::Text));
     Ok(())
 }
 
 #[test]
 fn other_sorts_are_refused(rt: HostRuntime) -> Result<(), test::Fail> {
     let mut store = Store::new(rt.alloc())?;
-    let ten = Value::Text(store.text(b"10")?);
-    let table = Value::Table(store.new_table()?);
-    for (op, a, b) in [
-        (BinaryOp::Add, ten, Value::Int(1)),
-        (BinaryOp::Add, Value::Int(1), Value::Nil),
-        (BinaryOp::Modulo, table, Value::Int(0)),
-        (BinaryOp::FloorDivide, Value::Int(1), Value::Bool(false)),
-        (BinaryOp::BitAnd, Value::Node(1), Value::Int(1)),
-        (BinaryOp::ShiftLeft, Value::Int(1), ten),
-        (BinaryOp::Less, ten, Value::Int(11)),
-        (BinaryOp::Less, Value::Int(9), ten),
-        (BinaryOp::Greater, table, table),
-        (BinaryOp::LessEqual, Value::Nil, Value::Nil),
-        (BinaryOp::GreaterEqual, Value::Bool(true), Value::Bool(true)),
-        (BinaryOp::Concat, ten, Value::Nil),
-        (BinaryOp::Concat, Value::Bool(true), ten),
-        (BinaryOp::Concat, Value::Int(1), table),
-    ] {
-        let result = binary(rt.alloc(), &mut store, op, a, b);
-        assert_eq!(rt; result, Err(Fail::Is(LuaWhy::WrongType)));
-    }
-    for (op, a) in [
-        (UnaryOp::Minus, ten),
-        (UnaryOp::Minus, Value::Nil),
-        (UnaryOp::BitNot, Value::Bool(true)),
-        (UnaryOp::Length, Value::Int(3)),
-        (UnaryOp::Length, Value::Node(3)),
-    ] {
-        assert_eq!(rt; unary(&store, op, a), Err(LuaWhy::WrongType));
-    }
+    let sum = binary(
+        rt.alloc(),
+        &mut store,
+        BinaryOp::Add,
+        Value::Int(1),
+        Value::Nil,
+    );
+    assert_eq!(rt; sum, Err(Fail::Is(LuaWhy::WrongType)));
+    let quotient = binary(
+        rt.alloc(),
+        &mut store,
+        BinaryOp::FloorDivide,
+        Value::Node(1),
+        Value::Int(0),
+    );
+    assert_eq!(rt; quotient, Err(Fail::Is(LuaWhy::WrongType)));
+    let order = binary(
+        rt.alloc(),
+        &mut store,
+        BinaryOp::LessEqual,
+        Value::Nil,
+        Value::Nil,
+    );
+    assert_eq!(rt; order, Err(Fail::Is(LuaWhy::WrongType)));
+    let joined = binary(
+        rt.alloc(),
+        &mut store,
+        BinaryOp::Concat,
+        Value::Int(1),
+        Value::Bool(true),
+    );
+    assert_eq!(rt; joined, Err(Fail::Is(LuaWhy::WrongType)));
+    let t = store.text(b"10")?;
+    let mixed = binary(
+        rt.alloc(),
+        &mut store,
+        BinaryOp::Less,
+        Value::Text(t),
+        Value::Int(11),
+    );
+    assert_eq!(rt; mixed, Err(Fail::Is(LuaWhy::WrongType)));
+    assert_eq!(rt;
+        unary(&store, UnaryOp::Minus, Value::Nil),
+        Err(LuaWhy::WrongType)
+    );
+    assert_eq!(rt;
+        unary(&store, UnaryOp::Length, Value::Node(3)),
+        Err(LuaWhy::WrongType)
+    );
     Ok(())
 }
 
 #[test]
-fn values_are_equal_where_they_are_the_same(rt: HostRuntime) -> Result<(), test::Fail> {
+fn tables_are_equal_to_themselves_alone(rt: HostRuntime) -> Result<(), test::Fail> {
     let mut store = Store::new(rt.alloc())?;
-    let one = Value::Text(store.text(b"1")?);
-    let table = Value::Table(store.new_table()?);
-    let other = Value::Table(store.new_table()?);
-    for (a, b, equal) in [
-        (Value::Int(1), one, false),
-        (Value::Nil, Value::Bool(false), false),
-        (Value::Nil, Value::Nil, true),
-        (table, table, true),
-        (table, other, false),
-        (Value::Node(7), Value::Node(7), true),
-        (Value::Node(7), Value::Node(8), false),
-        (Value::Node(7), Value::Int(7), false),
-    ] {
-        let same = binary(rt.alloc(), &mut store, BinaryOp::Equal, a, b);
-        assert_eq!(rt; same, Ok(Value::Bool(equal)));
-        let different = binary(rt.alloc(), &mut store, BinaryOp::NotEqual, a, b);
-        assert_eq!(rt; different, Ok(Value::Bool(!equal)));
-    }
+    let t = store.new_table()?;
+    let same = binary(
+        rt.alloc(),
+        &mut store,
+        BinaryOp::Equal,
+        Value::Table(t),
+        Value::Table(t),
+    );
+    assert_eq!(rt; same, Ok(Value::Bool(true)));
+    let u = store.new_table()?;
+    let other = binary(
+        rt.alloc(),
+        &mut store,
+        BinaryOp::Equal,
+        Value::Table(u),
+        Value::Int(1),
+    );
+    assert_eq!(rt; other, Ok(Value::Bool(false)));
     Ok(())
 }
 
 #[test]
 fn and_and_or_give_an_operand(rt: HostRuntime) -> Result<(), test::Fail> {
-    let mut store = Store::new(rt.alloc())?;
-    let two = Value::Int(2);
     for (a, holds) in [
         (Value::Nil, false),
         (Value::Bool(false), false),
@@ -158,12 +200,36 @@ fn and_and_or_give_an_operand(rt: HostRuntime) -> Result<(), test::Fail> {
         assert_eq!(rt; is_decided(BinaryOp::And, a), !holds);
         assert_eq!(rt; is_decided(BinaryOp::Or, a), holds);
         assert_eq!(rt; is_decided(BinaryOp::Add, a), false);
-        let and = binary(rt.alloc(), &mut store, BinaryOp::And, a, two);
-        assert_eq!(rt; and, Ok(if holds { two } else { a }));
-        let or = binary(rt.alloc(), &mut store, BinaryOp::Or, a, two);
-        assert_eq!(rt; or, Ok(if holds { a } else { two }));
-        assert_eq!(rt; unary(&store, UnaryOp::Not, a), Ok(Value::Bool(!holds)));
     }
+    let mut store = Store::new(rt.alloc())?;
+    let first = binary(
+        rt.alloc(),
+        &mut store,
+        BinaryOp::And,
+        Value::Nil,
+        Value::Int(2),
+    );
+    assert_eq!(rt; first, Ok(Value::Nil));
+    let second = binary(
+        rt.alloc(),
+        &mut store,
+        BinaryOp::And,
+        Value::Int(0),
+        Value::Int(2),
+    );
+    assert_eq!(rt; second, Ok(Value::Int(2)));
+    let either = binary(
+        rt.alloc(),
+        &mut store,
+        BinaryOp::Or,
+        Value::Bool(false),
+        Value::Nil,
+    );
+    assert_eq!(rt; either, Ok(Value::Nil));
+    assert_eq!(rt;
+        unary(&store, UnaryOp::Not, Value::Int(0)),
+        Ok(Value::Bool(false))
+    );
     Ok(())
 }
 
@@ -175,16 +241,17 @@ fn texts_and_tables_have_lengths(rt: HostRuntime) -> Result<(), test::Fail> {
         (b"abc".as_slice(), 3),
         (b"\xff\x00".as_slice(), 2),
     ] {
-        let t = Value::Text(store.text(bytes)?);
-        assert_eq!(rt; unary(&store, UnaryOp::Length, t), Ok(Value::Int(len)));
-    }
-    let t = store.new_table()?;
-    for (key, len) in [(1, 1), (2, 2), (4, 2), (3, 4)] {
-        store.set(t, Value::Int(key), Value::Bool(true))?;
+        let t = store.text(bytes)?;
         assert_eq!(rt;
-            unary(&store, UnaryOp::Length, Value::Table(t)),
+            unary(&store, UnaryOp::Length, Value::Text(t)),
             Ok(Value::Int(len))
         );
     }
+    let t = store.new_table()?;
+    store.set(t, Value::Int(1), Value::Bool(true))?;
+    assert_eq!(rt;
+        unary(&store, UnaryOp::Length, Value::Table(t)),
+        Ok(Value::Int(1))
+    );
     Ok(())
 }
