@@ -1,9 +1,9 @@
 -- Division that rounds toward minus infinity, by the quotient whose remainder is not negative.
-use Rattle.std.proofs.Common.{◌≡◌, ◌≢◌, ◌∙◌, refl, sym, ap, subst, arith, ℕ, zero, suc, ◌+◌, ◌-◌, ◌*◌, ◌/◌, ◌%◌, ◌^◌, ◌<◌, ◌≤◌, ℤ, pos, negsuc, neg_ℤ, ◌+ℤ◌, ◌-ℤ◌, ◌*ℤ◌, ◌<ℤ◌, w64, to_z, of_z, FitsSigned, mod-lt, mod-eq_of_lt, mul_comm, to_z-of_z, Bool, true, false, nat_lt}
+use Rattle.std.proofs.Common.{◌≡◌, ◌≢◌, ◌∙◌, refl, sym, ap, subst, arith, ℕ, zero, suc, ◌+◌, ◌-◌, ◌*◌, ◌/◌, ◌%◌, ◌^◌, ◌<◌, ◌≤◌, ℤ, pos, negsuc, neg_ℤ, ◌+ℤ◌, ◌-ℤ◌, ◌*ℤ◌, ◌<ℤ◌, w64, FitsSigned, mod-lt, mod-eq_of_lt, mul_comm, to_z-of_z, Bool, true, false, nat_lt}
 use Rattle.std.proofs.lemmas.Int.{ints}
 use Rattle.std.proofs.Math.Nat.{div-add-mod, div-eq_of_lt-le, div-le_self, zero-div, suc-mod, zero-mod, mod_self, zero-lt-suc, mul-zero, mul-suc}
 use Rattle.std.proofs.lemmas.Nat.{div_below}
-use Rattle.std.specs.Int.{int_div_euclid, int_wrapping_div_euclid, int_rem_euclid, is_negative}
+use Rattle.std.specs.Int.{int_div_euclid, int_wrapping_div_euclid, int_rem_euclid}
 use Rattle.ntx_eval.specs.Integers.{wrapped, floor_quotient, floor_remainder}
 
 -- a number between two multiples
@@ -13,7 +13,7 @@ between a d k low high = div-eq_of_lt-le d low (grind (arith, high))
 whole : (n d : ℕ) → n / d * d + n % d ≡ n
 whole n d = ap (λ x. x + n % d) (mul_comm (n / d) d) ∙ div-add-mod n d
 
--- where the next number is a multiple, its quotient is the next one, and else the same
+-- if the next number is a multiple, its quotient is the next one, and else the same
 next_up : (a b : ℕ) → a % suc b ≡ b → suc a / suc b ≡ suc (a / suc b)
 next_up a b last = between (suc a) (suc b) (suc (a / suc b)) (grind (arith, whole a (suc b), last)) (grind (arith, whole a (suc b), last))
 

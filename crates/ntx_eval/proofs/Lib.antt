@@ -1,5 +1,5 @@
 pub mod Division
-pub mod Unrolled
+pub mod Whole
 pub mod Related
 pub mod RelatedParts
 pub mod RelatedStatements

@@ -1,26 +1,21 @@
 -- Two runs of one script, step beside step. A relation of actions that the plain steps keep, and that one action after another keeps, is
 -- kept by every construct.
-use Rattle.std.proofs.Common.{◌≡◌, refl, ℕ, zero, suc, ◌≤◌, Bool, true, false, List, [], ◌∷◌, Result, Ok, Err, Option, Some, None, ap, subst, le_of_suc-le-suc}
+use Rattle.std.proofs.Common.{◌≡◌, refl, ℕ, zero, suc, List, [], ◌∷◌, Result, Ok, Option, Some, None}
 use Rattle.ntx_num.specs.Answer.{result_map}
 use Rattle.ntx_values.specs.Table.{value_at}
 use Rattle.ntx_values.specs.State.{StoreState, table_of}
 use Rattle.ntx_values.specs.Steps.{set_step}
 use Rattle.ntx_values.specs.declared.value.Value.{Value}
-use Rattle.ntx_values.specs.declared.value.Value.TheVariants as value
 use Rattle.ntx_values.specs.declared.primitive.LibFn.{LibFn}
-use Rattle.ntx_values.specs.declared.primitive.Primitive.{Primitive}
 use Rattle.ntx_values.specs.declared.why.LuaWhy.{LuaWhy}
 use Rattle.ntx_syntax.specs.declared.tree.FunctionBody.{FunctionBody}
-use Rattle.ntx_eval.specs.State.{State, Scope, Flow, onward, broken, returned}
+use Rattle.ntx_eval.specs.State.{Scope}
 use Rattle.ntx_eval.specs.Host.{Answered, World}
-use Rattle.ntx_eval.specs.Ending.{Action, give, stop, out_of_steps, charge, fault, ◌>>=◌, ◌>>◌}
+use Rattle.ntx_eval.specs.Ending.{Action, give, stop, out_of_steps, charge, ◌>>=◌}
 use Rattle.ntx_eval.specs.Variables.{Here, on_store, of_store, text, cell_of, new_cell, read_cell, write_cell, first, others, bind, globals_of, read_global, write_global, read_name, write_name}
-use Rattle.ntx_eval.specs.Setting.{Setting, call, library_call, answered, host_fault, follow_at_most, follow, host_call}
-use Rattle.ntx_eval.specs.Fields.{read_node_field, write_node_field, read_field, write_field}
+use Rattle.ntx_eval.specs.Setting.{library_call, answered, host_fault}
 use Rattle.ntx_eval.specs.Calls.{function_at}
 use Rattle.ntx_eval.specs.Expressions.{new_function}
-use Rattle.ntx_eval.specs.declared.host.HostStep.{HostStep}
-use Rattle.ntx_eval.specs.declared.host.HostStep.TheVariants as step
 use Rattle.ntx_eval.specs.declared.stop.ScriptStop.{ScriptStop}
 
 pub record Kept {S : Type 0} (R : (A : Type 0) → Action S A → Action S A → Type 0) : Type 1 where

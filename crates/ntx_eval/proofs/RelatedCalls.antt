@@ -1,12 +1,11 @@
 -- Two runs of a call are related.
-use Rattle.std.proofs.Common.{◌≡◌, refl, ℕ, zero, suc, ◌≤◌, Bool, true, false, cond, List, [], ◌∷◌, Option, Some, None, nat_lt, le_of_suc-le-suc, not-suc-le-zero}
-use Rattle.ntx_syntax.specs.declared.tree.FunctionBody.{FunctionBody}
+use Rattle.std.proofs.Common.{ℕ, zero, suc, ◌≤◌, Bool, true, false, cond, List, [], Option, Some, None, nat_lt, le_of_suc-le-suc, not-suc-le-zero}
 use Rattle.ntx_syntax.specs.declared.tree.Chunk.{Chunk}
 use Rattle.ntx_values.specs.declared.value.Value.{Value}
 use Rattle.ntx_values.specs.declared.value.Value.TheVariants as value
 use Rattle.ntx_values.specs.declared.primitive.Primitive.TheVariants as primitive
-use Rattle.ntx_values.specs.declared.why.LuaWhy.TheVariants.{WrongType, Levels}
-use Rattle.ntx_eval.specs.State.{Function, Scope}
+use Rattle.ntx_values.specs.declared.why.LuaWhy.TheVariants.{Levels}
+use Rattle.ntx_eval.specs.State.{Function}
 use Rattle.ntx_eval.specs.Host.{World}
 use Rattle.ntx_eval.specs.Ending.{Action, give, fault, ◌>>=◌, ◌>>◌}
 use Rattle.ntx_eval.specs.Setting.{Setting, call}
@@ -21,7 +20,7 @@ module _ {S : Type 0} (R : (A : Type 0) → Action S A → Action S A → Type 0
   abbrev Entered : (Value → List Value → ℕ → Action S (List Value)) → (Value → List Value → ℕ → Action S (List Value)) → Type 0
   Entered enter enter' = (f : Value) (args : List Value) (line : ℕ) → R _ (enter f args line) (enter' f args line)
 
-  -- the functions of the script, where those that they enter are related
+  -- the functions of the script, if those that they enter are related
   runs : (n n' : ℕ) → n ≤ n' → (enter enter' : Value → List Value → ℕ → Action S (List Value)) → Entered enter enter' → (function : Option Function) (args : List Value) (line : ℕ)
       → R _ (run_function (body_meaning (given world n enter)) function args line) (run_function (body_meaning (given world n' enter')) function args line)
   runs n n' most enter enter' entered None args line = kept.stops _

@@ -1,5 +1,5 @@
 -- What is built of related parts is related: calls, fields, expressions and loops.
-use Rattle.std.proofs.Common.{◌≡◌, refl, ℕ, zero, suc, ◌+◌, ◌≤◌, Bool, true, false, cond, List, [], ◌∷◌, ℤ, pos, negsuc, ◌+ℤ◌, Option, Some, None, Result, Ok, Err, subst, le_of_suc-le-suc, not-suc-le-zero}
+use Rattle.std.proofs.Common.{◌≡◌, refl, ℕ, zero, suc, ◌+◌, ◌≤◌, Bool, true, false, cond, List, [], ◌∷◌, ℤ, pos, negsuc, ◌+ℤ◌, Ok, subst, le_of_suc-le-suc, not-suc-le-zero}
 use Rattle.ntx_values.specs.Value.{is_nil}
 use Rattle.ntx_values.specs.Table.{value_at}
 use Rattle.ntx_values.specs.State.{table_of}
@@ -9,11 +9,11 @@ use Rattle.ntx_values.specs.declared.value.Value.TheVariants as value
 use Rattle.ntx_values.specs.declared.value.TableId.{TableId}
 use Rattle.ntx_values.specs.declared.primitive.Primitive.{Primitive}
 use Rattle.ntx_syntax.specs.declared.tree.BinaryOp.{BinaryOp}
-use Rattle.ntx_eval.specs.State.{State, Scope, Flow, onward, broken, returned}
+use Rattle.ntx_eval.specs.State.{Flow, onward, broken, returned}
 use Rattle.ntx_eval.specs.Host.{World}
 use Rattle.ntx_eval.specs.Ending.{Action, give, ◌>>=◌, ◌>>◌}
-use Rattle.ntx_eval.specs.Operators.{is_decided, is_true}
-use Rattle.ntx_eval.specs.Variables.{Here, first, others}
+use Rattle.ntx_eval.specs.Operators.{is_decided}
+use Rattle.ntx_eval.specs.Variables.{Here, first}
 use Rattle.ntx_eval.specs.Setting.{Setting, call, follow_at_most, host_call}
 use Rattle.ntx_eval.specs.Fields.{read_node_field, write_node_field, read_field, write_field}
 use Rattle.ntx_eval.specs.Parts.{ExpMeaning, SuffixMeaning, FieldMeaning, OperationMeaning, BlockMeaning}
@@ -144,7 +144,7 @@ module _ {S : Type 0} (R : (A : Type 0) → Action S A → Action S A → Type 0
   numeric_fors n n' most name (value.Int i) (value.Int limit) (value.Int (negsuc k)) b b' q here = numerics n n' most name limit (negsuc k) b b' q here i
   numeric_fors n n' most name _ _ _ b b' q here = kept.stops _
 
--- where the first run has a bound of n and the second one of n', which is no less
+-- The first run has a bound of n, and the second one of n', which is no less.
 module _ {S : Type 0} (R : (A : Type 0) → Action S A → Action S A → Type 0) (kept : Kept R) (world : World S) (n n' : ℕ) (most : n ≤ n')
     (enter enter' : Value → List Value → ℕ → Action S (List Value)) (entered : (f : Value) (args : List Value) (line : ℕ) → R _ (enter f args line) (enter' f args line)) where
   abbrev run : Setting S

@@ -1,11 +1,11 @@
 -- What is built of related parts is related: statements and blocks.
-use Rattle.std.proofs.Common.{◌≡◌, refl, ℕ, zero, suc, ◌≤◌, Bool, true, false, cond, List, [], ◌∷◌, Option, Some, None, pos}
+use Rattle.std.proofs.Common.{ℕ, ◌≤◌, Bool, true, false, cond, List, [], ◌∷◌, Option, Some, None}
 use Rattle.ntx_values.specs.declared.value.Value.{Value}
 use Rattle.ntx_values.specs.declared.value.Value.TheVariants as value
 use Rattle.ntx_syntax.specs.declared.tree.FunctionBody.{FunctionBody}
-use Rattle.ntx_eval.specs.State.{State, Scope, Flow, onward, broken, returned}
+use Rattle.ntx_eval.specs.State.{Scope, Flow, onward, broken, returned}
 use Rattle.ntx_eval.specs.Host.{World}
-use Rattle.ntx_eval.specs.Ending.{Action, give, ◌>>=◌, ◌>>◌}
+use Rattle.ntx_eval.specs.Ending.{Action}
 use Rattle.ntx_eval.specs.Variables.{Here, first, others}
 use Rattle.ntx_eval.specs.Parts.{ExpMeaning, VarMeaning, BlockMeaning, StatMeaning, KindMeaning, ReturnMeaning, ArmMeaning, BodyMeaning, Place, named, field}
 use Rattle.ntx_eval.specs.Statements.{within, block_in, find_all, assign, assign_all, reach, function_place, choose, step_of, local_function}

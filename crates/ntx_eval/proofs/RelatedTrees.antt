@@ -1,6 +1,5 @@
 -- Two runs of one tree are related, if the functions that they enter are.
-use Rattle.std.proofs.Common.{◌≡◌, refl, sym, ℕ, zero, suc, ◌≤◌, Bool, true, false, List, [], ◌∷◌, map, Option, Some, None, subst, subst₂}
-use Rattle.std.specs.Option.{option_map}
+use Rattle.std.proofs.Common.{◌≡◌, refl, sym, ℕ, ◌≤◌, true, false, List, [], ◌∷◌, map, Option, Some, None, subst, subst₂}
 use Rattle.ntx_syntax.specs.declared.tree.Exp.{Exp, map-Exp, roll-Exp}
 use Rattle.ntx_syntax.specs.declared.tree.Field.{Field, map-Field, roll-Field}
 use Rattle.ntx_syntax.specs.declared.tree.Head.{Head, map-Head, roll-Head}
@@ -17,19 +16,18 @@ use Rattle.ntx_syntax.specs.declared.tree.Return.{Return, map-Return, roll-Retur
 use Rattle.ntx_syntax.specs.declared.tree.Stat.{Stat, map-Stat, roll-Stat}
 use Rattle.ntx_syntax.specs.declared.tree.Exp.TheOpen.{Exp-F, Field-F, Head-F, StatKind-F, Suffix-F, Var-F, Block-F, Call-F, FunctionBody-F, IfArm-F, Operation-F, Prefix-F, Return-F, Stat-F}
 use Rattle.ntx_values.specs.declared.value.Value.{Value}
-use Rattle.ntx_eval.specs.Ending.{Action, give, ◌>>=◌, ◌>>◌}
+use Rattle.ntx_eval.specs.Ending.{Action}
 use Rattle.ntx_values.specs.Steps.{new_table_step}
 use Rattle.ntx_eval.specs.Operators.{unary_of}
 use Rattle.ntx_eval.specs.Host.{World}
 use Rattle.ntx_eval.specs.Variables.{Here, first, others}
-use Rattle.ntx_eval.specs.Setting.{Setting}
 use Rattle.ntx_values.specs.declared.value.Value.TheVariants.{Table}
 use Rattle.ntx_eval.specs.State.{onward}
 use Rattle.ntx_eval.specs.Trees.{Layer, MapOf, meanings}
 use Rattle.ntx_eval.specs.Expressions.{exp_layer, field_layer, head_layer, suffix_layer, call_layer, prefix_layer}
 use Rattle.ntx_eval.specs.Statements.{kind_layer, var_layer, arm_layer, operation_layer, names_of}
 use Rattle.ntx_eval.specs.Blocks.{block_layer, body_layer, return_layer, stat_layer}
-use Rattle.ntx_eval.proofs.Unrolled.{Meanings, whole, with_trees, exp_rolls, field_rolls, head_rolls, kind_rolls, suffix_rolls, var_rolls, block_rolls, call_rolls, body_rolls, arm_rolls, operation_rolls, prefix_rolls, ret_rolls, stat_rolls}
+use Rattle.ntx_eval.proofs.Whole.{Meanings, whole, with_trees, exp_rolls, field_rolls, head_rolls, kind_rolls, suffix_rolls, var_rolls, block_rolls, call_rolls, body_rolls, arm_rolls, operation_rolls, prefix_rolls, ret_rolls, stat_rolls}
 use Rattle.ntx_eval.proofs.Related.{Kept, of_stores, texts, binds, reads_name}
 use Rattle.ntx_eval.proofs.RelatedParts as parts
 use Rattle.ntx_eval.proofs.RelatedParts.{Both, given, Exps, Suffixes, Fields, Operations, Blocks, ones, firsts, alls, each_operation, each_suffix, fills}

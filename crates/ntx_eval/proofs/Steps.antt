@@ -1,6 +1,5 @@
 -- No step comes back, and more steps change nothing in a script that did not run out of them.
-use Rattle.std.proofs.Common.{◌≡◌, ◌∙◌, ◌⊎◌, inl, inr, refl, sym, ap, ℕ, zero, suc, ◌+◌, ◌≤◌, List, [], ◌∷◌, Result, Ok, Err, le_refl, le_trans, le-add_right, arith}
-use Rattle.ntx_syntax.specs.declared.tree.Chunk.{Chunk}
+use Rattle.std.proofs.Common.{◌≡◌, ◌⊎◌, inl, inr, refl, ℕ, zero, suc, ◌+◌, ◌≤◌, List, Result, Ok, Err, le_refl, le_trans, le-add_right, arith}
 use Rattle.ntx_values.specs.State.{StoreState}
 use Rattle.ntx_values.specs.declared.value.Value.{Value}
 use Rattle.ntx_values.specs.declared.primitive.LibFn.{LibFn}
@@ -8,12 +7,10 @@ use Rattle.ntx_values.specs.declared.why.LuaWhy.{LuaWhy}
 use Rattle.ntx_eval.specs.State.{State}
 use Rattle.ntx_eval.specs.Host.{World}
 use Rattle.ntx_eval.specs.Library.{LibState}
-use Rattle.ntx_eval.specs.Ending.{Ending, Action, give, after, charge, ◌>>=◌}
+use Rattle.ntx_eval.specs.Ending.{Ending, Action, after, charge}
 use Rattle.ntx_eval.specs.Variables.{on_store}
 use Rattle.ntx_eval.specs.Setting.{library_call}
-use Rattle.ntx_eval.specs.Meaning.{body_meaning}
-use Rattle.ntx_eval.specs.Calls.{enter_at, body_of, run_chunk, call_function}
-use Rattle.ntx_eval.specs.Laws.{Falls, StepsNeverRise, with_more, RanOut, IsTheSame, MoreStepsAreTheSame}
+use Rattle.ntx_eval.specs.Laws.{Falls, StepsNeverRise, with_more, RanOut, MoreStepsAreTheSame}
 use Rattle.ntx_eval.proofs.Related.{Kept}
 use Rattle.ntx_eval.proofs.RelatedCalls.{chunks, outer_calls}
 use Rattle.ntx_eval.specs.declared.stop.ScriptStop.TheVariants.{Budget, Fault, Host}
@@ -65,7 +62,7 @@ steps_never_rise world = (
 
 -- ---- more steps
 
--- what an action does with more steps, where the other one did not run out
+-- what an action does with more steps, if the other one did not run out
 abbrev Same : {S : Type 0} → ℕ → (A : Type 0) → Action S A → Action S A → Type 0
 Same {S} more A m m' = (s : State S) → RanOut (m s) ⊎ (m' (with_more more s) ≡ ((m s).0, with_more more (m s).1))
 

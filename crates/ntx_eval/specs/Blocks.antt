@@ -1,5 +1,5 @@
 -- What statements, `return`, blocks and bodies of functions do (Lua 5.3 Reference Manual, sections 3.3.1, 3.3.4 and 3.4.11).
-use Rattle.std.specs.Prelude.{ℕ, List, [], ◌∷◌, Option, Some, None}
+use Rattle.std.specs.Prelude.{List, [], ◌∷◌, Option, Some, None}
 use Rattle.ntx_syntax.specs.declared.tree.Exp.TheOpen.{Block-F, FunctionBody-F, Return-F, Stat-F}
 use Rattle.ntx_values.specs.declared.value.Value.{Value}
 use Rattle.ntx_eval.specs.State.{Scope, Flow, onward, broken, returned}

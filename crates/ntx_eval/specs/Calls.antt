@@ -1,5 +1,5 @@
 -- Calls (Lua 5.3 Reference Manual, sections 3.4.10 and 3.4.11), and what is done with a script as a whole.
---     enter_at most level f args line     what a call does once it was paid for, where `level` functions of the script are active
+--     enter_at bodies world most level f args line     what a call does once it was paid for, with `level` functions of the script active
 --     run_chunk, call_function, drive     a script's chunk; a call from outside it; a host's step followed to its values
 use Rattle.std.specs.Prelude.{ℕ, zero, suc, nat_lt, if◌then◌else◌, List, [], slice_get, Option, Some, None}
 use Rattle.ntx_syntax.specs.declared.tree.Chunk.{Chunk}
@@ -8,8 +8,8 @@ use Rattle.ntx_values.specs.declared.value.Value.{Value}
 use Rattle.ntx_values.specs.declared.value.Value.TheVariants as value
 use Rattle.ntx_values.specs.declared.primitive.Primitive.TheVariants as primitive
 use Rattle.ntx_values.specs.declared.why.LuaWhy.TheVariants.{WrongType, Levels}
-use Rattle.ntx_eval.specs.State.{Function, State}
-use Rattle.ntx_eval.specs.Ending.{Action, Ending, give, fault, out_of_steps, ◌>>=◌, ◌>>◌}
+use Rattle.ntx_eval.specs.State.{Function}
+use Rattle.ntx_eval.specs.Ending.{Action, give, fault, out_of_steps, ◌>>=◌, ◌>>◌}
 use Rattle.ntx_eval.specs.Host.{World}
 use Rattle.ntx_eval.specs.Setting.{Setting, call, library_call, host_call, follow}
 use Rattle.ntx_eval.specs.Parts.{BodyMeaning}
@@ -32,7 +32,7 @@ abbrev pub run_function : {S : Type 0} → (FunctionBody → BodyMeaning S) → 
 run_function run None args line = fault line WrongType
 run_function run (Some f) args line = run f.body args f.scope line
 
--- what is called, where `run` runs a body of the script
+-- what is called; `run` runs a body of the script
 abbrev pub enter_value : {S : Type 0} → Setting S → (FunctionBody → BodyMeaning S) → ℕ → Value → List Value → ℕ → Action S (List Value)
 enter_value outer run level (value.Function f) args line =
     if nat_lt level max_levels then (function_at f.number >>= λ function. run_function run function args line)

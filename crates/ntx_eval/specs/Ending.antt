@@ -4,7 +4,7 @@
 --     Action S A       what a part does: from the state before to its ending
 --     fault line why   a fault of the script: the one word by which it stops for a reason of its own
 --     charge line      one step is paid for
-use Rattle.std.specs.Prelude.{ℕ, zero, suc, List, Result, Ok, Err}
+use Rattle.std.specs.Prelude.{ℕ, zero, suc, Result, Ok, Err}
 use Rattle.ntx_values.specs.declared.why.LuaWhy.{LuaWhy}
 use Rattle.ntx_eval.specs.State.{State}
 use Rattle.ntx_eval.specs.declared.stop.ScriptStop.{ScriptStop}

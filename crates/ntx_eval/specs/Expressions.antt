@@ -1,16 +1,16 @@
 -- What expressions do, from what their parts do (Lua 5.3 Reference Manual, section 3.4). Parts are evaluated from the left, and a
 -- part of which one value is wanted gives its first, or nil.
-use Rattle.std.specs.Prelude.{ℕ, ◌+◌, Bool, true, false, List, [], ◌∷◌, ◌++◌, pos, if◌then◌else◌, Option, Ok, Err}
+use Rattle.std.specs.Prelude.{ℕ, ◌+◌, true, false, List, [], ◌∷◌, ◌++◌, pos, if◌then◌else◌}
 use Rattle.ntx_syntax.specs.declared.tree.FunctionBody.{FunctionBody}
 use Rattle.ntx_syntax.specs.declared.tree.BinaryOp.{BinaryOp}
-use Rattle.ntx_syntax.specs.declared.tree.Exp.TheOpen.{Exp-F, Field-F, Head-F, Suffix-F, Call-F, Operation-F, Prefix-F}
+use Rattle.ntx_syntax.specs.declared.tree.Exp.TheOpen.{Exp-F, Field-F, Head-F, Suffix-F, Call-F, Prefix-F}
 use Rattle.ntx_values.specs.Value.{is_nil}
 use Rattle.ntx_values.specs.Steps.{new_table_step, new_function_step}
 use Rattle.ntx_values.specs.declared.value.Value.{Value}
 use Rattle.ntx_values.specs.declared.value.Value.TheVariants as value
 use Rattle.ntx_values.specs.declared.value.Value.TheVariants.{Nil, Int, Table}
 use Rattle.ntx_values.specs.declared.value.TableId.{TableId}
-use Rattle.ntx_eval.specs.State.{State, Scope}
+use Rattle.ntx_eval.specs.State.{Scope}
 use Rattle.ntx_eval.specs.Ending.{Action, give, ◌>>=◌, ◌>>◌}
 use Rattle.ntx_eval.specs.Operators.{binary_step, unary_of, is_decided}
 use Rattle.ntx_eval.specs.Variables.{Here, on_store, of_store, text, read_name, first}
@@ -46,7 +46,7 @@ new_table line = on_store line new_table_step
 
 -- ---- operators
 
--- `and` and `or` leave their second operand alone where the first decides.
+-- `and` and `or` leave their second operand alone if the first decides.
 abbrev pub operation : {S : Type 0} → BinaryOp → Value → ExpMeaning S → Here → Action S Value
 operation op a m here =
     if is_decided op a then give a

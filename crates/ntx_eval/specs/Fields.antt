@@ -1,7 +1,7 @@
 -- Fields (Lua 5.3 Reference Manual, section 3.2): what a table holds at a key, and the fields of nodes, which the host knows.
---     read_field v key line       what is at the key; a table has nil where nothing is
+--     read_field v key line       what is at the key; nil if a table has nothing there
 --     write_field v key x line    sets it
-use Rattle.std.specs.Prelude.{ℕ, List, [], ◌∷◌, Result, Ok, Err}
+use Rattle.std.specs.Prelude.{ℕ, [], ◌∷◌, Ok}
 use Rattle.ntx_values.specs.Table.{value_at}
 use Rattle.ntx_values.specs.State.{table_of}
 use Rattle.ntx_values.specs.Steps.{set_step}

@@ -1,6 +1,6 @@
 -- Integers of scripts (Lua 5.3 Reference Manual, sections 3.4.1 and 3.4.2): 64 bits in two's complement. What does not fit wraps.
---     floor_quotient a b, floor_remainder a b      division that rounds toward minus infinity, where b is not 0
---     shifted_left a k, shifted_right a k          logical shifts, which go the other way where k is negative
+--     floor_quotient a b, floor_remainder a b      division that rounds toward minus infinity, for a b other than 0
+--     shifted_left a k, shifted_right a k          logical shifts, which go the other way if k is negative
 --     quotient a b, remainder a b                  the same of every b, of which 0 is refused
 use Rattle.std.specs.Prelude.{ℕ, zero, suc, ◌/◌, ◌^◌, nat_le, ℤ, pos, negsuc, neg_ℤ, ◌-ℤ◌, ◌*ℤ◌, if◌then◌else◌, Result, Ok, Err}
 use Rattle.std.specs.Int.{w64, cast_signed, cast_unsigned, is_negative, int_div_euclid, int_shl}

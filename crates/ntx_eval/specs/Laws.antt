@@ -1,7 +1,7 @@
 -- What is true of every script, whichever its host and its library are.
 --     StepsNeverRise       no more steps are left after a script than before it
 --     MoreStepsAreTheSame  a script that did not run out of steps does the same with more of them
-use Rattle.std.specs.Prelude.{◌≡◌, ◌⊎◌, ℕ, ◌+◌, ◌≤◌, List, Result, Ok, Err}
+use Rattle.std.specs.Prelude.{◌≡◌, ◌⊎◌, ℕ, ◌+◌, ◌≤◌, List, Ok, Err}
 use Rattle.ntx_syntax.specs.declared.tree.Chunk.{Chunk}
 use Rattle.ntx_values.specs.declared.value.Value.{Value}
 use Rattle.ntx_eval.specs.State.{State}

@@ -1,6 +1,6 @@
 -- Loops (Lua 5.3 Reference Manual, sections 3.3.4 and 3.3.5). One step is charged before each test, and before each call of an
 -- iterator, which has no other charge. The number of a loop is at least that of the tests that it can still make.
-use Rattle.std.specs.Prelude.{ℕ, zero, suc, Bool, true, false, if◌then◌else◌, List, [], ◌∷◌, ℤ, pos, ◌+ℤ◌, int_le, Result, Ok, Err}
+use Rattle.std.specs.Prelude.{ℕ, zero, suc, Bool, if◌then◌else◌, List, [], ◌∷◌, ℤ, pos, ◌+ℤ◌, int_le}
 use Rattle.std.specs.Int.{is_negative}
 use Rattle.ntx_values.specs.Value.{is_nil}
 use Rattle.ntx_values.specs.declared.value.Value.{Value}
@@ -9,7 +9,7 @@ use Rattle.ntx_values.specs.declared.why.LuaWhy.TheVariants.{WrongType, ForStep}
 use Rattle.ntx_eval.specs.State.{Flow, onward, broken, returned}
 use Rattle.ntx_eval.specs.Ending.{Action, give, fault, out_of_steps, charge, ◌>>=◌, ◌>>◌}
 use Rattle.ntx_eval.specs.Operators.{is_true}
-use Rattle.ntx_eval.specs.Variables.{Here, bind, first, others}
+use Rattle.ntx_eval.specs.Variables.{Here, bind, first}
 use Rattle.ntx_eval.specs.Setting.{Setting}
 use Rattle.ntx_eval.specs.Parts.{ExpMeaning, BlockMeaning}
 

@@ -2,15 +2,14 @@
 -- ask for calls, are what it does with them.
 --     call f args line      one step is charged, and then the function is entered
 --     follow step line      a host's step up to its values, with each call that it asks for
-use Rattle.std.specs.Prelude.{ℕ, zero, suc, ◌==◌, if◌then◌else◌, List, Result, Ok, Err}
+use Rattle.std.specs.Prelude.{ℕ, zero, suc, List, Result, Ok, Err}
 use Rattle.ntx_values.specs.State.{StoreState}
 use Rattle.ntx_values.specs.declared.value.Value.{Value}
 use Rattle.ntx_values.specs.declared.primitive.Primitive.{Primitive}
 use Rattle.ntx_values.specs.declared.primitive.LibFn.{LibFn}
 use Rattle.ntx_values.specs.declared.why.LuaWhy.{LuaWhy}
-use Rattle.ntx_eval.specs.State.{State}
-use Rattle.ntx_eval.specs.Library.{Library, LibState}
-use Rattle.ntx_eval.specs.Host.{HostSteps, Answered, World}
+use Rattle.ntx_eval.specs.Library.{LibState}
+use Rattle.ntx_eval.specs.Host.{Answered, World}
 use Rattle.ntx_eval.specs.Ending.{Action, Ending, give, stop, fault, out_of_steps, charge, ◌>>=◌, ◌>>◌}
 use Rattle.ntx_eval.specs.declared.host.HostStep.{HostStep}
 use Rattle.ntx_eval.specs.declared.host.HostStep.TheVariants as step
@@ -40,7 +39,7 @@ answered {S} asked s = made (asked s.host s.store)
     made : Answered S → Ending S HostStep
     made (answer, host, store) = give answer (record s { host = host; store = store })
 
--- A host fails outside the chunk and all functions of the script where no statement runs.
+-- A host fails outside the chunk and all functions of the script if no statement runs.
 abbrev pub host_fault : {S A : Type 0} → LuaWhy → ℕ → Action S A
 host_fault why zero = stop (stopped.Host why)
 host_fault why (suc line) = fault (suc line) why

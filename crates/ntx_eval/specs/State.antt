@@ -1,7 +1,7 @@
 -- What a running script has: its store, its variables and functions, what it printed, its host's state, and the steps left.
 --     Scope        the local names that can be seen, each with its cell, the innermost first
 --     Function     the body of a function and the scope in which it was made
---     State S      all that a script has, where its host's state is an S
+--     State S      all that a script has; its host's state is an S
 use Rattle.std.specs.Prelude.{ℕ, List}
 use Rattle.ntx_syntax.specs.declared.tree.FunctionBody.{FunctionBody}
 use Rattle.ntx_values.specs.State.{StoreState}

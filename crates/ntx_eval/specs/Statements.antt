@@ -1,16 +1,16 @@
 -- What statements do, from what their parts do (Lua 5.3 Reference Manual, section 3.3).
-use Rattle.std.specs.Prelude.{ℕ, Bool, if◌then◌else◌, List, [], ◌∷◌, map, pos, Option, Some, None}
+use Rattle.std.specs.Prelude.{ℕ, if◌then◌else◌, List, [], ◌∷◌, map, pos, Option, Some, None}
 use Rattle.ntx_syntax.specs.declared.tree.LocalName.{LocalName}
 use Rattle.ntx_syntax.specs.declared.tree.FunctionBody.{FunctionBody}
 use Rattle.ntx_syntax.specs.declared.tree.Exp.TheOpen.{IfArm-F, Operation-F, StatKind-F, Var-F}
 use Rattle.ntx_values.specs.declared.value.Value.{Value}
 use Rattle.ntx_values.specs.declared.value.Value.TheVariants.{Nil, Int}
-use Rattle.ntx_eval.specs.State.{Scope, Flow, onward, broken, returned}
-use Rattle.ntx_eval.specs.Ending.{Action, give, charge, ◌>>=◌, ◌>>◌}
+use Rattle.ntx_eval.specs.State.{Scope, Flow, onward, broken}
+use Rattle.ntx_eval.specs.Ending.{Action, give, ◌>>=◌, ◌>>◌}
 use Rattle.ntx_eval.specs.Variables.{Here, bind, text, read_name, write_name, write_cell, new_cell, first, others}
 use Rattle.ntx_eval.specs.Setting.{Setting}
 use Rattle.ntx_eval.specs.Fields.{read_field, write_field}
-use Rattle.ntx_eval.specs.Parts.{Of, ExpMeaning, VarMeaning, BlockMeaning, StatMeaning, KindMeaning, ReturnMeaning, ArmMeaning, BodyMeaning, OperationMeaning, Place, named, field}
+use Rattle.ntx_eval.specs.Parts.{Of, ExpMeaning, VarMeaning, BlockMeaning, KindMeaning, ArmMeaning, OperationMeaning, Place, named, field}
 use Rattle.ntx_eval.specs.Expressions.{all_values, first_of, new_function}
 use Rattle.ntx_eval.specs.Loops.{while_loop, repeat_loop, numeric_for, generic_loop, holds}
 

@@ -1,9 +1,9 @@
--- Variables (Lua 5.3 Reference Manual, sections 3.2 and 3.5): a name is a local variable where its scope has it, and else a field
+-- Variables (Lua 5.3 Reference Manual, sections 3.2 and 3.5): a name is a local variable if its scope has it, and else a field
 -- of the table of globals.
 --     bind names vs scope     new cells with these values, and the scope with these names
 --     read_name, write_name   what a name holds, and what it is to hold
 --     text bytes              the text with these bytes
-use Rattle.std.specs.Prelude.{ℕ, ◌+◌, nat_eq, Bool, List, [], ◌∷◌, ◌++◌, length, slice_index_or, slice_set, Option, None, Some, Result, Ok, Err}
+use Rattle.std.specs.Prelude.{ℕ, nat_eq, List, [], ◌∷◌, ◌++◌, length, slice_index_or, slice_set, Option, None, Some, Result, Ok, Err}
 use Rattle.std.specs.Map.{lookup}
 use Rattle.std.specs.Cmp.Lexicographic.{pointwise}
 use Rattle.ntx_num.specs.Answer.{result_map}
@@ -14,10 +14,10 @@ use Rattle.ntx_values.specs.declared.value.Value.{Value}
 use Rattle.ntx_values.specs.declared.value.Value.TheVariants.{Nil, Text}
 use Rattle.ntx_values.specs.declared.value.TableId.{TableId}
 use Rattle.ntx_values.specs.declared.why.LuaWhy.{LuaWhy}
-use Rattle.ntx_eval.specs.State.{Scope, State}
-use Rattle.ntx_eval.specs.Ending.{Action, Ending, give, fault, ◌>>=◌, ◌>>◌}
+use Rattle.ntx_eval.specs.State.{Scope}
+use Rattle.ntx_eval.specs.Ending.{Action, Ending, give, fault, ◌>>=◌}
 
--- where a part of a script stands: the names that it sees, and the line of its statement
+-- the place of a part of a script: the names that it sees, and the line of its statement
 pub record Here : Type 0 where
   pub scope : Scope
   pub line : ℕ
@@ -37,7 +37,7 @@ of_store line question = on_store line (λ store. result_map (λ a. (a, store)) 
 abbrev pub text : {S : Type 0} → List ℕ → ℕ → Action S Value
 text bytes line = on_store line (λ store. result_map (λ made. (Text made.0, made.1)) (text_step bytes store))
 
--- the cell of a name, that of the innermost where several have it
+-- the cell of a name, that of the innermost if several have it
 abbrev pub cell_of : List ℕ → Scope → Option ℕ
 cell_of name scope = lookup (pointwise nat_eq name) scope
 
@@ -50,7 +50,7 @@ read_cell cell s = give (slice_index_or s.cells cell Nil) s
 abbrev pub write_cell : {S : Type 0} → ℕ → Value → Action S (Unit {0})
 write_cell cell v s = give tt (record s { cells = slice_set s.cells cell v })
 
--- the first of several values, nil where there is none, and those after it
+-- the first of several values, nil if there are none, and those after it
 abbrev pub first : List Value → Value
 first [] = Nil
 first (v ∷ vs) = v

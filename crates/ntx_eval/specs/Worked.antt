@@ -1,11 +1,10 @@
 -- Examples of scripts and what they give (Lua 5.3 Reference Manual, chapter 3), put together from what each construct does.
---     gives n inner main     what a function with the block `main` ends with, where n steps are left before it, and how many are left
+--     gives n inner main     what a function with the block `main` ends with, if n steps are left before it, and how many are left
 --                            after it; the functions that it makes have the body `inner`
-use Rattle.std.specs.Prelude.{◌≡◌, ℕ, ℤ, pos, negsuc, List, [], ◌∷◌, codes, Option, Some, None, Result, Ok, Err}
+use Rattle.std.specs.Prelude.{◌≡◌, ℕ, ℤ, pos, negsuc, List, [], ◌∷◌, codes, Some, None, Result, Ok, Err}
 use Rattle.ntx_syntax.specs.declared.tree.BinaryOp.TheVariants as op
 use Rattle.ntx_values.specs.declared.value.Value.{Value}
 use Rattle.ntx_values.specs.declared.value.Value.TheVariants.{Nil, Int}
-use Rattle.ntx_values.specs.declared.value.TableId.{TableId}
 use Rattle.ntx_values.specs.declared.why.LuaWhy.{LuaWhy}
 use Rattle.ntx_values.specs.declared.why.LuaWhy.TheVariants as why
 use Rattle.ntx_eval.specs.State.{State}

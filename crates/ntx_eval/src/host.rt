@@ -67,7 +67,7 @@ pub trait Host {
         ensures of { IfOk result (λ step. StepIsOf store.new step) }
         ensures fits { Fits (state self.new) store.new };
 
-    /// A state that fits a store goes on fitting it where the script changes the store.
+    /// A state that fits a store goes on fitting it when the script changes the store.
     ghost goes_on_fitting: { (s : State) (old new : StoreState) → Grows old new → Fits s old → Fits s new };
 }
 

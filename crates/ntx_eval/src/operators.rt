@@ -103,7 +103,7 @@ fn joined(alloc: Global, store: &Store, a: Value, b: Value) -> Result<Vec<u8>, F
 ///
 /// # Refusals
 ///
-/// WrongType of a value that is neither a text nor an integer. TextsFull where the store cannot hold the text.
+/// WrongType of a value that is neither a text nor an integer. TextsFull if the store cannot hold the text.
 fn concat(alloc: Global, store: &mut Store, a: Value, b: Value) -> Result<Value, Fail<LuaWhy>>
     requires first { IsOf store.old a }
     requires second { IsOf store.old b }
@@ -245,7 +245,7 @@ fn value_of(store: &Store, op: BinaryOp, a: Value, b: Value) -> Result<Value, Lu
 ///
 /// # Refusals
 ///
-/// WrongType of operands of another sort than the operator takes; ZeroDivisor of `//` and `%` by 0; TextsFull where the
+/// WrongType of operands of another sort than the operator takes; ZeroDivisor of `//` and `%` by 0; TextsFull if the
 /// store cannot hold the text of `..`.
 pub fn binary(
     alloc: Global,

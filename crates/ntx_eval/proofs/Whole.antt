@@ -1,24 +1,23 @@
--- The meaning of a tree, one layer after the other: as many layers as are wanted, and what is below them by the recursion over the tree.
-use Rattle.std.proofs.Common.{◌≡◌, ◌∙◌, ℕ, zero, suc, refl, sym, ap}
-use Rattle.ntx_syntax.specs.declared.tree.Exp.{Exp, map-Exp, para-Exp, para-roll-Exp, roll-Exp, out-Exp, roll-out-Exp}
-use Rattle.ntx_syntax.specs.declared.tree.Field.{Field, map-Field, para-Field, para-roll-Field, roll-Field, out-Field, roll-out-Field}
-use Rattle.ntx_syntax.specs.declared.tree.Head.{Head, map-Head, para-Head, para-roll-Head, roll-Head, out-Head, roll-out-Head}
-use Rattle.ntx_syntax.specs.declared.tree.StatKind.{StatKind, map-StatKind, para-StatKind, para-roll-StatKind, roll-StatKind, out-StatKind, roll-out-StatKind}
-use Rattle.ntx_syntax.specs.declared.tree.Suffix.{Suffix, map-Suffix, para-Suffix, para-roll-Suffix, roll-Suffix, out-Suffix, roll-out-Suffix}
-use Rattle.ntx_syntax.specs.declared.tree.Var.{Var, map-Var, para-Var, para-roll-Var, roll-Var, out-Var, roll-out-Var}
-use Rattle.ntx_syntax.specs.declared.tree.Block.{Block, map-Block, para-Block, para-roll-Block, roll-Block, out-Block, roll-out-Block}
-use Rattle.ntx_syntax.specs.declared.tree.Call.{Call, map-Call, para-Call, para-roll-Call, roll-Call, out-Call, roll-out-Call}
-use Rattle.ntx_syntax.specs.declared.tree.FunctionBody.{FunctionBody, map-FunctionBody, para-FunctionBody, para-roll-FunctionBody, roll-FunctionBody, out-FunctionBody, roll-out-FunctionBody}
-use Rattle.ntx_syntax.specs.declared.tree.IfArm.{IfArm, map-IfArm, para-IfArm, para-roll-IfArm, roll-IfArm, out-IfArm, roll-out-IfArm}
-use Rattle.ntx_syntax.specs.declared.tree.Operation.{Operation, map-Operation, para-Operation, para-roll-Operation, roll-Operation, out-Operation, roll-out-Operation}
-use Rattle.ntx_syntax.specs.declared.tree.Prefix.{Prefix, map-Prefix, para-Prefix, para-roll-Prefix, roll-Prefix, out-Prefix, roll-out-Prefix}
-use Rattle.ntx_syntax.specs.declared.tree.Return.{Return, map-Return, para-Return, para-roll-Return, roll-Return, out-Return, roll-out-Return}
-use Rattle.ntx_syntax.specs.declared.tree.Stat.{Stat, map-Stat, para-Stat, para-roll-Stat, roll-Stat, out-Stat, roll-out-Stat}
+-- The meaning of a tree of each type, and what it is at a tree that is made of its layer.
+use Rattle.std.proofs.Common.{◌≡◌}
+use Rattle.ntx_syntax.specs.declared.tree.Exp.{Exp, map-Exp, para-Exp, para-roll-Exp, roll-Exp}
+use Rattle.ntx_syntax.specs.declared.tree.Field.{Field, map-Field, para-Field, para-roll-Field, roll-Field}
+use Rattle.ntx_syntax.specs.declared.tree.Head.{Head, map-Head, para-Head, para-roll-Head, roll-Head}
+use Rattle.ntx_syntax.specs.declared.tree.StatKind.{StatKind, map-StatKind, para-StatKind, para-roll-StatKind, roll-StatKind}
+use Rattle.ntx_syntax.specs.declared.tree.Suffix.{Suffix, map-Suffix, para-Suffix, para-roll-Suffix, roll-Suffix}
+use Rattle.ntx_syntax.specs.declared.tree.Var.{Var, map-Var, para-Var, para-roll-Var, roll-Var}
+use Rattle.ntx_syntax.specs.declared.tree.Block.{Block, map-Block, para-Block, para-roll-Block, roll-Block}
+use Rattle.ntx_syntax.specs.declared.tree.Call.{Call, map-Call, para-Call, para-roll-Call, roll-Call}
+use Rattle.ntx_syntax.specs.declared.tree.FunctionBody.{FunctionBody, map-FunctionBody, para-FunctionBody, para-roll-FunctionBody, roll-FunctionBody}
+use Rattle.ntx_syntax.specs.declared.tree.IfArm.{IfArm, map-IfArm, para-IfArm, para-roll-IfArm, roll-IfArm}
+use Rattle.ntx_syntax.specs.declared.tree.Operation.{Operation, map-Operation, para-Operation, para-roll-Operation, roll-Operation}
+use Rattle.ntx_syntax.specs.declared.tree.Prefix.{Prefix, map-Prefix, para-Prefix, para-roll-Prefix, roll-Prefix}
+use Rattle.ntx_syntax.specs.declared.tree.Return.{Return, map-Return, para-Return, para-roll-Return, roll-Return}
+use Rattle.ntx_syntax.specs.declared.tree.Stat.{Stat, map-Stat, para-Stat, para-roll-Stat, roll-Stat}
 use Rattle.ntx_syntax.specs.declared.tree.Exp.TheOpen.{Exp-F, Field-F, Head-F, StatKind-F, Suffix-F, Var-F, Block-F, Call-F, FunctionBody-F, IfArm-F, Operation-F, Prefix-F, Return-F, Stat-F}
 use Rattle.ntx_eval.specs.Setting.{Setting}
 use Rattle.ntx_eval.specs.Parts.{ExpMeaning, FieldMeaning, KindMeaning, SuffixMeaning, VarMeaning, BlockMeaning, BodyMeaning, ArmMeaning, OperationMeaning, ReturnMeaning, StatMeaning}
 use Rattle.ntx_eval.specs.Trees.{Layer, MapOf, With, meanings}
-use Rattle.ntx_eval.specs.Meaning.{body_meaning}
 use Rattle.ntx_eval.specs.Expressions.{exp_layer, field_layer, head_layer, suffix_layer, call_layer, prefix_layer}
 use Rattle.ntx_eval.specs.Statements.{kind_layer, var_layer, arm_layer, operation_layer}
 use Rattle.ntx_eval.specs.Blocks.{block_layer, body_layer, return_layer, stat_layer}
@@ -48,25 +47,6 @@ with_trees {S} F map m layer =
     (Call × ExpMeaning S) (FunctionBody × BodyMeaning S) (IfArm × ArmMeaning S) (Operation × OperationMeaning S) (Prefix × ExpMeaning S) (Return × ReturnMeaning S) (Stat × StatMeaning S)
     (λ t. (t, m.exp t)) (λ t. (t, m.field t)) (λ t. (t, m.head t)) (λ t. (t, m.kind t)) (λ t. (t, m.suffix t)) (λ t. (t, m.var t)) (λ t. (t, m.block t))
     (λ t. (t, m.call t)) (λ t. (t, m.body t)) (λ t. (t, m.arm t)) (λ t. (t, m.operation t)) (λ t. (t, m.prefix t)) (λ t. (t, m.ret t)) (λ t. (t, m.stat t)) layer
-
--- one layer
-abbrev pub layered : {S : Type 0} → Setting S → Meanings S → Meanings S
-layered run m = record {
-  exp = λ x. exp_layer (meanings Exp-F map-Exp (with_trees Exp-F map-Exp m (out-Exp x)));
-  field = λ x. field_layer run (meanings Field-F map-Field (with_trees Field-F map-Field m (out-Field x)));
-  head = λ x. head_layer (meanings Head-F map-Head (with_trees Head-F map-Head m (out-Head x)));
-  kind = λ x. kind_layer run (meanings StatKind-F map-StatKind (with_trees StatKind-F map-StatKind m (out-StatKind x)));
-  suffix = λ x. suffix_layer run (meanings Suffix-F map-Suffix (with_trees Suffix-F map-Suffix m (out-Suffix x)));
-  var = λ x. var_layer (meanings Var-F map-Var (with_trees Var-F map-Var m (out-Var x)));
-  block = λ x. block_layer (meanings Block-F map-Block (with_trees Block-F map-Block m (out-Block x)));
-  call = λ x. call_layer run (meanings Call-F map-Call (with_trees Call-F map-Call m (out-Call x)));
-  body = λ x. body_layer (meanings FunctionBody-F map-FunctionBody (with_trees FunctionBody-F map-FunctionBody m (out-FunctionBody x)));
-  arm = λ x. arm_layer (meanings IfArm-F map-IfArm (with_trees IfArm-F map-IfArm m (out-IfArm x)));
-  operation = λ x. operation_layer (meanings Operation-F map-Operation (with_trees Operation-F map-Operation m (out-Operation x)));
-  prefix = λ x. prefix_layer (meanings Prefix-F map-Prefix (with_trees Prefix-F map-Prefix m (out-Prefix x)));
-  ret = λ x. return_layer (meanings Return-F map-Return (with_trees Return-F map-Return m (out-Return x)));
-  stat = λ x. stat_layer (meanings Stat-F map-Stat (with_trees Stat-F map-Stat m (out-Stat x)));
-}
 
 -- by the recursion over the tree
 abbrev pub whole : {S : Type 0} → Setting S → Meanings S
@@ -170,153 +150,6 @@ whole {S} run = record {
       (λ p. arm_layer (meanings IfArm-F map-IfArm p)) (λ p. operation_layer (meanings Operation-F map-Operation p)) (λ p. prefix_layer (meanings Prefix-F map-Prefix p))
       (λ p. return_layer (meanings Return-F map-Return p)) (λ p. stat_layer (meanings Stat-F map-Stat p));
 }
-
-exp_is : {S : Type 0} (run : Setting S) (x : Exp) → (whole run).exp x ≡ (layered run (whole run)).exp x
-exp_is {S} run x = ap (whole run).exp (sym (roll-out-Exp x)) ∙ para-roll-Exp (ExpMeaning S) (FieldMeaning S) (ExpMeaning S) (KindMeaning S) (SuffixMeaning S) (VarMeaning S) (BlockMeaning S)
-    (ExpMeaning S) (BodyMeaning S) (ArmMeaning S) (OperationMeaning S) (ExpMeaning S) (ReturnMeaning S) (StatMeaning S)
-    (λ p. exp_layer (meanings Exp-F map-Exp p)) (λ p. field_layer run (meanings Field-F map-Field p)) (λ p. head_layer (meanings Head-F map-Head p))
-    (λ p. kind_layer run (meanings StatKind-F map-StatKind p)) (λ p. suffix_layer run (meanings Suffix-F map-Suffix p)) (λ p. var_layer (meanings Var-F map-Var p))
-    (λ p. block_layer (meanings Block-F map-Block p)) (λ p. call_layer run (meanings Call-F map-Call p)) (λ p. body_layer (meanings FunctionBody-F map-FunctionBody p))
-    (λ p. arm_layer (meanings IfArm-F map-IfArm p)) (λ p. operation_layer (meanings Operation-F map-Operation p)) (λ p. prefix_layer (meanings Prefix-F map-Prefix p))
-    (λ p. return_layer (meanings Return-F map-Return p)) (λ p. stat_layer (meanings Stat-F map-Stat p)) (out-Exp x)
-
-field_is : {S : Type 0} (run : Setting S) (x : Field) → (whole run).field x ≡ (layered run (whole run)).field x
-field_is {S} run x = ap (whole run).field (sym (roll-out-Field x)) ∙ para-roll-Field (ExpMeaning S) (FieldMeaning S) (ExpMeaning S) (KindMeaning S) (SuffixMeaning S) (VarMeaning S) (BlockMeaning S)
-    (ExpMeaning S) (BodyMeaning S) (ArmMeaning S) (OperationMeaning S) (ExpMeaning S) (ReturnMeaning S) (StatMeaning S)
-    (λ p. exp_layer (meanings Exp-F map-Exp p)) (λ p. field_layer run (meanings Field-F map-Field p)) (λ p. head_layer (meanings Head-F map-Head p))
-    (λ p. kind_layer run (meanings StatKind-F map-StatKind p)) (λ p. suffix_layer run (meanings Suffix-F map-Suffix p)) (λ p. var_layer (meanings Var-F map-Var p))
-    (λ p. block_layer (meanings Block-F map-Block p)) (λ p. call_layer run (meanings Call-F map-Call p)) (λ p. body_layer (meanings FunctionBody-F map-FunctionBody p))
-    (λ p. arm_layer (meanings IfArm-F map-IfArm p)) (λ p. operation_layer (meanings Operation-F map-Operation p)) (λ p. prefix_layer (meanings Prefix-F map-Prefix p))
-    (λ p. return_layer (meanings Return-F map-Return p)) (λ p. stat_layer (meanings Stat-F map-Stat p)) (out-Field x)
-
-head_is : {S : Type 0} (run : Setting S) (x : Head) → (whole run).head x ≡ (layered run (whole run)).head x
-head_is {S} run x = ap (whole run).head (sym (roll-out-Head x)) ∙ para-roll-Head (ExpMeaning S) (FieldMeaning S) (ExpMeaning S) (KindMeaning S) (SuffixMeaning S) (VarMeaning S) (BlockMeaning S)
-    (ExpMeaning S) (BodyMeaning S) (ArmMeaning S) (OperationMeaning S) (ExpMeaning S) (ReturnMeaning S) (StatMeaning S)
-    (λ p. exp_layer (meanings Exp-F map-Exp p)) (λ p. field_layer run (meanings Field-F map-Field p)) (λ p. head_layer (meanings Head-F map-Head p))
-    (λ p. kind_layer run (meanings StatKind-F map-StatKind p)) (λ p. suffix_layer run (meanings Suffix-F map-Suffix p)) (λ p. var_layer (meanings Var-F map-Var p))
-    (λ p. block_layer (meanings Block-F map-Block p)) (λ p. call_layer run (meanings Call-F map-Call p)) (λ p. body_layer (meanings FunctionBody-F map-FunctionBody p))
-    (λ p. arm_layer (meanings IfArm-F map-IfArm p)) (λ p. operation_layer (meanings Operation-F map-Operation p)) (λ p. prefix_layer (meanings Prefix-F map-Prefix p))
-    (λ p. return_layer (meanings Return-F map-Return p)) (λ p. stat_layer (meanings Stat-F map-Stat p)) (out-Head x)
-
-kind_is : {S : Type 0} (run : Setting S) (x : StatKind) → (whole run).kind x ≡ (layered run (whole run)).kind x
-kind_is {S} run x = ap (whole run).kind (sym (roll-out-StatKind x)) ∙ para-roll-StatKind (ExpMeaning S) (FieldMeaning S) (ExpMeaning S) (KindMeaning S) (SuffixMeaning S) (VarMeaning S) (BlockMeaning S)
-    (ExpMeaning S) (BodyMeaning S) (ArmMeaning S) (OperationMeaning S) (ExpMeaning S) (ReturnMeaning S) (StatMeaning S)
-    (λ p. exp_layer (meanings Exp-F map-Exp p)) (λ p. field_layer run (meanings Field-F map-Field p)) (λ p. head_layer (meanings Head-F map-Head p))
-    (λ p. kind_layer run (meanings StatKind-F map-StatKind p)) (λ p. suffix_layer run (meanings Suffix-F map-Suffix p)) (λ p. var_layer (meanings Var-F map-Var p))
-    (λ p. block_layer (meanings Block-F map-Block p)) (λ p. call_layer run (meanings Call-F map-Call p)) (λ p. body_layer (meanings FunctionBody-F map-FunctionBody p))
-    (λ p. arm_layer (meanings IfArm-F map-IfArm p)) (λ p. operation_layer (meanings Operation-F map-Operation p)) (λ p. prefix_layer (meanings Prefix-F map-Prefix p))
-    (λ p. return_layer (meanings Return-F map-Return p)) (λ p. stat_layer (meanings Stat-F map-Stat p)) (out-StatKind x)
-
-suffix_is : {S : Type 0} (run : Setting S) (x : Suffix) → (whole run).suffix x ≡ (layered run (whole run)).suffix x
-suffix_is {S} run x = ap (whole run).suffix (sym (roll-out-Suffix x)) ∙ para-roll-Suffix (ExpMeaning S) (FieldMeaning S) (ExpMeaning S) (KindMeaning S) (SuffixMeaning S) (VarMeaning S) (BlockMeaning S)
-    (ExpMeaning S) (BodyMeaning S) (ArmMeaning S) (OperationMeaning S) (ExpMeaning S) (ReturnMeaning S) (StatMeaning S)
-    (λ p. exp_layer (meanings Exp-F map-Exp p)) (λ p. field_layer run (meanings Field-F map-Field p)) (λ p. head_layer (meanings Head-F map-Head p))
-    (λ p. kind_layer run (meanings StatKind-F map-StatKind p)) (λ p. suffix_layer run (meanings Suffix-F map-Suffix p)) (λ p. var_layer (meanings Var-F map-Var p))
-    (λ p. block_layer (meanings Block-F map-Block p)) (λ p. call_layer run (meanings Call-F map-Call p)) (λ p. body_layer (meanings FunctionBody-F map-FunctionBody p))
-    (λ p. arm_layer (meanings IfArm-F map-IfArm p)) (λ p. operation_layer (meanings Operation-F map-Operation p)) (λ p. prefix_layer (meanings Prefix-F map-Prefix p))
-    (λ p. return_layer (meanings Return-F map-Return p)) (λ p. stat_layer (meanings Stat-F map-Stat p)) (out-Suffix x)
-
-var_is : {S : Type 0} (run : Setting S) (x : Var) → (whole run).var x ≡ (layered run (whole run)).var x
-var_is {S} run x = ap (whole run).var (sym (roll-out-Var x)) ∙ para-roll-Var (ExpMeaning S) (FieldMeaning S) (ExpMeaning S) (KindMeaning S) (SuffixMeaning S) (VarMeaning S) (BlockMeaning S)
-    (ExpMeaning S) (BodyMeaning S) (ArmMeaning S) (OperationMeaning S) (ExpMeaning S) (ReturnMeaning S) (StatMeaning S)
-    (λ p. exp_layer (meanings Exp-F map-Exp p)) (λ p. field_layer run (meanings Field-F map-Field p)) (λ p. head_layer (meanings Head-F map-Head p))
-    (λ p. kind_layer run (meanings StatKind-F map-StatKind p)) (λ p. suffix_layer run (meanings Suffix-F map-Suffix p)) (λ p. var_layer (meanings Var-F map-Var p))
-    (λ p. block_layer (meanings Block-F map-Block p)) (λ p. call_layer run (meanings Call-F map-Call p)) (λ p. body_layer (meanings FunctionBody-F map-FunctionBody p))
-    (λ p. arm_layer (meanings IfArm-F map-IfArm p)) (λ p. operation_layer (meanings Operation-F map-Operation p)) (λ p. prefix_layer (meanings Prefix-F map-Prefix p))
-    (λ p. return_layer (meanings Return-F map-Return p)) (λ p. stat_layer (meanings Stat-F map-Stat p)) (out-Var x)
-
-block_is : {S : Type 0} (run : Setting S) (x : Block) → (whole run).block x ≡ (layered run (whole run)).block x
-block_is {S} run x = ap (whole run).block (sym (roll-out-Block x)) ∙ para-roll-Block (ExpMeaning S) (FieldMeaning S) (ExpMeaning S) (KindMeaning S) (SuffixMeaning S) (VarMeaning S) (BlockMeaning S)
-    (ExpMeaning S) (BodyMeaning S) (ArmMeaning S) (OperationMeaning S) (ExpMeaning S) (ReturnMeaning S) (StatMeaning S)
-    (λ p. exp_layer (meanings Exp-F map-Exp p)) (λ p. field_layer run (meanings Field-F map-Field p)) (λ p. head_layer (meanings Head-F map-Head p))
-    (λ p. kind_layer run (meanings StatKind-F map-StatKind p)) (λ p. suffix_layer run (meanings Suffix-F map-Suffix p)) (λ p. var_layer (meanings Var-F map-Var p))
-    (λ p. block_layer (meanings Block-F map-Block p)) (λ p. call_layer run (meanings Call-F map-Call p)) (λ p. body_layer (meanings FunctionBody-F map-FunctionBody p))
-    (λ p. arm_layer (meanings IfArm-F map-IfArm p)) (λ p. operation_layer (meanings Operation-F map-Operation p)) (λ p. prefix_layer (meanings Prefix-F map-Prefix p))
-    (λ p. return_layer (meanings Return-F map-Return p)) (λ p. stat_layer (meanings Stat-F map-Stat p)) (out-Block x)
-
-call_is : {S : Type 0} (run : Setting S) (x : Call) → (whole run).call x ≡ (layered run (whole run)).call x
-call_is {S} run x = ap (whole run).call (sym (roll-out-Call x)) ∙ para-roll-Call (ExpMeaning S) (FieldMeaning S) (ExpMeaning S) (KindMeaning S) (SuffixMeaning S) (VarMeaning S) (BlockMeaning S)
-    (ExpMeaning S) (BodyMeaning S) (ArmMeaning S) (OperationMeaning S) (ExpMeaning S) (ReturnMeaning S) (StatMeaning S)
-    (λ p. exp_layer (meanings Exp-F map-Exp p)) (λ p. field_layer run (meanings Field-F map-Field p)) (λ p. head_layer (meanings Head-F map-Head p))
-    (λ p. kind_layer run (meanings StatKind-F map-StatKind p)) (λ p. suffix_layer run (meanings Suffix-F map-Suffix p)) (λ p. var_layer (meanings Var-F map-Var p))
-    (λ p. block_layer (meanings Block-F map-Block p)) (λ p. call_layer run (meanings Call-F map-Call p)) (λ p. body_layer (meanings FunctionBody-F map-FunctionBody p))
-    (λ p. arm_layer (meanings IfArm-F map-IfArm p)) (λ p. operation_layer (meanings Operation-F map-Operation p)) (λ p. prefix_layer (meanings Prefix-F map-Prefix p))
-    (λ p. return_layer (meanings Return-F map-Return p)) (λ p. stat_layer (meanings Stat-F map-Stat p)) (out-Call x)
-
-body_is : {S : Type 0} (run : Setting S) (x : FunctionBody) → (whole run).body x ≡ (layered run (whole run)).body x
-body_is {S} run x = ap (whole run).body (sym (roll-out-FunctionBody x)) ∙ para-roll-FunctionBody (ExpMeaning S) (FieldMeaning S) (ExpMeaning S) (KindMeaning S) (SuffixMeaning S) (VarMeaning S) (BlockMeaning S)
-    (ExpMeaning S) (BodyMeaning S) (ArmMeaning S) (OperationMeaning S) (ExpMeaning S) (ReturnMeaning S) (StatMeaning S)
-    (λ p. exp_layer (meanings Exp-F map-Exp p)) (λ p. field_layer run (meanings Field-F map-Field p)) (λ p. head_layer (meanings Head-F map-Head p))
-    (λ p. kind_layer run (meanings StatKind-F map-StatKind p)) (λ p. suffix_layer run (meanings Suffix-F map-Suffix p)) (λ p. var_layer (meanings Var-F map-Var p))
-    (λ p. block_layer (meanings Block-F map-Block p)) (λ p. call_layer run (meanings Call-F map-Call p)) (λ p. body_layer (meanings FunctionBody-F map-FunctionBody p))
-    (λ p. arm_layer (meanings IfArm-F map-IfArm p)) (λ p. operation_layer (meanings Operation-F map-Operation p)) (λ p. prefix_layer (meanings Prefix-F map-Prefix p))
-    (λ p. return_layer (meanings Return-F map-Return p)) (λ p. stat_layer (meanings Stat-F map-Stat p)) (out-FunctionBody x)
-
-arm_is : {S : Type 0} (run : Setting S) (x : IfArm) → (whole run).arm x ≡ (layered run (whole run)).arm x
-arm_is {S} run x = ap (whole run).arm (sym (roll-out-IfArm x)) ∙ para-roll-IfArm (ExpMeaning S) (FieldMeaning S) (ExpMeaning S) (KindMeaning S) (SuffixMeaning S) (VarMeaning S) (BlockMeaning S)
-    (ExpMeaning S) (BodyMeaning S) (ArmMeaning S) (OperationMeaning S) (ExpMeaning S) (ReturnMeaning S) (StatMeaning S)
-    (λ p. exp_layer (meanings Exp-F map-Exp p)) (λ p. field_layer run (meanings Field-F map-Field p)) (λ p. head_layer (meanings Head-F map-Head p))
-    (λ p. kind_layer run (meanings StatKind-F map-StatKind p)) (λ p. suffix_layer run (meanings Suffix-F map-Suffix p)) (λ p. var_layer (meanings Var-F map-Var p))
-    (λ p. block_layer (meanings Block-F map-Block p)) (λ p. call_layer run (meanings Call-F map-Call p)) (λ p. body_layer (meanings FunctionBody-F map-FunctionBody p))
-    (λ p. arm_layer (meanings IfArm-F map-IfArm p)) (λ p. operation_layer (meanings Operation-F map-Operation p)) (λ p. prefix_layer (meanings Prefix-F map-Prefix p))
-    (λ p. return_layer (meanings Return-F map-Return p)) (λ p. stat_layer (meanings Stat-F map-Stat p)) (out-IfArm x)
-
-operation_is : {S : Type 0} (run : Setting S) (x : Operation) → (whole run).operation x ≡ (layered run (whole run)).operation x
-operation_is {S} run x = ap (whole run).operation (sym (roll-out-Operation x)) ∙ para-roll-Operation (ExpMeaning S) (FieldMeaning S) (ExpMeaning S) (KindMeaning S) (SuffixMeaning S) (VarMeaning S) (BlockMeaning S)
-    (ExpMeaning S) (BodyMeaning S) (ArmMeaning S) (OperationMeaning S) (ExpMeaning S) (ReturnMeaning S) (StatMeaning S)
-    (λ p. exp_layer (meanings Exp-F map-Exp p)) (λ p. field_layer run (meanings Field-F map-Field p)) (λ p. head_layer (meanings Head-F map-Head p))
-    (λ p. kind_layer run (meanings StatKind-F map-StatKind p)) (λ p. suffix_layer run (meanings Suffix-F map-Suffix p)) (λ p. var_layer (meanings Var-F map-Var p))
-    (λ p. block_layer (meanings Block-F map-Block p)) (λ p. call_layer run (meanings Call-F map-Call p)) (λ p. body_layer (meanings FunctionBody-F map-FunctionBody p))
-    (λ p. arm_layer (meanings IfArm-F map-IfArm p)) (λ p. operation_layer (meanings Operation-F map-Operation p)) (λ p. prefix_layer (meanings Prefix-F map-Prefix p))
-    (λ p. return_layer (meanings Return-F map-Return p)) (λ p. stat_layer (meanings Stat-F map-Stat p)) (out-Operation x)
-
-prefix_is : {S : Type 0} (run : Setting S) (x : Prefix) → (whole run).prefix x ≡ (layered run (whole run)).prefix x
-prefix_is {S} run x = ap (whole run).prefix (sym (roll-out-Prefix x)) ∙ para-roll-Prefix (ExpMeaning S) (FieldMeaning S) (ExpMeaning S) (KindMeaning S) (SuffixMeaning S) (VarMeaning S) (BlockMeaning S)
-    (ExpMeaning S) (BodyMeaning S) (ArmMeaning S) (OperationMeaning S) (ExpMeaning S) (ReturnMeaning S) (StatMeaning S)
-    (λ p. exp_layer (meanings Exp-F map-Exp p)) (λ p. field_layer run (meanings Field-F map-Field p)) (λ p. head_layer (meanings Head-F map-Head p))
-    (λ p. kind_layer run (meanings StatKind-F map-StatKind p)) (λ p. suffix_layer run (meanings Suffix-F map-Suffix p)) (λ p. var_layer (meanings Var-F map-Var p))
-    (λ p. block_layer (meanings Block-F map-Block p)) (λ p. call_layer run (meanings Call-F map-Call p)) (λ p. body_layer (meanings FunctionBody-F map-FunctionBody p))
-    (λ p. arm_layer (meanings IfArm-F map-IfArm p)) (λ p. operation_layer (meanings Operation-F map-Operation p)) (λ p. prefix_layer (meanings Prefix-F map-Prefix p))
-    (λ p. return_layer (meanings Return-F map-Return p)) (λ p. stat_layer (meanings Stat-F map-Stat p)) (out-Prefix x)
-
-ret_is : {S : Type 0} (run : Setting S) (x : Return) → (whole run).ret x ≡ (layered run (whole run)).ret x
-ret_is {S} run x = ap (whole run).ret (sym (roll-out-Return x)) ∙ para-roll-Return (ExpMeaning S) (FieldMeaning S) (ExpMeaning S) (KindMeaning S) (SuffixMeaning S) (VarMeaning S) (BlockMeaning S)
-    (ExpMeaning S) (BodyMeaning S) (ArmMeaning S) (OperationMeaning S) (ExpMeaning S) (ReturnMeaning S) (StatMeaning S)
-    (λ p. exp_layer (meanings Exp-F map-Exp p)) (λ p. field_layer run (meanings Field-F map-Field p)) (λ p. head_layer (meanings Head-F map-Head p))
-    (λ p. kind_layer run (meanings StatKind-F map-StatKind p)) (λ p. suffix_layer run (meanings Suffix-F map-Suffix p)) (λ p. var_layer (meanings Var-F map-Var p))
-    (λ p. block_layer (meanings Block-F map-Block p)) (λ p. call_layer run (meanings Call-F map-Call p)) (λ p. body_layer (meanings FunctionBody-F map-FunctionBody p))
-    (λ p. arm_layer (meanings IfArm-F map-IfArm p)) (λ p. operation_layer (meanings Operation-F map-Operation p)) (λ p. prefix_layer (meanings Prefix-F map-Prefix p))
-    (λ p. return_layer (meanings Return-F map-Return p)) (λ p. stat_layer (meanings Stat-F map-Stat p)) (out-Return x)
-
-stat_is : {S : Type 0} (run : Setting S) (x : Stat) → (whole run).stat x ≡ (layered run (whole run)).stat x
-stat_is {S} run x = ap (whole run).stat (sym (roll-out-Stat x)) ∙ para-roll-Stat (ExpMeaning S) (FieldMeaning S) (ExpMeaning S) (KindMeaning S) (SuffixMeaning S) (VarMeaning S) (BlockMeaning S)
-    (ExpMeaning S) (BodyMeaning S) (ArmMeaning S) (OperationMeaning S) (ExpMeaning S) (ReturnMeaning S) (StatMeaning S)
-    (λ p. exp_layer (meanings Exp-F map-Exp p)) (λ p. field_layer run (meanings Field-F map-Field p)) (λ p. head_layer (meanings Head-F map-Head p))
-    (λ p. kind_layer run (meanings StatKind-F map-StatKind p)) (λ p. suffix_layer run (meanings Suffix-F map-Suffix p)) (λ p. var_layer (meanings Var-F map-Var p))
-    (λ p. block_layer (meanings Block-F map-Block p)) (λ p. call_layer run (meanings Call-F map-Call p)) (λ p. body_layer (meanings FunctionBody-F map-FunctionBody p))
-    (λ p. arm_layer (meanings IfArm-F map-IfArm p)) (λ p. operation_layer (meanings Operation-F map-Operation p)) (λ p. prefix_layer (meanings Prefix-F map-Prefix p))
-    (λ p. return_layer (meanings Return-F map-Return p)) (λ p. stat_layer (meanings Stat-F map-Stat p)) (out-Stat x)
-
-pub whole_is : {S : Type 0} (run : Setting S) → whole run ≡ layered run (whole run)
-whole_is run = λ i. record { exp = λ x. exp_is run x i; field = λ x. field_is run x i; head = λ x. head_is run x i; kind = λ x. kind_is run x i; suffix = λ x. suffix_is run x i; var = λ x. var_is run x i; block = λ x. block_is run x i; call = λ x. call_is run x i; body = λ x. body_is run x i; arm = λ x. arm_is run x i; operation = λ x. operation_is run x i; prefix = λ x. prefix_is run x i; ret = λ x. ret_is run x i; stat = λ x. stat_is run x i }
-
--- so many layers
-abbrev pub unrolled : {S : Type 0} → ℕ → Setting S → Meanings S
-unrolled zero run = whole run
-unrolled (suc n) run = layered run (unrolled n run)
-
-pub unrolled_is : {S : Type 0} (n : ℕ) (run : Setting S) → whole run ≡ unrolled n run
-unrolled_is zero run = refl
-unrolled_is (suc n) run = whole_is run ∙ ap (layered run) (unrolled_is n run)
-
--- bodies of functions alone
-abbrev pub unrolled_body : {S : Type 0} → ℕ → Setting S → FunctionBody → BodyMeaning S
-unrolled_body n run = (unrolled n run).body
-
-pub unrolled_body_is : {S : Type 0} (n : ℕ) → body_meaning {S = S} ≡ unrolled_body n
-unrolled_body_is n = λ i run. (unrolled_is n run i).body
-
--- ---- at a tree made of its layer
 
 pub exp_rolls : {S : Type 0} (run : Setting S) (x : Exp-F Exp Field Head StatKind Suffix Var Block Call FunctionBody IfArm Operation Prefix Return Stat) → (whole run).exp (roll-Exp x) ≡ exp_layer (meanings Exp-F map-Exp (with_trees Exp-F map-Exp (whole run) x))
 exp_rolls {S} run x = para-roll-Exp (ExpMeaning S) (FieldMeaning S) (ExpMeaning S) (KindMeaning S) (SuffixMeaning S) (VarMeaning S) (BlockMeaning S)
