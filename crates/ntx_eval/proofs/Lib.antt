@@ -1,0 +1,9 @@
+pub mod Division
+pub mod Whole
+pub mod Related
+pub mod RelatedParts
+pub mod RelatedStatements
+pub mod RelatedTrees
+pub mod RelatedCalls
+pub mod Steps
+pub mod WorkedProofs

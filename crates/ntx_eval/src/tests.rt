@@ -1,0 +1,5 @@
+//! Worked examples.
+
+mod hosts;
+mod integers;
+mod values;
