@@ -1,0 +1,4 @@
+-- what private calls say among themselves
+pub mod Resolves
+pub mod Bodies
+pub mod Names
