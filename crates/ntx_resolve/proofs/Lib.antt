@@ -1,1 +1,5 @@
 pub mod ScopeLemmas
+pub mod Resolving
+pub mod Lists
+pub mod Excess
+pub mod Arms

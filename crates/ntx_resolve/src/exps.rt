@@ -1,7 +1,7 @@
 //! Expressions.
 
 ghost use Rattle.std.specs.Prelude.{◌≡◌, ◌<◌, ◌≤◌};
-ghost use Rattle.std.specs.List.{AllByRecursion};
+ghost use denote.Param.Weighed.{most};
 ghost use Rattle.ntx_syntax.specs.declared.tree.Block.{size-Block};
 ghost use Rattle.ntx_syntax.specs.declared.tree.Exp.{size-Exp};
 ghost use Rattle.ntx_syntax.specs.declared.tree.Field.{size-Field};
@@ -12,7 +12,7 @@ ghost use Rattle.ntx_resolve.specs.inner.Bodies.{Bodies};
 ghost use Rattle.ntx_resolve.specs.inner.Resolves.{Resolves};
 
 use crate::code::{Exp, Function, Operation, Prefix};
-use crate::names::copied;
+use crate::names::{copied, integer};
 use crate::resolver::Resolver;
 use crate::scope::Scope;
 use ntx_num::Fail;
@@ -41,7 +41,7 @@ impl<
             tree::Exp::Nil => Ok(Exp::Nil),
             tree::Exp::False => Ok(Exp::False),
             tree::Exp::True => Ok(Exp::True),
-            tree::Exp::Numeral(value) => Ok(Exp::Numeral(*value)),
+            tree::Exp::Numeral(value) => Ok(Exp::Numeral(integer(value))),
             tree::Exp::Text(bytes) => Ok(Exp::Text(copied(self.alloc, bytes)?)),
             tree::Exp::Function(body) => {
                 let number = self.function(functions, scope, body.get())?;
@@ -93,7 +93,7 @@ impl<
         exps: &[tree::Exp],
     ) -> Result<Items<Exp>, Fail<SyntaxFault>>
         requires bodies { Bodies (size-Block self.now.within.now) (F.pre self.now.body) (F.post self.now.body) }
-        requires small { AllByRecursion (λ x. size-Exp x < size-Block self.now.within.now) exps.now }
+        requires small { most size-Exp exps.now < size-Block self.now.within.now }
         ensures { Resolves (limit.excess_of_exps exps.now) (λ all c. code.IsExps all scope.now exps.now c) functions.old result functions.new }
     {
         let mut codes = Items::new(self.alloc);
@@ -112,7 +112,7 @@ impl<
         operations: &[tree::Operation],
     ) -> Result<Items<Operation>, Fail<SyntaxFault>>
         requires bodies { Bodies (size-Block self.now.within.now) (F.pre self.now.body) (F.post self.now.body) }
-        requires small { AllByRecursion (λ x. size-Operation x < size-Block self.now.within.now) operations.now }
+        requires small { most size-Operation operations.now < size-Block self.now.within.now }
         ensures { Resolves (limit.excess_of_operations operations.now) (λ all c. code.IsOperations all scope.now operations.now c) functions.old result functions.new }
     {
         let mut codes = Items::new(self.alloc);

@@ -44,3 +44,10 @@ pub fn copied_names(alloc: Global, names: &[Name]) -> Result<Items<Name>, AllocE
     }
     Ok(copy)
 }
+
+/// A copy of the value of a numeral.
+pub fn integer(value: &i64) -> i64
+    ensures { result ≡ value.now }
+{
+    *value
+}

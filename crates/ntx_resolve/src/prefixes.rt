@@ -1,7 +1,7 @@
 //! Variables, calls and parenthesized expressions.
 
 ghost use Rattle.std.specs.Prelude.{◌≡◌, ◌<◌, ◌≤◌};
-ghost use Rattle.std.specs.List.{AllByRecursion};
+ghost use denote.Param.Weighed.{most};
 ghost use Rattle.ntx_syntax.specs.declared.tree.Block.{size-Block};
 ghost use Rattle.ntx_syntax.specs.declared.tree.Exp.{size-Exp};
 ghost use Rattle.ntx_syntax.specs.declared.tree.Head.{size-Head};
@@ -59,7 +59,7 @@ impl<
         suffixes: &[tree::Suffix],
     ) -> Result<Items<Suffix>, Fail<SyntaxFault>>
         requires bodies { Bodies (size-Block self.now.within.now) (F.pre self.now.body) (F.post self.now.body) }
-        requires small { AllByRecursion (λ x. size-Suffix x < size-Block self.now.within.now) suffixes.now }
+        requires small { most size-Suffix suffixes.now < size-Block self.now.within.now }
         ensures { Resolves (limit.excess_of_suffixes suffixes.now) (λ all c. code.IsSuffixes all scope.now suffixes.now c) functions.old result functions.new }
     {
         let mut codes = Items::new(self.alloc);

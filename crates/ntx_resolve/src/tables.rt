@@ -1,7 +1,7 @@
 //! Tables.
 
 ghost use Rattle.std.specs.Prelude.{◌≡◌, ◌<◌, ◌≤◌};
-ghost use Rattle.std.specs.List.{AllByRecursion};
+ghost use denote.Param.Weighed.{most};
 ghost use Rattle.ntx_syntax.specs.declared.tree.Block.{size-Block};
 ghost use Rattle.ntx_syntax.specs.declared.tree.Exp.{size-Exp};
 ghost use Rattle.ntx_syntax.specs.declared.tree.Field.{size-Field};
@@ -33,7 +33,7 @@ impl<
         fields: &[tree::Field],
     ) -> Result<Items<Field>, Fail<SyntaxFault>>
         requires bodies { Bodies (size-Block self.now.within.now) (F.pre self.now.body) (F.post self.now.body) }
-        requires small { AllByRecursion (λ x. size-Field x < size-Block self.now.within.now) fields.now }
+        requires small { most size-Field fields.now < size-Block self.now.within.now }
         ensures { Resolves (limit.excess_of_fields fields.now) (λ all c. code.IsFields all scope.now fields.now c) functions.old result functions.new }
     {
         let mut codes = Items::new(self.alloc);
