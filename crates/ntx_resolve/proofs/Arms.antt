@@ -4,9 +4,11 @@ use Rattle.ntx_num.specs.declared.answer.Fail.{Fail}
 use Rattle.ntx_syntax.specs.declared.fault.SyntaxFault.{SyntaxFault}
 use Rattle.ntx_resolve.specs.declared.code.Function.{Function}
 use Rattle.ntx_resolve.specs.Scopes.{Scope}
-use Rattle.ntx_resolve.specs.HasCode.{IsExp, IsField, IsHead, IsSuffix}
-use Rattle.ntx_resolve.specs.Limit.{excess_of_exp, excess_of_field, excess_of_head, excess_of_suffix}
+use Rattle.ntx_resolve.specs.HasCode.{IsExp, IsField, IsHead, IsSuffix, IsVar}
+use Rattle.ntx_resolve.specs.Limit.{excess_of_exp, excess_of_field, excess_of_head, excess_of_suffix, excess_of_var}
 use Rattle.ntx_resolve.specs.inner.Resolves.{Resolves}
+use Rattle.ntx_syntax.specs.declared.tree.Var as tree-var
+use Rattle.ntx_resolve.specs.declared.code.Var.{Var}
 use Rattle.ntx_syntax.specs.declared.tree.Operation as tree-operation
 use Rattle.ntx_resolve.specs.declared.code.Operation.{Operation}
 use Rattle.ntx_syntax.specs.declared.tree.Exp as tree-Exp
@@ -36,3 +38,7 @@ in_suffix {s} {old = old} {new = new} {r = r} is h = subst (λ e. Resolves (exce
 
 abbrev pub IsOperation : List Function → Scope → tree-operation.Operation → Operation → Type 0
 IsOperation all s o c = (c.operator ≡ o.operator) × IsExp all s o.operand c.operand
+
+pub in_var : {s : Scope} {e e2 : tree-var.Var} {old new : List Function} {r : Result Var (Fail SyntaxFault)} → e ≡ e2
+    → Resolves (excess_of_var e2) (λ all c. IsVar all s e2 c) old r new → Resolves (excess_of_var e) (λ all c. IsVar all s e c) old r new
+in_var {s} {old = old} {new = new} {r = r} is h = subst (λ e. Resolves (excess_of_var e) (λ all c. IsVar all s e c) old r new) (sym is) h

@@ -1,5 +1,8 @@
 pub mod ScopeLemmas
+pub mod RoomLemmas
 pub mod Resolving
+pub mod Allowing
 pub mod Lists
 pub mod Excess
+pub mod StatExcess
 pub mod Arms

@@ -42,6 +42,10 @@ abbrev pub first_of : Option (Option ℕ) → Option ℕ
 first_of None = None
 first_of (Some o) = o
 
+abbrev pub in_else : Option (ℕ → Option ℕ) → ℕ → Option ℕ
+in_else None n = None
+in_else (Some o) n = o n
+
 -- The first of these names that is one too many, if this many are in scope already.
 abbrev pub excess_of_names : ℕ → List LocalName → Option ℕ
 excess_of_names n [] = None
@@ -65,9 +69,9 @@ pub record Declaring : Type 0 where
 abbrev declaring_none : Outer → Declaring
 declaring_none excess = record { excess = excess; declares = 0 }
 
-abbrev pub excess_of_stats : ℕ → List Declaring → Option ℕ → Option ℕ
-excess_of_stats n [] last = last
-excess_of_stats n (s ∷ ss) last = or_else (s.excess n) (excess_of_stats (n + s.declares) ss last)
+abbrev pub excess_of_each : ℕ → List Declaring → Option ℕ
+excess_of_each n [] = None
+excess_of_each n (s ∷ ss) = or_else (s.excess n) (excess_of_each (n + s.declares) ss)
 
 abbrev pub exp_layer : Exp-F Inner Inner Inner Declaring Inner Inner Outer Inner Inner Outer Inner Inner Inner Declaring → Inner
 exp_layer (Exp-F.Exp::Function body) = body
@@ -92,8 +96,7 @@ kind_layer (StatKind-F.StatKind::Call call) = declaring_none (λ n. call)
 kind_layer (StatKind-F.Do block) = declaring_none block
 kind_layer (StatKind-F.While condition block) = declaring_none (λ n. or_else condition (block n))
 kind_layer (StatKind-F.Repeat block condition) = declaring_none (λ n. or_else (block n) condition)
-kind_layer (StatKind-F.If arms None) = declaring_none (λ n. first (map (λ a. a n) arms))
-kind_layer (StatKind-F.If arms (Some other)) = declaring_none (λ n. or_else (first (map (λ a. a n) arms)) (other n))
+kind_layer (StatKind-F.If arms other) = declaring_none (λ n. or_else (first (map (λ a. a n) arms)) (in_else other n))
 kind_layer (StatKind-F.NumericFor name from limit step block) =
     declaring_none (λ n. or_else (excess_of_names n (name ∷ [])) (or_else from (or_else limit (or_else (first_of step) (block (n + 1))))))
 kind_layer (StatKind-F.GenericFor names values block) =
@@ -114,7 +117,7 @@ var_layer (Var-F.Var::Index p key) = or_else p key
 var_layer (Var-F.Var::Field p name) = p
 
 abbrev pub block_layer : Block-F Inner Inner Inner Declaring Inner Inner Outer Inner Inner Outer Inner Inner Inner Declaring → Outer
-block_layer b n = excess_of_stats n b.stats (first_of b.last)
+block_layer b n = or_else (excess_of_each n b.stats) (first_of b.last)
 
 abbrev pub call_layer : Call-F Inner Inner Inner Declaring Inner Inner Outer Inner Inner Outer Inner Inner Inner Declaring → Inner
 call_layer c = or_else c.function (first c.arguments)
@@ -212,6 +215,21 @@ excess_of_vars vs = first (map excess_of_var vs)
 
 abbrev pub excess_of_arms : List IfArm → ℕ → Option ℕ
 excess_of_arms arms n = first (map (λ a. excess_of_arm a n) arms)
+
+abbrev pub excess_of_stats : ℕ → List Stat → Option ℕ
+excess_of_stats n ss = excess_of_each n (map of_stat ss)
+
+abbrev pub excess_of_last : Option Return → Option ℕ
+excess_of_last None = None
+excess_of_last (Some r) = excess_of_return r
+
+abbrev pub excess_of_step : Option Exp → Option ℕ
+excess_of_step None = None
+excess_of_step (Some e) = excess_of_exp e
+
+abbrev pub excess_of_else : Option Block → ℕ → Option ℕ
+excess_of_else None n = None
+excess_of_else (Some b) n = excess_of_block b n
 
 abbrev pub excess_of_chunk : Chunk → Option ℕ
 excess_of_chunk chunk = excess_of_block chunk.block 0

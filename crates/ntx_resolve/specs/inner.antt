@@ -2,3 +2,4 @@
 pub mod Resolves
 pub mod Bodies
 pub mod Names
+pub mod Allows

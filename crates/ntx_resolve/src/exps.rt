@@ -12,7 +12,7 @@ ghost use Rattle.ntx_resolve.specs.inner.Bodies.{Bodies};
 ghost use Rattle.ntx_resolve.specs.inner.Resolves.{Resolves};
 
 use crate::code::{Exp, Function, Operation, Prefix};
-use crate::names::{copied, integer};
+use crate::names::{copied, numeral};
 use crate::resolver::Resolver;
 use crate::scope::Scope;
 use ntx_num::Fail;
@@ -41,7 +41,7 @@ impl<
             tree::Exp::Nil => Ok(Exp::Nil),
             tree::Exp::False => Ok(Exp::False),
             tree::Exp::True => Ok(Exp::True),
-            tree::Exp::Numeral(value) => Ok(Exp::Numeral(integer(value))),
+            tree::Exp::Numeral(value) => Ok(numeral(value)),
             tree::Exp::Text(bytes) => Ok(Exp::Text(copied(self.alloc, bytes)?)),
             tree::Exp::Function(body) => {
                 let number = self.function(functions, scope, body.get())?;

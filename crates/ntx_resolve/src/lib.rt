@@ -1,6 +1,8 @@
 //! Names resolved.
 #![tactic(auto)]
 
+mod assignments;
+mod bindings;
 mod code;
 mod exps;
 mod names;

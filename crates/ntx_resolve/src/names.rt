@@ -1,7 +1,9 @@
-//! Names and texts.
+//! Names, texts and numerals.
 
 ghost use Rattle.std.specs.Prelude.{◌≡◌, IfOk};
+ghost use Rattle.ntx_resolve.specs.declared.code.Exp.TheVariants as exp;
 
+use crate::code::Exp;
 use ntx_syntax::{LocalName, Name};
 use sqlite_items::Items;
 use std::alloc::{AllocError, Global};
@@ -45,9 +47,9 @@ pub fn copied_names(alloc: Global, names: &[Name]) -> Result<Items<Name>, AllocE
     Ok(copy)
 }
 
-/// A copy of the value of a numeral.
-pub fn integer(value: &i64) -> i64
-    ensures { result ≡ value.now }
+/// A numeral of this value.
+pub fn numeral(value: &i64) -> Exp
+    ensures { result ≡ exp.Numeral value.now }
 {
-    *value
+    Exp::Numeral(*value)
 }

@@ -1,14 +1,32 @@
 //! The names in scope.
 
-ghost use Rattle.std.specs.Prelude.{◌≡◌, ◌≤◌, ◌<◌, ◌-◌, length, slice_get, Some, ◌≢◌, ℕ, MatchOption, OnOk, IfOk};
+ghost use Rattle.std.specs.Prelude.{◌∷◌, [], ◌≡◌, ◌≤◌, ◌<◌, ◌-◌, length, slice_get, Some, ◌≢◌, ℕ, MatchOption, OnOk, IfOk};
 ghost use Rattle.std.specs.Bool.{Decides};
+ghost use Rattle.ntx_num.specs.declared.answer.Fail.TheVariants.{Is};
+ghost use Rattle.ntx_syntax.specs.declared.fault.SyntaxWhy.TheVariants.{Locals};
+ghost use Rattle.ntx_resolve.specs.Limit.{excess_of_names};
 ghost use Rattle.ntx_resolve.specs.Scopes as scopes;
 ghost use Rattle.ntx_resolve.specs.Scopes.{IsVariable, IsLast};
+ghost use Rattle.ntx_resolve.specs.inner.Allows.{Allows};
 
 use crate::code::Variable;
-use ntx_syntax::{LocalName, Name};
+use ntx_num::Fail;
+use ntx_syntax::{LocalName, Name, SyntaxFault, SyntaxWhy};
 use std::alloc::{AllocError, Global};
 use std::marker::Model;
+
+/// How many named local variables of one function can be in scope at once.
+const MAX_LOCALS: usize = 200;
+
+/// The fault of a name that is one too many.
+fn too_many(local: &LocalName) -> Fail<SyntaxFault>
+    ensures { result ≡ Is (record { line = local.now.line; why = Locals }) }
+{
+    Fail::Is(SyntaxFault {
+        line: local.line,
+        why: SyntaxWhy::Locals,
+    })
+}
 
 /// The names in scope at a place of a script.
 #[derive(Drop)]
@@ -43,12 +61,23 @@ impl<'a> Scope<'a> {
     }
 
     /// The scope in a function that is made in this one.
-    pub fn inside(&self, alloc: Global) -> Result<Scope<'a>, AllocError>
+    pub fn inside(&self) -> Result<Scope<'a>, AllocError>
         ensures { IfOk result (λ scope. scope ≡ scopes.enter self.now) }
     {
         let names = self.names.clone()?;
         let from = names.len();
         Ok(Scope { names, from })
+    }
+
+    /// A copy of the scope.
+    pub fn copy(&self) -> Result<Scope<'a>, AllocError>
+        ensures { IfOk result (λ scope. scope ≡ self.now) }
+    {
+        let names = self.names.clone()?;
+        Ok(Scope {
+            names,
+            from: self.from,
+        })
     }
 
     /// Which variable the name is.
@@ -99,17 +128,50 @@ impl<'a> Scope<'a> {
         Ok(())
     }
 
-    /// How many names are in scope.
-    pub fn len(&self) -> usize
-        ensures { result ≡ length self.now.names }
+    /// Declares this name.
+    pub fn declare_one(&mut self, local: &'a LocalName) -> Result<(), AllocError>
+        ensures { OnOk result (self.new ≡ scopes.declare self.old (local.now ∷ [])) }
     {
-        self.names.len()
+        self.names.push(local.name.as_slice())?;
+        Ok(())
     }
 
     /// How many names of the function itself are in scope.
-    pub fn locals(&self) -> usize
+    fn locals(&self) -> usize
         ensures { result ≡ scopes.locals self.now }
     {
         self.names.len() - self.from
+    }
+
+    /// Whether these names can be declared.
+    ///
+    /// # Refusals
+    ///
+    /// Locals, with the line of the first of them that would be the 201st name of the function in scope.
+    pub fn has_room_for(&self, names: &[LocalName]) -> Result<(), Fail<SyntaxFault>>
+        ensures { Allows (excess_of_names (scopes.locals self.now) names.now) result }
+    {
+        let mut count = self.locals();
+        for local in names {
+            if count >= MAX_LOCALS {
+                return Err(too_many(local));
+            }
+            count += 1;
+        }
+        Ok(())
+    }
+
+    /// Whether this name can be declared.
+    ///
+    /// # Refusals
+    ///
+    /// Locals, with its line, if it would be the 201st name of the function in scope.
+    pub fn has_room_for_one(&self, local: &LocalName) -> Result<(), Fail<SyntaxFault>>
+        ensures { Allows (excess_of_names (scopes.locals self.now) (local.now ∷ [])) result }
+    {
+        if self.locals() >= MAX_LOCALS {
+            return Err(too_many(local));
+        }
+        Ok(())
     }
 }

@@ -34,7 +34,7 @@ pub exp-returns-in-True : goal.exp-returns-in-True
 exp-returns-in-True g t c = in_exp c.in-True.is (said excess.true_ (done (λ all more. code.true_)))
 
 pub exp-returns-in-Numeral : goal.exp-returns-in-Numeral
-exp-returns-in-Numeral g t c = in_exp c.in-Numeral.is (said (excess.numeral c.in-Numeral.value) (done (λ all more. subst (λ z. code.IsExp all c.args.scope.now (exp.Numeral c.in-Numeral.value) (code-exp.Numeral z)) (sym c.integer.ensures) code.numeral)))
+exp-returns-in-Numeral g t c = in_exp c.in-Numeral.is (said (excess.numeral c.in-Numeral.value) (done (λ all more. subst (λ z. code.IsExp all c.args.scope.now (exp.Numeral c.in-Numeral.value) z) (sym c.numeral.ensures) code.numeral)))
 
 pub exp-returns-in_err-copied-in-Text : goal.exp-returns-in_err-copied-in-Text
 exp-returns-in_err-copied-in-Text g t c = no_memory_by _ c.from_residual.ensures.1
@@ -136,13 +136,13 @@ pub exps-loop-exp-init : goal.exps-loop-exp-init
 exps-loop-exp-init g t c = begun limit.excess_of_exp (λ all xs cs. code.IsExps all c.args.scope.now xs cs) c.args.exps.now _ c.new-codes.ensures
 
 pub exps-returns-in_err-exp : goal.exps-returns-in_err-exp
-exps-returns-in_err-exp g t c = failed_at limit.excess_of_exp (λ all xs cs. code.IsExps all c.args.scope.now xs cs) (λ all x y. code.IsExp all c.args.scope.now x y) c.args.exps.now c.loop-exp.exp-index c.exp-item.result.now c.loop-exp.codes _ c.exp-item.is c.loop-exp-test.true c.loop-exp.invariant c.from_residual.ensures.1 c.in_err-exp.ensures
+exps-returns-in_err-exp g t c = failed_at limit.excess_of_exp (λ all xs cs. code.IsExps all c.args.scope.now xs cs) (λ all x y. code.IsExp all c.args.scope.now x y) c.args.exps.now c.loop-exp.exp-index c.exp-item.result c.loop-exp.codes _ c.exp-item.is c.loop-exp-test.true c.loop-exp.invariant c.from_residual.ensures.1 c.in_err-exp.ensures
 
 pub exps-returns-in_err-push : goal.exps-returns-in_err-push
 exps-returns-in_err-push g t c = no_memory_by _ c.from_residual-in_err-push.ensures.1
 
 pub exps-loop-exp-preserved : goal.exps-loop-exp-preserved
-exps-loop-exp-preserved g t c = gone_on_at limit.excess_of_exp (λ all xs cs. code.IsExps all c.args.scope.now xs cs) (λ all x y. code.IsExp all c.args.scope.now x y) c.args.exps.now c.loop-exp.exp-index c.exp-item.result.now c.loop-exp.codes c.push.new.self (λ all left x xs is are. code.next_exp is are) c.exp-item.is c.loop-exp-test.true c.loop-exp.invariant c.in_ok-exp.ensures c.in_ok-push.ensures.ok
+exps-loop-exp-preserved g t c = gone_on_at limit.excess_of_exp (λ all xs cs. code.IsExps all c.args.scope.now xs cs) (λ all x y. code.IsExp all c.args.scope.now x y) c.args.exps.now c.loop-exp.exp-index c.exp-item.result c.loop-exp.codes c.push.new.self (λ all left x xs is are. code.next_exp is are) c.exp-item.is c.loop-exp-test.true c.loop-exp.invariant c.in_ok-exp.ensures c.in_ok-push.ensures.ok
 
 pub exps-returns : goal.exps-returns
 exps-returns g t c = ended_at limit.excess_of_exp (λ all xs cs. code.IsExps all c.args.scope.now xs cs) c.args.exps.now c.loop-exp.exp-index c.loop-exp.codes (λ all. code.no_exps) c.loop-exp-test.false c.loop-exp.invariant
@@ -151,13 +151,13 @@ pub fields-loop-field-init : goal.fields-loop-field-init
 fields-loop-field-init g t c = begun limit.excess_of_field (λ all xs cs. code.IsFields all c.args.scope.now xs cs) c.args.fields.now _ c.new-codes.ensures
 
 pub fields-returns-in_err-field : goal.fields-returns-in_err-field
-fields-returns-in_err-field g t c = failed_at limit.excess_of_field (λ all xs cs. code.IsFields all c.args.scope.now xs cs) (λ all x y. code.IsField all c.args.scope.now x y) c.args.fields.now c.loop-field.field-index c.field-item.result.now c.loop-field.codes _ c.field-item.is c.loop-field-test.true c.loop-field.invariant c.from_residual.ensures.1 c.in_err-field.ensures
+fields-returns-in_err-field g t c = failed_at limit.excess_of_field (λ all xs cs. code.IsFields all c.args.scope.now xs cs) (λ all x y. code.IsField all c.args.scope.now x y) c.args.fields.now c.loop-field.field-index c.field-item.result c.loop-field.codes _ c.field-item.is c.loop-field-test.true c.loop-field.invariant c.from_residual.ensures.1 c.in_err-field.ensures
 
 pub fields-returns-in_err-push : goal.fields-returns-in_err-push
 fields-returns-in_err-push g t c = no_memory_by _ c.from_residual-in_err-push.ensures.1
 
 pub fields-loop-field-preserved : goal.fields-loop-field-preserved
-fields-loop-field-preserved g t c = gone_on_at limit.excess_of_field (λ all xs cs. code.IsFields all c.args.scope.now xs cs) (λ all x y. code.IsField all c.args.scope.now x y) c.args.fields.now c.loop-field.field-index c.field-item.result.now c.loop-field.codes c.push.new.self (λ all left x xs is are. code.next_field is are) c.field-item.is c.loop-field-test.true c.loop-field.invariant c.in_ok-field.ensures c.in_ok-push.ensures.ok
+fields-loop-field-preserved g t c = gone_on_at limit.excess_of_field (λ all xs cs. code.IsFields all c.args.scope.now xs cs) (λ all x y. code.IsField all c.args.scope.now x y) c.args.fields.now c.loop-field.field-index c.field-item.result c.loop-field.codes c.push.new.self (λ all left x xs is are. code.next_field is are) c.field-item.is c.loop-field-test.true c.loop-field.invariant c.in_ok-field.ensures c.in_ok-push.ensures.ok
 
 pub fields-returns : goal.fields-returns
 fields-returns g t c = ended_at limit.excess_of_field (λ all xs cs. code.IsFields all c.args.scope.now xs cs) c.args.fields.now c.loop-field.field-index c.loop-field.codes (λ all. code.no_fields) c.loop-field-test.false c.loop-field.invariant
@@ -166,13 +166,13 @@ pub suffixes-loop-suffix-init : goal.suffixes-loop-suffix-init
 suffixes-loop-suffix-init g t c = begun limit.excess_of_suffix (λ all xs cs. code.IsSuffixes all c.args.scope.now xs cs) c.args.suffixes.now _ c.new-codes.ensures
 
 pub suffixes-returns-in_err-suffix : goal.suffixes-returns-in_err-suffix
-suffixes-returns-in_err-suffix g t c = failed_at limit.excess_of_suffix (λ all xs cs. code.IsSuffixes all c.args.scope.now xs cs) (λ all x y. code.IsSuffix all c.args.scope.now x y) c.args.suffixes.now c.loop-suffix.suffix-index c.suffix-item.result.now c.loop-suffix.codes _ c.suffix-item.is c.loop-suffix-test.true c.loop-suffix.invariant c.from_residual.ensures.1 c.in_err-suffix.ensures
+suffixes-returns-in_err-suffix g t c = failed_at limit.excess_of_suffix (λ all xs cs. code.IsSuffixes all c.args.scope.now xs cs) (λ all x y. code.IsSuffix all c.args.scope.now x y) c.args.suffixes.now c.loop-suffix.suffix-index c.suffix-item.result c.loop-suffix.codes _ c.suffix-item.is c.loop-suffix-test.true c.loop-suffix.invariant c.from_residual.ensures.1 c.in_err-suffix.ensures
 
 pub suffixes-returns-in_err-push : goal.suffixes-returns-in_err-push
 suffixes-returns-in_err-push g t c = no_memory_by _ c.from_residual-in_err-push.ensures.1
 
 pub suffixes-loop-suffix-preserved : goal.suffixes-loop-suffix-preserved
-suffixes-loop-suffix-preserved g t c = gone_on_at limit.excess_of_suffix (λ all xs cs. code.IsSuffixes all c.args.scope.now xs cs) (λ all x y. code.IsSuffix all c.args.scope.now x y) c.args.suffixes.now c.loop-suffix.suffix-index c.suffix-item.result.now c.loop-suffix.codes c.push.new.self (λ all left x xs is are. code.next_suffix is are) c.suffix-item.is c.loop-suffix-test.true c.loop-suffix.invariant c.in_ok-suffix.ensures c.in_ok-push.ensures.ok
+suffixes-loop-suffix-preserved g t c = gone_on_at limit.excess_of_suffix (λ all xs cs. code.IsSuffixes all c.args.scope.now xs cs) (λ all x y. code.IsSuffix all c.args.scope.now x y) c.args.suffixes.now c.loop-suffix.suffix-index c.suffix-item.result c.loop-suffix.codes c.push.new.self (λ all left x xs is are. code.next_suffix is are) c.suffix-item.is c.loop-suffix-test.true c.loop-suffix.invariant c.in_ok-suffix.ensures c.in_ok-push.ensures.ok
 
 pub suffixes-returns : goal.suffixes-returns
 suffixes-returns g t c = ended_at limit.excess_of_suffix (λ all xs cs. code.IsSuffixes all c.args.scope.now xs cs) c.args.suffixes.now c.loop-suffix.suffix-index c.loop-suffix.codes (λ all. code.no_suffixes) c.loop-suffix-test.false c.loop-suffix.invariant
@@ -181,13 +181,13 @@ pub operations-loop-operation-init : goal.operations-loop-operation-init
 operations-loop-operation-init g t c = begun limit.excess_of_operation (λ all xs cs. code.IsOperations all c.args.scope.now xs cs) c.args.operations.now _ c.new-codes.ensures
 
 pub operations-returns-in_err-operand : goal.operations-returns-in_err-operand
-operations-returns-in_err-operand g t c = failed_at limit.excess_of_operation (λ all xs cs. code.IsOperations all c.args.scope.now xs cs) (λ all x y. IsOperation all c.args.scope.now x y) c.args.operations.now c.loop-operation.operation-index c.operation-item.result.now c.loop-operation.codes _ c.operation-item.is c.loop-operation-test.true c.loop-operation.invariant c.from_residual.ensures.1 (said (excess.operation c.operation-item.result.now) (last_err c.in_err-operand.ensures))
+operations-returns-in_err-operand g t c = failed_at limit.excess_of_operation (λ all xs cs. code.IsOperations all c.args.scope.now xs cs) (λ all x y. IsOperation all c.args.scope.now x y) c.args.operations.now c.loop-operation.operation-index c.operation-item.result c.loop-operation.codes _ c.operation-item.is c.loop-operation-test.true c.loop-operation.invariant c.from_residual.ensures.1 (said (excess.operation c.operation-item.result) (last_err c.in_err-operand.ensures))
 
 pub operations-returns-in_err-push : goal.operations-returns-in_err-push
 operations-returns-in_err-push g t c = no_memory_by _ c.from_residual-in_err-push.ensures.1
 
 pub operations-loop-operation-preserved : goal.operations-loop-operation-preserved
-operations-loop-operation-preserved g t c = gone_on_at limit.excess_of_operation (λ all xs cs. code.IsOperations all c.args.scope.now xs cs) (λ all x y. IsOperation all c.args.scope.now x y) c.args.operations.now c.loop-operation.operation-index c.operation-item.result.now c.loop-operation.codes c.push.new.self (λ all left x xs is are. code.next_operation is.0 is.1 are) c.operation-item.is c.loop-operation-test.true c.loop-operation.invariant (said (excess.operation c.operation-item.result.now) (last c.in_ok-operand.ensures (λ all more is. (refl, is)))) c.in_ok-push.ensures.ok
+operations-loop-operation-preserved g t c = gone_on_at limit.excess_of_operation (λ all xs cs. code.IsOperations all c.args.scope.now xs cs) (λ all x y. IsOperation all c.args.scope.now x y) c.args.operations.now c.loop-operation.operation-index c.operation-item.result c.loop-operation.codes c.push.new.self (λ all left x xs is are. code.next_operation is.0 is.1 are) c.operation-item.is c.loop-operation-test.true c.loop-operation.invariant (said (excess.operation c.operation-item.result) (last c.in_ok-operand.ensures (λ all more is. (refl, is)))) c.in_ok-push.ensures.ok
 
 pub operations-returns : goal.operations-returns
 operations-returns g t c = ended_at limit.excess_of_operation (λ all xs cs. code.IsOperations all c.args.scope.now xs cs) c.args.operations.now c.loop-operation.operation-index c.loop-operation.codes (λ all. code.no_operations) c.loop-operation-test.false c.loop-operation.invariant
