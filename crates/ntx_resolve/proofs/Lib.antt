@@ -1,5 +1,4 @@
 pub mod ScopeLemmas
-pub mod RoomLemmas
 pub mod Resolving
 pub mod Allowing
 pub mod Lists
