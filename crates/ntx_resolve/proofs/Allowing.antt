@@ -10,16 +10,16 @@ use Rattle.ntx_resolve.specs.inner.Allows.{Allows}
 use Rattle.ntx_resolve.specs.inner.Resolves.{Resolves, refused}
 use Rattle.ntx_resolve.proofs.Resolving.{said}
 
-pub allowed : {A : Type 0} {l m : Option ℕ} {u : Unit {0}} {is : List Function → A → Type 0} {old new : List Function} {r : Result A (Fail SyntaxFault)}
-    → Allows l (Ok u) → Resolves m is old r new → Resolves (or_else l m) is old r new
+pub allowed : {A : Type 0} {l m : Option ℕ} {is : List Function → A → Type 0} {old new : List Function} {r : Result A (Fail SyntaxFault)}
+    → l ≡ None → Resolves m is old r new → Resolves (or_else l m) is old r new
 allowed {m = m} none h = said (ap (λ x. or_else x m) none) h
 
-not_allowed_with : {A : Type 0} {l : Option ℕ} (m : Option ℕ) {is : List Function → A → Type 0} (e : Fail SyntaxFault) {old new : List Function}
+not_allowed_with : {A : Type 0} (l m : Option ℕ) {is : List Function → A → Type 0} (e : Fail SyntaxFault) {old new : List Function}
     → Allows l (Err e) → Resolves (or_else l m) is old (Err e) new
-not_allowed_with m (Is fault) h = refused (ap (λ x. or_else x m) h.0 ) h.1
-not_allowed_with m NoMemory h = absurd h
+not_allowed_with l m (Is fault) h = refused (ap (λ x. or_else x m) h.0) h.1
+not_allowed_with l m NoMemory h = absurd h
 
-pub not_allowed : {A : Type 0} {l : Option ℕ} (m : Option ℕ) {is : List Function → A → Type 0} {e : Fail SyntaxFault} {old new : List Function}
+pub not_allowed : {A : Type 0} (l m : Option ℕ) {is : List Function → A → Type 0} (e : Fail SyntaxFault) {old new : List Function}
     (r : Result A (Fail SyntaxFault)) → IsErrAnd r (λ y. y ≡ e) → Allows l (Err e) → Resolves (or_else l m) is old r new
-not_allowed m (Ok b) by h = absurd by
-not_allowed m {e = e} (Err y) by h = rw by (not_allowed_with m e h)
+not_allowed l m e (Ok b) by h = absurd by
+not_allowed l m e (Err y) by h = rw by (not_allowed_with l m e h)

@@ -1,6 +1,6 @@
 //! The variables of code as a text: `L`, `U` or `G`, and the place of a local or an upvalue.
 
-use crate::code::{Exp, Head, StatKind, Var, Variable};
+use crate::code::{Exp, Head, Variable};
 use std::alloc::{AllocError, Global};
 
 /// What was shown so far.
@@ -25,7 +25,8 @@ impl Shown {
         Ok(())
     }
 
-    fn variable(&mut self, variable: Variable) -> Result<(), AllocError> {
+    /// A variable.
+    pub fn variable(&mut self, variable: Variable) -> Result<(), AllocError> {
         match variable {
             Variable::Local(place) => self.placed(b'L', place),
             Variable::Upvalue(place) => self.placed(b'U', place),
@@ -37,7 +38,7 @@ impl Shown {
     }
 
     /// What the heads of these are.
-    fn values(&mut self, values: &[Exp]) -> Result<(), AllocError> {
+    pub fn values(&mut self, values: &[Exp]) -> Result<(), AllocError> {
         for value in values {
             if let Exp::Prefix(prefix) = value {
                 if let Head::Name(_, variable) = &prefix.head {
@@ -45,30 +46,6 @@ impl Shown {
                 }
             }
         }
-        Ok(())
-    }
-
-    fn vars(&mut self, vars: &[Var]) -> Result<(), AllocError> {
-        for var in vars {
-            if let Var::Name(_, variable) = var {
-                self.variable(*variable)?;
-            }
-        }
-        Ok(())
-    }
-
-    /// What the names of a statement are, and a blank.
-    pub fn statement(&mut self, kind: &StatKind) -> Result<(), AllocError> {
-        match kind {
-            StatKind::Assign(vars, values) => {
-                self.vars(vars.as_slice())?;
-                self.text.push(b'=')?;
-                self.values(values.as_slice())?;
-            }
-            StatKind::Local(_, values) => self.values(values.as_slice())?,
-            _ => {}
-        }
-        self.text.push(b' ')?;
         Ok(())
     }
 }

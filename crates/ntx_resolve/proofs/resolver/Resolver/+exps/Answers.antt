@@ -181,7 +181,7 @@ pub operations-loop-operation-init : goal.operations-loop-operation-init
 operations-loop-operation-init g t c = begun limit.excess_of_operation (λ all xs cs. code.IsOperations all c.args.scope.now xs cs) c.args.operations.now _ c.new-codes.ensures
 
 pub operations-returns-in_err-operand : goal.operations-returns-in_err-operand
-operations-returns-in_err-operand g t c = failed_at limit.excess_of_operation (λ all xs cs. code.IsOperations all c.args.scope.now xs cs) (λ all x y. IsOperation all c.args.scope.now x y) c.args.operations.now c.loop-operation.operation-index c.operation-item.result c.loop-operation.codes _ c.operation-item.is c.loop-operation-test.true c.loop-operation.invariant c.from_residual.ensures.1 (said (excess.operation c.operation-item.result) (last_err c.in_err-operand.ensures))
+operations-returns-in_err-operand g t c = failed_at limit.excess_of_operation (λ all xs cs. code.IsOperations all c.args.scope.now xs cs) (λ all x y. IsOperation all c.args.scope.now x y) c.args.operations.now c.loop-operation.operation-index c.operation-item.result c.loop-operation.codes {new = c.args.functions.now} _ c.operation-item.is c.loop-operation-test.true c.loop-operation.invariant c.from_residual.ensures.1 (said (excess.operation c.operation-item.result) (last_err c.in_err-operand.ensures))
 
 pub operations-returns-in_err-push : goal.operations-returns-in_err-push
 operations-returns-in_err-push g t c = no_memory_by _ c.from_residual-in_err-push.ensures.1

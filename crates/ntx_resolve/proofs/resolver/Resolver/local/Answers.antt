@@ -15,7 +15,7 @@ use Rattle.ntx_resolve.proofs.Resolving.{said, ok, err_by, last, last_err, last_
 use Rattle.ntx_resolve.proofs.resolver.Resolver.local.Goals as goal
 
 pub returns-in_err-has_room_for : goal.returns-in_err-has_room_for
-returns-in_err-has_room_for g c = not_allowed _ _ c.from_residual.ensures.1 c.in_err-has_room_for.ensures
+returns-in_err-has_room_for g c = not_allowed (limit.excess_of_names (scopes.locals c.args.scope.now) c.args.names.now) (limit.excess_of_exps c.args.values.now) c.in_err-has_room_for.field-0 _ c.from_residual.ensures.1 c.in_err-has_room_for.ensures
 
 pub returns-in_err-values : goal.returns-in_err-values
 returns-in_err-values g c = allowed c.in_ok-has_room_for.ensures (last_err_by _ c.from_residual-in_err-values.ensures.1 c.in_err-values.ensures)

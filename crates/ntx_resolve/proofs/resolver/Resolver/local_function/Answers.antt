@@ -15,7 +15,7 @@ use Rattle.ntx_resolve.proofs.Resolving.{said, ok, err_by, last, last_err, last_
 use Rattle.ntx_resolve.proofs.resolver.Resolver.local_function.Goals as goal
 
 pub returns-in_err-has_room_for_one : goal.returns-in_err-has_room_for_one
-returns-in_err-has_room_for_one g c = not_allowed _ _ c.from_residual.ensures.1 c.in_err-has_room_for_one.ensures
+returns-in_err-has_room_for_one g c = not_allowed (limit.excess_of_names (scopes.locals c.args.scope.now) (c.args.name.now ∷ [])) (limit.excess_of_body c.args.body.now) c.in_err-has_room_for_one.field-0 _ c.from_residual.ensures.1 c.in_err-has_room_for_one.ensures
 
 pub returns-in_err-declare_one : goal.returns-in_err-declare_one
 returns-in_err-declare_one g c = no_memory_by _ c.from_residual-in_err-declare_one.ensures.1
