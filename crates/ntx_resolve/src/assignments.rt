@@ -15,7 +15,7 @@ ghost use Rattle.ntx_resolve.specs.inner.Bodies.{Bodies};
 ghost use Rattle.ntx_resolve.specs.inner.Resolves.{Resolves};
 
 use crate::code::{Call, Function, StatKind, Var};
-use crate::names::{copied};
+use crate::names::copied;
 use crate::resolver::Resolver;
 use crate::scope::Scope;
 use ntx_num::Fail;
@@ -26,7 +26,12 @@ use std::alloc::Global;
 
 impl<
     'a,
-    F: Fn(Global, &mut Items<Function>, &Scope<'_>, &FunctionBody) -> Result<u64, Fail<SyntaxFault>>,
+    F: Fn(
+        Global,
+        &mut Items<Function>,
+        &Scope<'_>,
+        &FunctionBody,
+    ) -> Result<u64, Fail<SyntaxFault>>,
 > Resolver<'a, F> {
     /// What is assigned to.
     fn vars(

@@ -21,8 +21,8 @@ mod scope;
 mod tables;
 
 pub use code::{
-    Block, Call, Code, Exp, Field, Function, Head, IfArm, Operation, Prefix, Return, Stat, StatKind,
-    Suffix, Var, Variable,
+    Block, Call, Code, Exp, Field, Function, Head, IfArm, Operation, Prefix, Return, Stat,
+    StatKind, Suffix, Var, Variable,
 };
 pub use resolver::Resolver;
 pub use scope::Scope;

@@ -24,7 +24,12 @@ use std::alloc::Global;
 
 impl<
     'a,
-    F: Fn(Global, &mut Items<Function>, &Scope<'_>, &FunctionBody) -> Result<u64, Fail<SyntaxFault>>,
+    F: Fn(
+        Global,
+        &mut Items<Function>,
+        &Scope<'_>,
+        &FunctionBody,
+    ) -> Result<u64, Fail<SyntaxFault>>,
 > Resolver<'a, F> {
     /// What a prefix begins with.
     #[cycle(exps)]

@@ -28,7 +28,12 @@ pub struct Resolver<'a, F> {
 
 impl<
     'a,
-    F: Fn(Global, &mut Items<Function>, &Scope<'_>, &FunctionBody) -> Result<u64, Fail<SyntaxFault>>,
+    F: Fn(
+        Global,
+        &mut Items<Function>,
+        &Scope<'_>,
+        &FunctionBody,
+    ) -> Result<u64, Fail<SyntaxFault>>,
 > Resolver<'a, F> {
     /// A function that is made in this scope.
     pub fn function(

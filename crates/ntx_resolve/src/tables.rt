@@ -22,7 +22,12 @@ use std::alloc::Global;
 
 impl<
     'a,
-    F: Fn(Global, &mut Items<Function>, &Scope<'_>, &FunctionBody) -> Result<u64, Fail<SyntaxFault>>,
+    F: Fn(
+        Global,
+        &mut Items<Function>,
+        &Scope<'_>,
+        &FunctionBody,
+    ) -> Result<u64, Fail<SyntaxFault>>,
 > Resolver<'a, F> {
     /// The fields of a table.
     #[cycle(exps)]

@@ -22,7 +22,12 @@ fn declared(alloc: Global, older: &[u8], names: &[u8]) -> Result<Vec<u8>, Fail<S
             body: no_bodies,
         };
         let mut functions = Items::new(alloc);
-        let kind = resolver.local(&mut functions, &mut scope, names.as_slice(), last.values.as_slice())?;
+        let kind = resolver.local(
+            &mut functions,
+            &mut scope,
+            names.as_slice(),
+            last.values.as_slice(),
+        )?;
         if let StatKind::Local(_, values) = &kind {
             shown.values(values.as_slice())?;
         }

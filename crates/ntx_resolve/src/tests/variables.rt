@@ -36,7 +36,13 @@ fn walked(
 }
 
 /// Asserts what the names are.
-fn shows(rt: &(impl Abort + AllocGlobal), outer: &[u8], inner: &[u8], values: &[u8], wanted: &[u8]) {
+fn shows(
+    rt: &(impl Abort + AllocGlobal),
+    outer: &[u8],
+    inner: &[u8],
+    values: &[u8],
+    wanted: &[u8],
+) {
     match walked(rt.alloc(), outer, inner, values) {
         Ok(found) => assert_eq!(rt; found.as_slice(), wanted),
         Err(_) => panic!(rt; "refused"),

@@ -16,4 +16,3 @@ invariant-operations-loop-operation g l = Rest limit.excess_of_operation (λ all
 
 abbrev pub invariant-suffixes-loop-suffix : goal.invariant-suffixes-loop-suffix
 invariant-suffixes-loop-suffix g l = Rest limit.excess_of_suffix (λ all xs cs. code.IsSuffixes all l.scope xs cs) l.suffixes (drop l.suffix-index l.suffixes) l.codes l.functions l.fn.functions
-
