@@ -1,5 +1,9 @@
 //! Which variables the names of small trees are, and where a name is one too many. A name here is one letter.
 
+ghost use Rattle.ntx_resolve.specs.HasCode.{IsFunction};
+ghost use Rattle.ntx_resolve.specs.Limit.{excess_of_body};
+ghost use Rattle.ntx_resolve.specs.inner.Resolves.{Resolves};
+
 mod limit;
 mod show;
 mod variables;
@@ -54,6 +58,8 @@ fn no_bodies(
     _functions: &mut Items<Function>,
     _scope: &Scope<'_>,
     _body: &FunctionBody,
-) -> Result<u64, Fail<SyntaxFault>> {
+) -> Result<u64, Fail<SyntaxFault>>
+    ensures { Resolves (excess_of_body _body.now) (λ all k. IsFunction all _scope.now _body.now k) _functions.old result _functions.new }
+{
     Err(Fail::NoMemory)
 }
