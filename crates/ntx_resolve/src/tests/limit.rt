@@ -13,7 +13,9 @@ fn declared(alloc: Global, older: &[u8], names: &[u8]) -> Result<Vec<u8>, Fail<S
     let block = returning(alloc, names)?;
     let names = locals(alloc, names)?;
     let mut scope = Scope::outermost(alloc);
-    scope.declare(older.as_slice())?;
+    let older = older.as_slice();
+    scope.declare(older)?;
+    let names = names.as_slice();
     let mut shown = Shown::new(alloc);
     if let Some(last) = &block.last {
         let resolver = Resolver {
@@ -22,17 +24,15 @@ fn declared(alloc: Global, older: &[u8], names: &[u8]) -> Result<Vec<u8>, Fail<S
             body: no_bodies,
         };
         let mut functions = Items::new(alloc);
-        let kind = resolver.local(
-            &mut functions,
-            &mut scope,
-            names.as_slice(),
-            last.values.as_slice(),
-        )?;
+        let values = last.values.as_slice();
+        let kind = resolver.local(&mut functions, &mut scope, names, values)?;
         if let StatKind::Local(_, values) = &kind {
-            shown.values(values.as_slice())?;
+            let values = values.as_slice();
+            shown.values(values)?;
         }
-        if let Some(first) = names.as_slice().first() {
-            shown.variable(scope.variable(&first.name))?;
+        if let Some(first) = names.first() {
+            let variable = scope.variable(&first.name);
+            shown.variable(variable)?;
         }
     }
     Ok(shown.text)

@@ -18,9 +18,11 @@ fn walked(
     let inner = locals(alloc, inner)?;
     let block = returning(alloc, values)?;
     let mut around = Scope::outermost(alloc);
-    around.declare(outer.as_slice())?;
+    let outer = outer.as_slice();
+    around.declare(outer)?;
     let mut scope = around.inside()?;
-    scope.declare(inner.as_slice())?;
+    let inner = inner.as_slice();
+    scope.declare(inner)?;
     let mut shown = Shown::new(alloc);
     if let Some(last) = &block.last {
         let resolver = Resolver {
@@ -29,8 +31,10 @@ fn walked(
             body: no_bodies,
         };
         let mut functions = Items::new(alloc);
-        let codes = resolver.exps(&mut functions, &scope, last.values.as_slice())?;
-        shown.values(codes.as_slice())?;
+        let values = last.values.as_slice();
+        let codes = resolver.exps(&mut functions, &scope, values)?;
+        let codes = codes.as_slice();
+        shown.values(codes)?;
     }
     Ok(shown.text)
 }
