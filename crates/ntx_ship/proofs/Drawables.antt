@@ -6,24 +6,20 @@ use Rattle.ntx_num.specs.Answer.{result_map, result_and_then}
 use Rattle.ntx_num.specs.Dimension.{is_dimension, IsDimension, max_dimension}
 use Rattle.ntx_num.proofs.Answers.{same_Ok, mapped_Ok, went_Ok, taken}
 use Rattle.ntx_nodes.specs.Heap.{Heap}
-use Rattle.ntx_nodes.specs.Steps.{at}
-use Rattle.ntx_nodes.specs.Walk.{flat_walk}
-use Rattle.ntx_nodes.specs.declared.node.Node.{Node}
 use Rattle.ntx_nodes.specs.declared.contents.GlyphFields.{GlyphFields}
 use Rattle.ntx_nodes.specs.declared.fields.Contents.{Contents}
 use Rattle.ntx_nodes.specs.declared.fields.Contents.TheVariants as contents
 use Rattle.ntx_nodes.specs.declared.trouble.Trouble.{Trouble}
 use Rattle.ntx_nodes.specs.declared.trouble.Trouble.TheVariants.{Dimension}
-use Rattle.ntx_nodes.proofs.Oks.{at_Ok}
 use Rattle.ntx_tfm.specs.Font.{FontTables}
-use Rattle.ntx_view.specs.View.{char_size, no_size, item_of, items_answer}
+use Rattle.ntx_view.specs.View.{char_size, no_size}
 use Rattle.ntx_pack.specs.declared.direction.Direction.{Direction}
-use Rattle.ntx_pack.specs.Output.{move, set_size}
 use Rattle.ntx_ship.specs.declared.list.Inside.{Inside}
 use Rattle.ntx_ship.specs.declared.piece.Piece.{Piece}
 use Rattle.ntx_ship.specs.declared.piece.Piece.TheVariants.{Push, Pop, Glyph, Rule}
 use Rattle.ntx_ship.specs.declared.place.Place.{Place}
-use Rattle.ntx_ship.specs.Placed.{Pieces, Placer, joined, may_stand, glyph_mark, rule_mark, grouped, reference, top, corner, hlist_inside, vlist_inside, part_inside, node_pieces, own_size, moved, in_row, list_pieces, max_levels}
+use Rattle.ntx_ship.specs.declared.station.Station.{Station}
+use Rattle.ntx_ship.specs.Placed.{Pieces, Placer, joined, may_stand, glyph_mark, rule_mark, grouped, reference, top, corner, hlist_inside, vlist_inside, part_inside, node_pieces, row_pieces, row_at, list_pieces, max_levels}
 use Rattle.ntx_ship.specs.Drawable.{IsStanding, AreDrawable}
 
 -- Pieces of so many levels of boxes go before any others that can be drawn.
@@ -57,12 +53,14 @@ dimension_is x e =
     (grind (arith, ints, b.0), grind (arith, ints, b.1))
 
 standing : (here : Place) (width : ℤ) → may_stand here width ≡ true → IsStanding here.h here.v width
+unfolding may_stand
 standing here width e =
     let a = both (is_dimension here.h && is_dimension here.v) (is_dimension (here.h +ℤ width)) e in
     let b = both (is_dimension here.h) (is_dimension here.v) a.0 in
     record { right = dimension_is here.h b.0; down = dimension_is here.v b.1; end = dimension_is (here.h +ℤ width) a.1 }
 
 glyph_first : (levels : ℕ) (here : Place) (g : GlyphFields) (width : ℤ) (xs : List Piece) → glyph_mark here g width ≡ Ok xs → GoFirst levels xs
+unfolding glyph_mark
 glyph_first levels here g width xs e =
     let mark = Glyph (record { h = here.h; v = here.v; font = g.font; code = g.char; width = width }) in
     let t = taken (may_stand here width) Dimension (Ok (mark ∷ [])) xs e in
@@ -77,6 +75,7 @@ rule_first_by true levels here height width xs e =
 rule_first_by false levels here height width xs e = subst (GoFirst levels) (same_Ok {E = Trouble} [] xs e) (first_nil levels)
 
 rule_first : (levels : ℕ) (here : Place) (height width : ℤ) (xs : List Piece) → rule_mark here height width ≡ Ok xs → GoFirst levels xs
+unfolding rule_mark
 rule_first levels here height width xs e = rule_first_by (int_lt (pos 0) width && int_lt (pos 0) height) levels here height width xs e
 
 -- ---- nodes
@@ -91,6 +90,7 @@ box_first levels place good inside here xs e =
     subst (GoFirst (suc levels)) m.gives (first_grouped levels m.value (good inside here m.value m.is))
 
 node_first : (fonts : List FontTables) (levels : ℕ) (place : Placer) → Places levels place → (direction : Direction) (c : Contents) (here : Place) (xs : List Piece) → node_pieces fonts place direction c here ≡ Ok xs → GoFirst (suc levels) xs
+unfolding node_pieces
 node_first fonts levels place good direction (contents.Hlist b) here xs e = box_first levels place good (hlist_inside b) (reference direction b here) xs e
 node_first fonts levels place good direction (contents.Vlist b) here xs e = box_first levels place good (vlist_inside b) (top b (reference direction b here)) xs e
 node_first fonts levels place good direction (contents.Rule r) here xs e = rule_first (suc levels) (corner direction r here) (r.height +ℤ r.depth) r.width xs e
@@ -114,23 +114,19 @@ joined_Ok (Ok xs) (Ok ys) all e = record { xs = xs; ys = ys; first_is = refl; re
 joined_Ok (Ok xs) (Err why) all e = cc
 joined_Ok (Err why) rest all e = cc
 
-row_first : (heap : Heap) (fonts : List FontTables) (levels : ℕ) (place : Placer) → Places levels place → (inside : Inside) (names : List ℕ) (total : ℤ) (here : Place) (xs : List Piece) → in_row heap fonts place inside names total here ≡ Ok xs → GoFirst (suc levels) xs
-row_first heap fonts levels place good inside [] total here xs e = subst (GoFirst (suc levels)) (same_Ok {E = Trouble} [] xs e) (first_nil (suc levels))
-row_first heap fonts levels place good inside (n ∷ ns) total here xs e =
-    let rest = λ (node : Node). in_row heap fonts place inside ns (total +ℤ move inside.glue (item_of heap fonts node)) (moved inside.direction (set_size inside.glue total (own_size inside.direction (item_of heap fonts node)) (item_of heap fonts node)) here) in
-    let found = at_Ok heap n (λ node. joined (node_pieces fonts place inside.direction node.fields.contents here) (rest node)) xs e in
-    let j = joined_Ok (node_pieces fonts place inside.direction found.node.fields.contents here) (rest found.node) xs found.gives in
+row_first : (fonts : List FontTables) (levels : ℕ) (place : Placer) → Places levels place → (direction : Direction) (row : List Station) (xs : List Piece) → row_pieces fonts place direction row ≡ Ok xs → GoFirst (suc levels) xs
+row_first fonts levels place good direction [] xs e = subst (GoFirst (suc levels)) (same_Ok {E = Trouble} [] xs e) (first_nil (suc levels))
+row_first fonts levels place good direction (s ∷ ss) xs e =
+    let j = joined_Ok (node_pieces fonts place direction s.contents s.here) (row_pieces fonts place direction ss) xs e in
     subst (GoFirst (suc levels)) j.together
-    (first_append (suc levels) j.xs j.ys
-    (node_first fonts levels place good inside.direction found.node.fields.contents here j.xs j.first_is)
-    (row_first heap fonts levels place good inside ns (total +ℤ move inside.glue (item_of heap fonts found.node)) (moved inside.direction (set_size inside.glue total (own_size inside.direction (item_of heap fonts found.node)) (item_of heap fonts found.node)) here) j.ys j.rest_is))
+    (first_append (suc levels) j.xs j.ys (node_first fonts levels place good direction s.contents s.here j.xs j.first_is) (row_first fonts levels place good direction ss j.ys j.rest_is))
 
 pub list_first : (heap : Heap) (fonts : List FontTables) (levels : ℕ) (inside : Inside) (here : Place) (xs : List Piece) → list_pieces heap fonts levels inside here ≡ Ok xs → GoFirst levels xs
+unfolding list_pieces
 list_first heap fonts zero inside here xs e = cc
 list_first heap fonts (suc levels) inside here xs e =
-    let w = went_Ok (λ items. result_and_then (flat_walk heap inside.head) (λ names. in_row heap fonts (list_pieces heap fonts levels) inside names (pos 0) here)) (items_answer heap fonts inside.head inside.kind) xs e in
-    let v = went_Ok (λ names. in_row heap fonts (list_pieces heap fonts levels) inside names (pos 0) here) (flat_walk heap inside.head) xs w.gives in
-    row_first heap fonts levels (list_pieces heap fonts levels) (list_first heap fonts levels) inside v.value (pos 0) here xs v.gives
+    let w = went_Ok (row_pieces fonts (list_pieces heap fonts levels) inside.direction) (row_at heap fonts inside here) xs e in
+    row_first fonts levels (list_pieces heap fonts levels) (list_first heap fonts levels) inside.direction w.value xs w.gives
 
 -- ---- pages
 

@@ -1,14 +1,17 @@
--- The nodes of a list, one after another.
-use Rattle.std.proofs.Common.{◌≡◌, ℕ, ◌+◌, ◌≤◌, ◌<◌, ℤ, ◌+ℤ◌, List, [], ◌∷◌, ◌++◌, length, drop, get_or, slice_get, Some, None, Ok, Err, refl, sym, ap, ◌∙◌, append_assoc, append-nil}
+-- Where the nodes of a list stand, one after another.
+use Rattle.std.proofs.Common.{◌≡◌, ℕ, ◌+◌, ◌≤◌, ◌<◌, ℤ, pos, ◌+ℤ◌, List, [], ◌∷◌, ◌++◌, length, drop, get_or, slice_get, Some, None, Ok, Err, refl, sym, ap, ◌∙◌, append_assoc, append-nil}
 use Rattle.std.specs.Prelude.{Option, Result}
 use Rattle.std.specs.FinMap as map
 use Rattle.std.specs.Option.{option_map}
 use Rattle.std.proofs.lemmas.List.{at_drop_more, at_drop_all}
 use Rattle.std.proofs.lemmas.Option.{slice_get-get_or, get_or_from_slice_get}
-use Rattle.ntx_num.specs.Answer.{result_map}
+use Rattle.ntx_num.specs.Answer.{Answers, result_map, result_and_then}
+use Rattle.ntx_num.specs.declared.answer.Fail.{Fail}
+use Rattle.ntx_num.specs.declared.answer.Fail.TheVariants.{NoMemory, Is}
 use Rattle.ntx_num.proofs.Answers.{same_Ok}
 use Rattle.ntx_nodes.specs.Heap.{Heap}
 use Rattle.ntx_nodes.specs.Steps.{of_found, at}
+use Rattle.ntx_nodes.specs.Walk.{flat_walk}
 use Rattle.ntx_nodes.specs.declared.node.Node.{Node}
 use Rattle.ntx_nodes.specs.declared.fields.Contents.{Contents}
 use Rattle.ntx_nodes.specs.declared.trouble.Trouble.{Trouble}
@@ -16,47 +19,37 @@ use Rattle.ntx_nodes.proofs.Oks.{at_Ok}
 use Rattle.ntx_tfm.specs.Font.{FontTables}
 use Rattle.ntx_item.specs.declared.item.Item.{Item}
 use Rattle.ntx_pack.specs.Output.{move, set_size}
-use Rattle.ntx_view.specs.View.{item_of, item_at}
+use Rattle.ntx_view.specs.View.{item_of, item_at, items_answer, IsOneEach}
 use Rattle.ntx_ship.specs.declared.list.Inside.{Inside}
-use Rattle.ntx_ship.specs.declared.piece.Piece.{Piece}
 use Rattle.ntx_ship.specs.declared.place.Place.{Place}
-use Rattle.ntx_ship.specs.Placed.{Pieces, Placer, joined, node_pieces, own_size, moved, in_row}
+use Rattle.ntx_ship.specs.declared.station.Station.{Station}
+use Rattle.ntx_ship.specs.Placed.{own_size, moved, stations, row_at}
 use Rattle.ntx_ship.specs.Reach.{AreItemsOf}
 
--- ---- pieces after others
+abbrev pub Row : Type 0
+Row = Result (List Station) Trouble
 
--- after these pieces
-abbrev pub after : List Piece → Pieces → Pieces
-after old pieces = result_map (λ more. old ++ more) pieces
+-- the stations after others
+abbrev pub stand_after : List Station → Row → Row
+stand_after all rest = result_map (λ more. all ++ more) rest
 
-joined_after : (old xs : List Piece) (rest : Pieces) → after old (joined (Ok xs) rest) ≡ after (old ++ xs) rest
-joined_after old xs (Ok ys) = ap (λ (zs : List Piece). Ok zs) (sym (append_assoc old xs ys))
-joined_after old xs (Err why) = refl
+-- the first station and the rest
+abbrev stand_first : Contents → Place → Row → Row
+stand_first contents here rest = result_map (λ more. record { contents = contents; here = here } ∷ more) rest
 
--- The first pieces were put there, and the rest comes after them.
-pub joins : (old new : List Piece) (first rest : Pieces) → after old first ≡ Ok new → after old (joined first rest) ≡ after new rest
-joins old new (Ok xs) rest e =
-    joined_after old xs rest ∙ ap (λ (zs : List Piece). after zs rest) (same_Ok {E = Trouble} (old ++ xs) new e)
-joins old new (Err why) rest e = cc
+abbrev rest_after : Heap → List FontTables → Inside → List ℕ → ℤ → Place → Item → Row
+rest_after heap fonts inside ns total here item = stations heap fonts inside ns (total +ℤ move inside.glue item) (moved inside.direction (set_size inside.glue total (own_size inside.direction item) item) here)
 
--- What refuses the first pieces refuses all.
-pub stops : (old : List Piece) (first rest : Pieces) (why : Trouble) → after old first ≡ Err why → after old (joined first rest) ≡ Err why
-stops old (Ok xs) rest why e = cc
-stops old (Err e) rest why is = is
+abbrev with_node : Heap → List FontTables → Inside → List ℕ → ℤ → Place → Node → Row
+with_node heap fonts inside ns total here node = stand_first node.fields.contents here (rest_after heap fonts inside ns total here (item_of heap fonts node))
 
-pub nothing_after : (old : List Piece) (pieces : Pieces) → pieces ≡ Ok [] → after old pieces ≡ Ok old
-nothing_after old pieces e = ap (after old) e ∙ ap (λ (zs : List Piece). Ok zs) (append-nil old)
+stations_cons : (heap : Heap) (fonts : List FontTables) (inside : Inside) (n : ℕ) (ns : List ℕ) (total : ℤ) (here : Place) → stations heap fonts inside (n ∷ ns) total here ≡ at heap n (with_node heap fonts inside ns total here)
+unfolding stations
+stations_cons heap fonts inside n ns total here = refl
 
--- ---- one node of a list
-
-row_of_found : (heap : Heap) (fonts : List FontTables) (place : Placer) (inside : Inside) (n : ℕ) (ns : List ℕ) (total : ℤ) (here : Place) (node : Node) → map.get heap.nodes n ≡ Some node →
-    in_row heap fonts place inside (n ∷ ns) total here
-    ≡ joined (node_pieces fonts place inside.direction node.fields.contents here)
-    (in_row heap fonts place inside ns (total +ℤ move inside.glue (item_of heap fonts node)) (moved inside.direction (set_size inside.glue total (own_size inside.direction (item_of heap fonts node)) (item_of heap fonts node)) here))
-row_of_found heap fonts place inside n ns total here node is =
-    ap (of_found n (λ (m : Node).
-    joined (node_pieces fonts place inside.direction m.fields.contents here)
-    (in_row heap fonts place inside ns (total +ℤ move inside.glue (item_of heap fonts m)) (moved inside.direction (set_size inside.glue total (own_size inside.direction (item_of heap fonts m)) (item_of heap fonts m)) here)))) is
+stations_nil : (heap : Heap) (fonts : List FontTables) (inside : Inside) (total : ℤ) (here : Place) → stations heap fonts inside [] total here ≡ Ok []
+unfolding stations
+stations_nil heap fonts inside total here = refl
 
 -- the item at a place is that of the node there
 item_is : (heap : Heap) (fonts : List FontTables) (names : List ℕ) (items : List Item) (i : ℕ) (d : Item) (node : Node) → i < length names → AreItemsOf heap fonts names items → map.get heap.nodes (get_or names i 0) ≡ Some node → get_or items i d ≡ item_of heap fonts node
@@ -65,40 +58,90 @@ item_is heap fonts names items i d node within are is =
     (are.each i (get_or names i 0) (slice_get-get_or names i 0 within) ∙ ap (option_map (item_of heap fonts)) is)
 
 -- The rest of a list is its next node and the rest after it.
-pub row_step : (heap : Heap) (fonts : List FontTables) (place : Placer) (inside : Inside) (names : List ℕ) (items : List Item) (i : ℕ) (d : Item) (total : ℤ) (here : Place) (contents : Contents) → i < length names → AreItemsOf heap fonts names items → at heap (get_or names i 0) (λ node. Ok node.fields.contents) ≡ Ok contents →
-    in_row heap fonts place inside (drop i names) total here
-    ≡ joined (node_pieces fonts place inside.direction contents here)
-    (in_row heap fonts place inside (drop (i + 1) names) (total +ℤ move inside.glue (get_or items i d)) (moved inside.direction (set_size inside.glue total (own_size inside.direction (get_or items i d)) (get_or items i d)) here))
-row_step heap fonts place inside names items i d total here contents within are holds =
+stations_step : (heap : Heap) (fonts : List FontTables) (inside : Inside) (names : List ℕ) (items : List Item) (i : ℕ) (d : Item) (total : ℤ) (here : Place) (contents : Contents) → i < length names → AreItemsOf heap fonts names items → at heap (get_or names i 0) (λ node. Ok node.fields.contents) ≡ Ok contents →
+    stations heap fonts inside (drop i names) total here ≡ stand_first contents here (rest_after heap fonts inside (drop (i + 1) names) total here (get_or items i d))
+stations_step heap fonts inside names items i d total here contents within are holds =
     let found = at_Ok heap (get_or names i 0) (λ node. Ok node.fields.contents) contents holds in
     let same : found.node.fields.contents ≡ contents = same_Ok {E = Trouble} found.node.fields.contents contents found.gives in
     let item = item_is heap fonts names items i d found.node within are found.is in
-    at_drop_more (λ (ns : List ℕ). in_row heap fonts place inside ns total here) names i 0 within
-    ∙ row_of_found heap fonts place inside (get_or names i 0) (drop (i + 1) names) total here found.node found.is
-    ∙ ap (λ (c : Contents).
-    joined (node_pieces fonts place inside.direction c here)
-    (in_row heap fonts place inside (drop (i + 1) names) (total +ℤ move inside.glue (item_of heap fonts found.node)) (moved inside.direction (set_size inside.glue total (own_size inside.direction (item_of heap fonts found.node)) (item_of heap fonts found.node)) here))) same
-    ∙ ap (λ (x : Item).
-    joined (node_pieces fonts place inside.direction contents here)
-    (in_row heap fonts place inside (drop (i + 1) names) (total +ℤ move inside.glue x) (moved inside.direction (set_size inside.glue total (own_size inside.direction x) x) here))) (sym item)
+    let rest = drop (i + 1) names in
+    at_drop_more (λ (ns : List ℕ). stations heap fonts inside ns total here) names i 0 within
+    ∙ stations_cons heap fonts inside (get_or names i 0) rest total here
+    ∙ ap (of_found (get_or names i 0) (with_node heap fonts inside rest total here)) found.is
+    ∙ ap (λ (c : Contents). stand_first c here (rest_after heap fonts inside rest total here (item_of heap fonts found.node))) same
+    ∙ ap (λ (x : Item). stand_first contents here (rest_after heap fonts inside rest total here x)) (sym item)
+
+stood_first : (all : List Station) (station : Station) (rest : Row) → stand_after all (stand_first station.contents station.here rest) ≡ stand_after (all ++ station ∷ []) rest
+stood_first all station (Ok more) = ap (λ (ss : List Station). Ok ss) (sym (append_assoc all (station ∷ []) more))
+stood_first all station (Err why) = refl
+
+-- One station more.
+pub stations_more : (heap : Heap) (fonts : List FontTables) (inside : Inside) (names : List ℕ) (items : List Item) (i : ℕ) (d : Item) (total : ℤ) (here : Place) (contents : Contents) (all : List Station) → i < length names → AreItemsOf heap fonts names items → at heap (get_or names i 0) (λ node. Ok node.fields.contents) ≡ Ok contents →
+    stand_after all (stations heap fonts inside (drop i names) total here) ≡ stand_after (all ++ record { contents = contents; here = here } ∷ []) (rest_after heap fonts inside (drop (i + 1) names) total here (get_or items i d))
+stations_more heap fonts inside names items i d total here contents all within are holds =
+    ap (stand_after all) (stations_step heap fonts inside names items i d total here contents within are holds)
+    ∙ stood_first all (record { contents = contents; here = here }) (rest_after heap fonts inside (drop (i + 1) names) total here (get_or items i d))
 
 -- Nothing is left at the end.
-pub row_end : (heap : Heap) (fonts : List FontTables) (place : Placer) (inside : Inside) (names : List ℕ) (i : ℕ) (total : ℤ) (here : Place) → length names ≤ i → in_row heap fonts place inside (drop i names) total here ≡ Ok []
-row_end heap fonts place inside names i total here past = at_drop_all (λ (ns : List ℕ). in_row heap fonts place inside ns total here) names i past
+pub stations_end : (heap : Heap) (fonts : List FontTables) (inside : Inside) (names : List ℕ) (i : ℕ) (total : ℤ) (here : Place) (all : List Station) → length names ≤ i → stand_after all (stations heap fonts inside (drop i names) total here) ≡ Ok all
+stations_end heap fonts inside names i total here all past =
+    ap (stand_after all) (at_drop_all (λ (ns : List ℕ). stations heap fonts inside ns total here) names i past ∙ stations_nil heap fonts inside total here)
+    ∙ ap (λ (ss : List Station). Ok ss) (append-nil all)
 
+-- A list stops at a node that is not there.
 ok_is_no_error : {c : Contents} {why : Trouble} → ◌≡◌ {A = Result Contents Trouble} (Ok c) (Err why) → ⊥
 ok_is_no_error e = cc
 
--- A list stops at a node that is not there.
-stops_at : (heap : Heap) (n : ℕ) (f : Node → Result Contents Trouble) (rest : Node → Pieces) (o : Option Node) (why : Trouble) → ((node : Node) → f node ≡ Ok node.fields.contents) → of_found n f o ≡ Err why → of_found n rest o ≡ Err why
-stops_at heap n f rest None why reads e = e
-stops_at heap n f rest (Some node) why reads e = absurd (ok_is_no_error (sym (reads node) ∙ e))
+stops_at : (n : ℕ) (f : Node → Row) (o : Option Node) (why : Trouble) → of_found n (λ (node : Node). Ok node.fields.contents) o ≡ Err why → of_found n f o ≡ Err why
+stops_at n f None why e = cc
+stops_at n f (Some node) why e = absurd (ok_is_no_error e)
 
-pub row_stops : (heap : Heap) (fonts : List FontTables) (place : Placer) (inside : Inside) (names : List ℕ) (i : ℕ) (total : ℤ) (here : Place) (why : Trouble) → i < length names → at heap (get_or names i 0) (λ node. Ok node.fields.contents) ≡ Err why →
-    in_row heap fonts place inside (drop i names) total here ≡ Err why
-row_stops heap fonts place inside names i total here why within holds =
-    at_drop_more (λ (ns : List ℕ). in_row heap fonts place inside ns total here) names i 0 within
-    ∙ stops_at heap (get_or names i 0) (λ node. Ok node.fields.contents) (λ (m : Node).
-    joined (node_pieces fonts place inside.direction m.fields.contents here)
-    (in_row heap fonts place inside (drop (i + 1) names) (total +ℤ move inside.glue (item_of heap fonts m)) (moved inside.direction (set_size inside.glue total (own_size inside.direction (item_of heap fonts m)) (item_of heap fonts m)) here)))
-    (map.get heap.nodes (get_or names i 0)) why (λ node. refl) holds
+pub stations_stop : (heap : Heap) (fonts : List FontTables) (inside : Inside) (names : List ℕ) (i : ℕ) (total : ℤ) (here : Place) (all : List Station) (why : Trouble) → i < length names → at heap (get_or names i 0) (λ node. Ok node.fields.contents) ≡ Err why →
+    stand_after all (stations heap fonts inside (drop i names) total here) ≡ Err why
+stations_stop heap fonts inside names i total here all why within holds =
+    ap (stand_after all)
+    (at_drop_more (λ (ns : List ℕ). stations heap fonts inside ns total here) names i 0 within
+    ∙ stations_cons heap fonts inside (get_or names i 0) (drop (i + 1) names) total here
+    ∙ stops_at (get_or names i 0) (with_node heap fonts inside (drop (i + 1) names) total here) (map.get heap.nodes (get_or names i 0)) why holds)
+
+-- ---- the calls that find a list
+
+abbrev walked : Heap → List FontTables → Inside → Place → Result (List ℕ) Trouble → Row
+walked heap fonts inside here names = result_and_then names (λ ns. stations heap fonts inside ns (pos 0) here)
+
+abbrev seen : Heap → List FontTables → Inside → Place → Result (List Item) Trouble → Row
+seen heap fonts inside here items = result_and_then items (λ _. walked heap fonts inside here (flat_walk heap inside.head))
+
+row_is : (heap : Heap) (fonts : List FontTables) (inside : Inside) (here : Place) → row_at heap fonts inside here ≡ seen heap fonts inside here (items_answer heap fonts inside.head inside.kind)
+unfolding row_at
+row_is heap fonts inside here = refl
+
+pub items_refused : (heap : Heap) (fonts : List FontTables) (inside : Inside) (here : Place) (why : Trouble) → items_answer heap fonts inside.head inside.kind ≡ Err why → row_at heap fonts inside here ≡ Err why
+items_refused heap fonts inside here why refused = row_is heap fonts inside here ∙ ap (seen heap fonts inside here) refused
+
+pub walk_refused : (heap : Heap) (fonts : List FontTables) (inside : Inside) (here : Place) (items : List Item) (why : Trouble) → items_answer heap fonts inside.head inside.kind ≡ Ok items → flat_walk heap inside.head ≡ Err why → row_at heap fonts inside here ≡ Err why
+walk_refused heap fonts inside here items why found refused =
+    row_is heap fonts inside here ∙ ap (seen heap fonts inside here) found ∙ ap (walked heap fonts inside here) refused
+
+pub row_found : (heap : Heap) (fonts : List FontTables) (inside : Inside) (here : Place) (items : List Item) (names : List ℕ) → items_answer heap fonts inside.head inside.kind ≡ Ok items → flat_walk heap inside.head ≡ Ok names → row_at heap fonts inside here ≡ stations heap fonts inside names (pos 0) here
+row_found heap fonts inside here items names found walks =
+    row_is heap fonts inside here ∙ ap (seen heap fonts inside here) found ∙ ap (walked heap fonts inside here) walks
+
+-- The items that were seen are those of the names that were reached.
+pub items_named : (heap : Heap) (fonts : List FontTables) (head : Option ℕ) (items : List Item) (names : List ℕ) → IsOneEach heap fonts head items → flat_walk heap head ≡ Ok names → AreItemsOf heap fonts names items
+items_named heap fonts head items names one walks =
+    let same : one.names ≡ names = same_Ok {E = Trouble} one.names names (sym one.walk ∙ walks) in
+    record {
+      count = one.count ∙ ap (λ (ns : List ℕ). length ns) same;
+      each = λ k n h. one.each k n (ap (λ (ns : List ℕ). slice_get ns k) same ∙ h);
+    }
+
+-- ---- refusals of those calls
+
+pub refused_by_items : (heap : Heap) (fonts : List FontTables) (inside : Inside) (here : Place) (e : Fail Trouble) → Answers {A = List Item} (Err e) (items_answer heap fonts inside.head inside.kind) → Answers {A = List Station} (Err e) (row_at heap fonts inside here)
+refused_by_items heap fonts inside here (Is why) refused = items_refused heap fonts inside here why refused
+refused_by_items heap fonts inside here NoMemory refused = tt
+
+pub refused_by_walk : (heap : Heap) (fonts : List FontTables) (inside : Inside) (here : Place) (items : List Item) (e : Fail Trouble) → items_answer heap fonts inside.head inside.kind ≡ Ok items → Answers {A = List ℕ} (Err e) (flat_walk heap inside.head) → Answers {A = List Station} (Err e) (row_at heap fonts inside here)
+refused_by_walk heap fonts inside here items (Is why) found refused = walk_refused heap fonts inside here items why found refused
+refused_by_walk heap fonts inside here items NoMemory found refused = tt

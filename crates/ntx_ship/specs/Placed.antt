@@ -30,6 +30,7 @@ use Rattle.ntx_ship.specs.declared.list.Inside.{Inside}
 use Rattle.ntx_ship.specs.declared.piece.Piece.{Piece}
 use Rattle.ntx_ship.specs.declared.piece.Piece.TheVariants.{Push, Pop, Glyph, Rule}
 use Rattle.ntx_ship.specs.declared.place.Place.{Place}
+use Rattle.ntx_ship.specs.declared.station.Station.{Station}
 
 -- the pieces of a page or of a part of it, or why it cannot be shipped
 abbrev pub Pieces : Type 0
@@ -42,17 +43,17 @@ joined first rest = result_and_then first (λ xs. result_map (λ ys. xs ++ ys) r
 -- ---- marks
 
 -- A mark of this width may stand here: its place, and the end of its width, are dimensions.
-abbrev pub may_stand : Place → ℤ → Bool
+unfoldable pub may_stand : Place → ℤ → Bool
 may_stand here width = (is_dimension here.h && is_dimension here.v) && is_dimension (here.h +ℤ width)
 
 -- a character whose reference point is here
-abbrev pub glyph_mark : Place → GlyphFields → ℤ → Pieces
+unfoldable pub glyph_mark : Place → GlyphFields → ℤ → Pieces
 glyph_mark here g width =
     if may_stand here width then Ok (Glyph (record { h = here.h; v = here.v; font = g.font; code = g.char; width = width }) ∷ [])
     else Err Dimension
 
 -- a rule of this height, its depth included, and width, whose left lower corner is here
-abbrev pub rule_mark : Place → ℤ → ℤ → Pieces
+unfoldable pub rule_mark : Place → ℤ → ℤ → Pieces
 rule_mark here height width =
     if int_lt (pos 0) width && int_lt (pos 0) height then
     if may_stand here width then Ok (Rule (record { h = here.h; v = here.v; height = height; width = width }) ∷ [])
@@ -98,7 +99,7 @@ corner Vertical r here = record here { v = here.v +ℤ (r.height +ℤ r.depth) }
 
 -- A node that stands here in a list of this direction: boxes with what is in them, rules, characters, and of a discretionary the list that stands where
 -- there is no break.
-abbrev pub node_pieces : List FontTables → Placer → Direction → Contents → Place → Pieces
+unfoldable pub node_pieces : List FontTables → Placer → Direction → Contents → Place → Pieces
 node_pieces fonts place direction (contents.Hlist b) here = result_map grouped (place (hlist_inside b) (reference direction b here))
 node_pieces fonts place direction (contents.Vlist b) here = result_map grouped (place (vlist_inside b) (top b (reference direction b here)))
 node_pieces fonts place direction (contents.Rule r) here = rule_mark (corner direction r here) (r.height +ℤ r.depth) r.width
@@ -118,21 +119,31 @@ abbrev pub moved : Direction → ℤ → Place → Place
 moved Horizontal size here = record here { h = here.h +ℤ size }
 moved Vertical size here = record here { v = here.v +ℤ size }
 
--- The nodes of these names, one after another, from a place on and from this running total of glue.
-abbrev pub in_row : Heap → List FontTables → Placer → Inside → List ℕ → ℤ → Place → Pieces
-in_row heap fonts place inside [] total here = Ok []
-in_row heap fonts place inside (n ∷ ns) total here =
+-- Where the nodes of these names stand, one after another, from a place on and from this running total of glue.
+unfoldable pub stations : Heap → List FontTables → Inside → List ℕ → ℤ → Place → Result (List Station) Trouble
+stations heap fonts inside [] total here = Ok []
+stations heap fonts inside (n ∷ ns) total here =
     at heap n (λ node.
     let item = item_of heap fonts node in
-    joined (node_pieces fonts place inside.direction node.fields.contents here)
-    (in_row heap fonts place inside ns (total +ℤ move inside.glue item) (moved inside.direction (set_size inside.glue total (own_size inside.direction item) item) here)))
+    result_map (λ rest. record { contents = node.fields.contents; here = here } ∷ rest)
+    (stations heap fonts inside ns (total +ℤ move inside.glue item) (moved inside.direction (set_size inside.glue total (own_size inside.direction item) item) here)))
 
--- A list that begins here, with at most so many levels of lists, itself included. It has to be one that `items` accepts.
-abbrev pub list_pieces : Heap → List FontTables → ℕ → Placer
+-- the pieces of nodes that stand so
+abbrev pub row_pieces : List FontTables → Placer → Direction → List Station → Pieces
+row_pieces fonts place direction [] = Ok []
+row_pieces fonts place direction (s ∷ ss) = joined (node_pieces fonts place direction s.contents s.here) (row_pieces fonts place direction ss)
+
+-- where the nodes of a list stand that begins here, if it is one that `items` accepts
+unfoldable pub row_at : Heap → List FontTables → Inside → Place → Result (List Station) Trouble
+row_at heap fonts inside here =
+    result_and_then (items_answer heap fonts inside.head inside.kind) (λ items.
+    result_and_then (flat_walk heap inside.head) (λ names. stations heap fonts inside names (pos 0) here))
+
+-- A list that begins here, with at most so many levels of lists, itself included.
+unfoldable pub list_pieces : Heap → List FontTables → ℕ → Placer
 list_pieces heap fonts zero inside here = Err Nest
 list_pieces heap fonts (suc levels) inside here =
-    result_and_then (items_answer heap fonts inside.head inside.kind) (λ items.
-    result_and_then (flat_walk heap inside.head) (λ names. in_row heap fonts (list_pieces heap fonts levels) inside names (pos 0) here))
+    result_and_then (row_at heap fonts inside here) (row_pieces fonts (list_pieces heap fonts levels) inside.direction)
 
 -- ---- pages
 

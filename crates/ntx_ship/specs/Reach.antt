@@ -10,6 +10,7 @@ use Rattle.ntx_pack.specs.Output.{IsRatio}
 use Rattle.ntx_view.specs.Measured.{HasMeasures}
 use Rattle.ntx_view.specs.View.{item_at}
 use Rattle.ntx_ship.specs.declared.place.Place.{Place}
+use Rattle.ntx_ship.specs.declared.station.Station.{Station}
 
 -- The place is no farther than this from the page's corner, in either direction.
 pub record IsPlaced (most : ℕ) (at : Place) : Type 0 where
@@ -34,6 +35,11 @@ HasRatio _ = Unit {0}
 pub record HasRanges (contents : Contents) : Type 0 where
   pub measures : HasMeasures contents
   pub ratio : HasRatio contents
+
+-- a node that stands no farther than this from the page's corner, and by numbers in their ranges
+pub record StandsWithin (most : ℕ) (station : Station) : Type 0 where
+  pub place : IsPlaced most station.here
+  pub ranges : HasRanges station.contents
 
 -- one item for each node of these names
 pub record AreItemsOf (heap : Heap) (fonts : List FontTables) (names : List ℕ) (items : List Item) : Type 0 where

@@ -11,6 +11,7 @@ mod piece;
 mod place;
 mod placing;
 mod size;
+mod station;
 
 pub use page::{PlacedPage, placed};
 pub use piece::{GlyphMark, Piece, RuleMark};

@@ -1,23 +1,32 @@
 //! Marks on a page.
 
-ghost use Rattle.std.specs.Prelude.{◌≡◌, ◌≤◌, ◌≤ℤ◌, ◌^◌, ◌∷◌, [], pos, unsigned_abs};
+ghost use Rattle.std.specs.Prelude.{◌≡◌, ◌≤◌, ◌≤ℤ◌, ◌^◌, ◌∷◌, [], true, pos, unsigned_abs};
 ghost use Rattle.ntx_num.specs.Answer.{result_map};
 ghost use Rattle.ntx_num.specs.Dimension.{IsDimension};
 ghost use Rattle.ntx_ship.specs.Placed.{may_stand, glyph_mark, rule_mark};
 ghost use Rattle.ntx_ship.specs.Reach.{IsPlaced};
 
 use crate::piece::{GlyphMark, Piece, RuleMark};
-use crate::place::{Place, sum};
+use crate::place::{Place, narrowed, sum};
 use ntx_nodes::{GlyphFields, Trouble};
 use ntx_num::is_dimension;
 
 /// Whether a mark of this width may stand here.
+#[tactic(auto, unfolding(crate::specs::Placed::may_stand))]
 fn may_stand(here: Place, width: i64) -> bool
     requires place { IsPlaced (2 ^ 61) here }
     requires width { unsigned_abs width ≤ 2 ^ 61 }
-    ensures { result ≡ may_stand here width }
+    ensures value { result ≡ may_stand here width }
+    ensures h { result ≡ true → IsDimension here.h }
+    ensures v { result ≡ true → IsDimension here.v }
 {
-    is_dimension(here.h) && is_dimension(here.v) && is_dimension(sum(here.h, width))
+    if !is_dimension(here.h) {
+        return false;
+    }
+    if !is_dimension(here.v) {
+        return false;
+    }
+    is_dimension(sum(here.h, width))
 }
 
 /// A character whose reference point is here.
@@ -34,11 +43,11 @@ pub fn glyph_mark(here: Place, g: GlyphFields, width: i64) -> Result<Piece, Trou
         return Err(Trouble::Dimension);
     }
     Ok(Piece::Glyph(GlyphMark {
-        h: here.h as i32,
-        v: here.v as i32,
+        h: narrowed(here.h),
+        v: narrowed(here.v),
         font: g.font,
         code: g.char,
-        width: width as i32,
+        width: narrowed(width),
     }))
 }
 
@@ -59,9 +68,9 @@ pub fn rule_mark(here: Place, height: i64, width: i64) -> Result<Piece, Trouble>
         return Err(Trouble::Dimension);
     }
     Ok(Piece::Rule(RuleMark {
-        h: here.h as i32,
-        v: here.v as i32,
-        height: height as i32,
-        width: width as i32,
+        h: narrowed(here.h),
+        v: narrowed(here.v),
+        height: narrowed(height),
+        width: narrowed(width),
     }))
 }

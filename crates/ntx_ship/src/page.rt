@@ -1,6 +1,6 @@
 //! Pages.
 
-ghost use Rattle.std.specs.Prelude.{◌≡◌, ◌≤◌, ◌+ℤ◌, unsigned_abs, IfOk};
+ghost use Rattle.std.specs.Prelude.{◌≡◌, ◌+ℤ◌, IfOk};
 ghost use Rattle.ntx_num.specs.Answer.{Answers, result_map};
 ghost use Rattle.ntx_num.specs.Dimension.{IsDimension};
 ghost use Rattle.ntx_pack.specs.Output.{IsRatio};
@@ -10,8 +10,9 @@ ghost use Rattle.ntx_ship.specs.Reach.{IsPlaced, HasRanges, list_reach};
 
 use crate::list::{Inside, in_hlist, in_vlist};
 use crate::piece::Piece;
-use crate::place::Place;
-use crate::placing::{contents_of, place_list};
+use crate::place::{Place, narrowed};
+use crate::placing::place_list;
+use crate::station::contents_of;
 use ntx_nodes::{BoxFields, Contents, ListKind, Nodes, Trouble};
 use ntx_num::Fail;
 use ntx_tfm::Font;
@@ -81,14 +82,6 @@ fn page_pieces<N: Nodes>(
     let mut pieces = Vec::new(alloc);
     place_list(alloc, nodes, fonts, inside, here, LEVELS, &mut pieces)?;
     Ok(pieces)
-}
-
-/// A size in fewer bits.
-fn narrowed(size: i64) -> i32
-    requires { unsigned_abs size ≤ 2147483646 }
-    ensures { result ≡ size }
-{
-    size as i32
 }
 
 /// A page that is as large as this box, with these pieces.

@@ -25,6 +25,14 @@ pub fn sum(a: i64, b: i64) -> i64
     a + b
 }
 
+/// A size in fewer bits.
+pub fn narrowed(size: i64) -> i32
+    requires { unsigned_abs size ≤ 2147483646 }
+    ensures { result ≡ size }
+{
+    size as i32
+}
+
 impl Place {
     /// The place after a node of this size in a list of this direction.
     pub fn moved(self, direction: Direction, size: i64) -> Place

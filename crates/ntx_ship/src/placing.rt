@@ -1,28 +1,49 @@
 //! The pieces of lists and of the boxes in them.
 
-ghost use Rattle.std.specs.Prelude.{◌≡◌, ◌≤◌, ◌<◌, ◌+◌, ◌^◌, ◌+ℤ◌, pos, length, unwrap_or, Ok, All, IfOk, OnOk};
-ghost use Rattle.ntx_num.specs.Answer.{result_map};
-ghost use Rattle.ntx_nodes.specs.Steps.{at};
-ghost use Rattle.ntx_item.specs.Items.{AreItemsInRange};
+ghost use Rattle.std.specs.Prelude.{◌≡◌, ◌≤◌, ◌+◌, ◌++◌, ◌^◌, ℕ, List, ◌+ℤ◌, ◌∷◌, [], pos, length, unwrap_or, Ok, All, IfOk, OnOk};
+ghost use Rattle.ntx_num.specs.Answer.{Answers, result_map};
+ghost use Rattle.ntx_num.specs.Dimension.{IsDimension};
 ghost use Rattle.ntx_pack.specs.Output.{IsRatio};
-ghost use Rattle.ntx_view.specs.Measured.{IsMeasured, HasMeasures};
+ghost use Rattle.ntx_view.specs.Measured.{HasMeasures};
 ghost use Rattle.ntx_view.specs.View.{char_size, no_size};
+ghost use Rattle.ntx_ship.specs.declared.piece.Piece.{Piece};
+ghost use Rattle.ntx_ship.specs.declared.piece.Piece.TheVariants.{Push};
 ghost use Rattle.ntx_ship.specs.Adding.{Adds, closed};
-ghost use Rattle.ntx_ship.specs.Placed.{glyph_mark, rule_mark, corner, grouped, node_pieces, in_row, list_pieces};
-ghost use Rattle.ntx_ship.specs.Reach.{IsPlaced, HasRanges, AreItemsOf, reach};
+ghost use Rattle.ntx_ship.specs.Placed.{glyph_mark, rule_mark, corner, grouped, node_pieces, row_pieces, row_at, list_pieces, Pieces};
+ghost use Rattle.ntx_ship.specs.Reach.{IsPlaced, StandsWithin, reach};
 
 use crate::list::{Inside, in_hlist, in_part, in_vlist};
 use crate::mark::{glyph_mark, rule_mark};
 use crate::piece::Piece;
 use crate::place::Place;
-use crate::size::set_size;
-use ntx_item::Item;
+use crate::station::{Station, stations};
 use ntx_nodes::{Contents, GlyphFields, ListKind, Nodes, RuleFields, Trouble, Way, names_reached};
 use ntx_num::{Fail, NoMemory};
-use ntx_pack::{Direction, GlueSetter};
+use ntx_pack::Direction;
 use ntx_tfm::Font;
 use ntx_view::{char_size, items};
 use std::alloc::Global;
+
+/// Puts a mark at the end of the pieces, or refuses as it was refused.
+fn add(pieces: &mut Vec<Piece>, mark: Result<Piece, Trouble>) -> Result<(), Fail<Trouble>>
+    ensures { Adds result pieces.old.items pieces.new.items (result_map (λ piece. piece ∷ []) mark) }
+{
+    match mark {
+        Ok(piece) => Ok(pieces.push(piece)?),
+        Err(why) => Err(Fail::Is(why)),
+    }
+}
+
+/// The width of a character, or 0 if it is not there.
+fn width_of(fonts: &[Font], g: GlyphFields) -> i64
+    ensures value { result ≡ (unwrap_or (char_size fonts.now g) no_size).w }
+    ensures dimension { IsDimension result }
+{
+    match char_size(fonts, g.font, g.char) {
+        Some(size) => size.w,
+        None => 0,
+    }
+}
 
 /// Puts a character at the end of the pieces.
 fn place_glyph(
@@ -34,14 +55,8 @@ fn place_glyph(
     requires { IsPlaced (2 ^ 61) here }
     ensures { Adds result pieces.old.items pieces.new.items (glyph_mark here g (unwrap_or (char_size fonts.now g) no_size).w) }
 {
-    let width = match char_size(fonts, g.font, g.char) {
-        Some(size) => size.w,
-        None => 0,
-    };
-    match glyph_mark(here, g, width) {
-        Ok(piece) => Ok(pieces.push(piece)?),
-        Err(why) => Err(Fail::Is(why)),
-    }
+    let width = width_of(fonts, g);
+    add(pieces, glyph_mark(here, g, width))
 }
 
 /// Puts a rule at the end of the pieces, unless it has no width or no height and depth.
@@ -59,25 +74,41 @@ fn place_rule(
     if r.width <= 0 || height <= 0 {
         return Ok(());
     }
-    match rule_mark(here.corner(direction, r), height, r.width) {
-        Ok(piece) => Ok(pieces.push(piece)?),
-        Err(why) => Err(Fail::Is(why)),
-    }
+    add(
+        pieces,
+        rule_mark(here.corner(direction, r), height, r.width),
+    )
 }
 
-/// Ends a box that began at this place of the pieces, or takes its beginning away where it holds no piece.
-fn close(pieces: &mut Vec<Piece>, begin: usize) -> Result<(), NoMemory>
-    requires { begin < length pieces.old.items }
-    ensures { OnOk result (pieces.new.items ≡ closed begin pieces.old.items) }
+/// Ends a box that began where the pieces were as many as this, or takes its beginning away if they still are.
+fn close(pieces: &mut Vec<Piece>, full: usize) -> Result<(), NoMemory>
+    ensures { OnOk result (pieces.new.items ≡ closed full pieces.old.items) }
 {
-    if pieces.len() == begin + 1 {
+    if pieces.len() == full {
         let _push = pieces.pop();
         return Ok(());
     }
     Ok(pieces.push(Piece::Pop)?)
 }
 
-/// Puts what stands in a box at the end of the pieces, between push and pop where it holds a piece.
+/// Ends a box that began where the pieces were as many as this, or refuses as the list in it was refused.
+fn end_box(
+    pieces: &mut Vec<Piece>,
+    full: usize,
+    inner: Result<(), Fail<Trouble>>,
+) -> Result<(), Fail<Trouble>>
+    ensures { (old : List Piece) (list : Pieces) → full ≡ length (old ++ Push ∷ []) → Adds inner (old ++ Push ∷ []) pieces.old.items list → Adds result old pieces.new.items (result_map grouped list) }
+{
+    match inner {
+        Ok(()) => match close(pieces, full) {
+            Ok(()) => Ok(()),
+            Err(NoMemory) => Err(Fail::NoMemory),
+        },
+        Err(why) => Err(why),
+    }
+}
+
+/// Puts what stands in a box at the end of the pieces, between push and pop if it holds a piece.
 #[cycle(placing)]
 fn place_box<N: Nodes>(
     alloc: Global,
@@ -94,31 +125,30 @@ fn place_box<N: Nodes>(
     ensures same { N.heap nodes.new ≡ N.heap nodes.old }
     ensures adds { Adds result pieces.old.items pieces.new.items (result_map grouped (list_pieces (N.heap nodes.old) fonts.now levels inside here)) }
 {
-    let begin = pieces.len();
     pieces.push(Piece::Push)?;
-    place_list(alloc, nodes, fonts, inside, here, levels, pieces)?;
-    Ok(close(pieces, begin)?)
+    let full = pieces.len();
+    let inner = place_list(alloc, nodes, fonts, inside, here, levels, pieces);
+    end_box(pieces, full, inner)
 }
 
-/// Puts a node that stands here in a list of this direction at the end of the pieces.
+/// Puts a node at the end of the pieces.
 #[cycle(placing)]
 fn place_node<N: Nodes>(
     alloc: Global,
     nodes: &mut N,
     fonts: &[Font],
     direction: Direction,
-    contents: Contents,
-    here: Place,
+    station: Station,
     levels: u64,
     pieces: &mut Vec<Piece>,
 ) -> Result<(), Fail<Trouble>>
     requires levels { levels ≤ 100 }
-    requires place { IsPlaced (reach (levels + 1) + 2 ^ 51) here }
-    requires ranges { HasRanges contents }
+    requires station { StandsWithin (reach (levels + 1) + 2 ^ 51) station }
     ensures same { N.heap nodes.new ≡ N.heap nodes.old }
-    ensures adds { Adds result pieces.old.items pieces.new.items (node_pieces fonts.now (list_pieces (N.heap nodes.old) fonts.now levels) direction contents here) }
+    ensures adds { Adds result pieces.old.items pieces.new.items (node_pieces fonts.now (list_pieces (N.heap nodes.old) fonts.now levels) direction station.contents station.here) }
 {
-    match contents {
+    let here = station.here;
+    match station.contents {
         Contents::Hlist(b) => {
             let at = here.reference(direction, b);
             place_box(alloc, nodes, fonts, in_hlist(b), at, levels, pieces)
@@ -140,67 +170,49 @@ fn place_node<N: Nodes>(
                 pieces,
             )
         }
-        Contents::Glue(_) | Contents::Kern(_) | Contents::Penalty(_) => Ok(()),
+        _ => Ok(()),
     }
 }
 
-/// What a node holds.
-pub fn contents_of<N: Nodes>(nodes: &N, n: u64) -> Result<Contents, Trouble>
-    ensures value { result ≡ at (N.heap nodes.now) n (λ node. Ok node.fields.contents) }
-    ensures ranges { IfOk result HasRanges }
-{
-    nodes.lawful();
-    match nodes.fields(n) {
-        Ok(fields) => Ok(fields.contents),
-        Err(why) => Err(why),
-    }
-}
-
-/// Puts the nodes of these names, which have these items, at the end of the pieces, from a place on.
+/// Puts nodes that stand so at the end of the pieces.
 #[cycle(placing)]
 fn place_row<N: Nodes>(
     alloc: Global,
     nodes: &mut N,
     fonts: &[Font],
-    inside: Inside,
-    names: &[u64],
-    items: &[Item],
-    here: Place,
+    direction: Direction,
+    row: &[Station],
     levels: u64,
     pieces: &mut Vec<Piece>,
 ) -> Result<(), Fail<Trouble>>
     requires levels { levels ≤ 100 }
-    requires place { IsPlaced (reach (levels + 1)) here }
-    requires glue { IsRatio inside.glue }
-    requires items { AreItemsOf (N.heap nodes.old) fonts.now names.now items.now }
-    requires in_range { AreItemsInRange items.now }
-    requires measured { All IsMeasured items.now }
+    requires row { All (StandsWithin (reach (levels + 1) + 2 ^ 51)) row.now }
     ensures same { N.heap nodes.new ≡ N.heap nodes.old }
-    ensures adds { Adds result pieces.old.items pieces.new.items (in_row (N.heap nodes.old) fonts.now (list_pieces (N.heap nodes.old) fonts.now levels) inside names.now (pos 0) here) }
+    ensures adds { Adds result pieces.old.items pieces.new.items (row_pieces fonts.now (list_pieces (N.heap nodes.old) fonts.now levels) direction row.now) }
 {
-    let mut setter = GlueSetter::new(inside.glue);
-    let mut at = here;
-    for i in 0..names.len() {
-        let contents = match contents_of(nodes, names[i]) {
-            Ok(contents) => contents,
-            Err(why) => return Err(Fail::Is(why)),
-        };
-        place_node(
-            alloc,
-            nodes,
-            fonts,
-            inside.direction,
-            contents,
-            at,
-            levels,
-            pieces,
-        )?;
-        at = at.moved(
-            inside.direction,
-            set_size(&mut setter, inside.direction, &items[i]),
-        );
+    for station in row {
+        place_node(alloc, nodes, fonts, direction, *station, levels, pieces)?;
     }
     Ok(())
+}
+
+/// Where the nodes of a list stand that begins here.
+fn row_of<N: Nodes>(
+    alloc: Global,
+    nodes: &mut N,
+    fonts: &[Font],
+    inside: Inside,
+    here: Place,
+) -> Result<Vec<Station>, Fail<Trouble>>
+    requires place { IsPlaced (2 ^ 60) here }
+    requires glue { IsRatio inside.glue }
+    ensures same { N.heap nodes.new ≡ N.heap nodes.old }
+    ensures answer { Answers (result_map (λ all. all.items) result) (row_at (N.heap nodes.old) fonts.now inside here) }
+    ensures within { IfOk result (λ all. (most : ℕ) → IsPlaced most here → All (StandsWithin (most + 2 ^ 51)) all.items) }
+{
+    let seen = items(alloc, nodes, fonts, inside.head, inside.kind)?;
+    let names = names_reached(alloc, nodes, Way::Flat, inside.head, ListKind::H)?;
+    stations(alloc, nodes, inside, &names, &seen, here)
 }
 
 /// Puts a list that begins here at the end of the pieces, with at most so many levels of lists, itself included.
@@ -223,16 +235,13 @@ pub fn place_list<N: Nodes>(
     if levels == 0 {
         return Err(Fail::Is(Trouble::Nest));
     }
-    let seen = items(alloc, nodes, fonts, inside.head, inside.kind)?;
-    let names = names_reached(alloc, nodes, Way::Flat, inside.head, ListKind::H)?;
+    let row = row_of(alloc, nodes, fonts, inside, here)?;
     place_row(
         alloc,
         nodes,
         fonts,
-        inside,
-        &names,
-        &seen,
-        here,
+        inside.direction,
+        &row,
         levels - 1,
         pieces,
     )
