@@ -1,6 +1,7 @@
 -- What is put at the end of pieces.
-use Rattle.std.proofs.Common.{◌≡◌, ℕ, suc, ◌+◌, ◌≤◌, ◌<◌, List, [], ◌∷◌, ◌++◌, length, drop, get_or, Ok, Err, refl, sym, ap, ◌∙◌, subst, append_assoc, append-nil}
-use Rattle.std.specs.Prelude.{Result}
+use Rattle.std.proofs.Common.{◌≡◌, ℕ, suc, ℤ, pos, Bool, true, false, ◌&&◌, ◌+◌, ◌≤◌, ◌<◌, List, [], ◌∷◌, ◌++◌, length, drop, get_or, Ok, Err, refl, sym, ap, ◌∙◌, subst, append_assoc, append-nil, arith}
+use Rattle.std.specs.Prelude.{Result, int_lt, ◌≤ℤ◌, if◌then◌else◌}
+use Rattle.std.proofs.lemmas.Int.{ints}
 use Rattle.std.proofs.lemmas.List.{at_drop_more, at_drop_all}
 use Rattle.ntx_num.specs.Answer.{result_map, result_and_then}
 use Rattle.ntx_num.proofs.Answers.{same_Ok}
@@ -16,7 +17,7 @@ use Rattle.ntx_ship.specs.declared.piece.Piece.{Piece}
 use Rattle.ntx_ship.specs.declared.piece.Piece.TheVariants.{Push}
 use Rattle.ntx_ship.specs.declared.place.Place.{Place}
 use Rattle.ntx_ship.specs.declared.station.Station.{Station}
-use Rattle.ntx_ship.specs.Placed.{Pieces, Placer, joined, grouped, node_pieces, row_pieces, row_at, list_pieces}
+use Rattle.ntx_ship.specs.Placed.{Pieces, Placer, joined, rule_mark, grouped, node_pieces, row_pieces, row_at, list_pieces}
 use Rattle.ntx_ship.specs.Adding.{Adds, AddsAs, closed, after}
 use Rattle.ntx_ship.proofs.Groups.{closes, refuses}
 
@@ -37,6 +38,28 @@ adds_no_memory old new pieces = record { done = tt }
 -- The same pieces by another definition.
 pub adds_as : {result : Result (Unit {0}) (Fail Trouble)} {old new : List Piece} {pieces same : Pieces} → pieces ≡ same → Adds result old new pieces → Adds result old new same
 adds_as {result = result} {old = old} {new = new} e adds = subst (λ (ps : Pieces). Adds result old new ps) e adds
+
+-- ---- rules that are no marks
+
+hidden_by : (one two : Bool) (a : Unit {0}) (old : List Piece) (pieces : Pieces) → (one && two) ≡ false → Adds (Ok a) old old (if one && two then pieces else Ok [])
+hidden_by one two a old pieces e = subst (λ (b : Bool). Adds (Ok a) old old (if b then pieces else Ok [])) (sym e) (adds_nothing a old)
+
+not_above : (x : ℤ) → x ≤ℤ pos 0 → int_lt (pos 0) x ≡ false
+not_above x h = grind (arith, ints)
+
+neither : (one two : Bool) → two ≡ false → (one && two) ≡ false
+neither true two e = e
+neither false two e = refl
+
+pub no_width : (a : Unit {0}) (old : List Piece) (here : Place) (height width : ℤ) → width ≤ℤ pos 0 → Adds (Ok a) old old (rule_mark here height width)
+unfolding rule_mark
+no_width a old here height width h =
+    hidden_by (int_lt (pos 0) width) (int_lt (pos 0) height) a old _ (ap (λ (b : Bool). b && int_lt (pos 0) height) (not_above width h))
+
+pub no_height : (a : Unit {0}) (old : List Piece) (here : Place) (height width : ℤ) → height ≤ℤ pos 0 → Adds (Ok a) old old (rule_mark here height width)
+unfolding rule_mark
+no_height a old here height width h =
+    hidden_by (int_lt (pos 0) width) (int_lt (pos 0) height) a old _ (neither (int_lt (pos 0) width) (int_lt (pos 0) height) (not_above height h))
 
 -- ---- boxes
 

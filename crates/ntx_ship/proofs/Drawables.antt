@@ -1,9 +1,8 @@
 -- The pieces of a page can be drawn one after another.
 use Rattle.std.proofs.Common.{◌≡◌, ℕ, zero, suc, ◌+◌, ◌-◌, ◌≤◌, ◌<◌, ◌^◌, ℤ, pos, ◌+ℤ◌, Bool, true, false, ◌&&◌, List, [], ◌∷◌, ◌++◌, Some, Ok, Err, refl, sym, ap, ◌∙◌, subst, append_assoc, append-nil, arith}
 use Rattle.std.specs.Prelude.{Result, neg_ℤ, int_le, ◌≤ℤ◌, if◌then◌else◌, int_lt, unwrap_or}
-use Rattle.std.proofs.lemmas.Int.{ints}
 use Rattle.ntx_num.specs.Answer.{result_map, result_and_then}
-use Rattle.ntx_num.specs.Dimension.{is_dimension, IsDimension, max_dimension}
+use Rattle.ntx_num.specs.Dimension.{is_dimension}
 use Rattle.ntx_num.proofs.Answers.{same_Ok, mapped_Ok, went_Ok, taken}
 use Rattle.ntx_nodes.specs.Heap.{Heap}
 use Rattle.ntx_nodes.specs.declared.contents.GlyphFields.{GlyphFields}
@@ -20,6 +19,7 @@ use Rattle.ntx_ship.specs.declared.piece.Piece.TheVariants.{Push, Pop, Glyph, Ru
 use Rattle.ntx_ship.specs.declared.place.Place.{Place}
 use Rattle.ntx_ship.specs.declared.station.Station.{Station}
 use Rattle.ntx_ship.specs.Placed.{Pieces, Placer, joined, may_stand, glyph_mark, rule_mark, grouped, reference, top, corner, hlist_inside, vlist_inside, part_inside, node_pieces, row_pieces, row_at, list_pieces, max_levels}
+use Rattle.ntx_ship.proofs.Marks.{both, dimension_is}
 use Rattle.ntx_ship.specs.Drawable.{IsStanding, AreDrawable}
 
 -- Pieces of so many levels of boxes go before any others that can be drawn.
@@ -42,15 +42,6 @@ first_grouped levels (p ∷ ps) g pushed rest few drawable =
     (omega arith, subst (AreDrawable (suc pushed)) (sym (append_assoc (p ∷ ps) (Pop ∷ []) rest)) (g (suc pushed) (Pop ∷ rest) (omega arith) drawable))
 
 -- ---- marks
-
-both : (a b : Bool) → (a && b) ≡ true → (a ≡ true) × (b ≡ true)
-both true b e = (refl, e)
-both false b e = cc
-
-dimension_is : (x : ℤ) → is_dimension x ≡ true → IsDimension x
-dimension_is x e =
-    let b = both (int_le (neg_ℤ (pos max_dimension)) x) (int_le x (pos max_dimension)) e in
-    (grind (arith, ints, b.0), grind (arith, ints, b.1))
 
 standing : (here : Place) (width : ℤ) → may_stand here width ≡ true → IsStanding here.h here.v width
 unfolding may_stand

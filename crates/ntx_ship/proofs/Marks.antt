@@ -1,6 +1,8 @@
 -- Marks that stand within a dimension.
-use Rattle.std.proofs.Common.{◌≡◌, ℤ, pos, ◌+ℤ◌, Bool, true, false, ◌&&◌, cond, List, [], ◌∷◌, Ok, Err, refl, sym, ap, ◌∙◌}
-use Rattle.std.specs.Prelude.{Result, int_lt}
+use Rattle.std.proofs.Common.{◌≡◌, ℤ, pos, ◌+ℤ◌, Bool, true, false, ◌&&◌, cond, List, [], ◌∷◌, Ok, Err, refl, sym, ap, ◌∙◌, arith}
+use Rattle.std.specs.Prelude.{Result, int_lt, int_le, neg_ℤ, ◌≤ℤ◌}
+use Rattle.std.proofs.lemmas.Int.{ints}
+use Rattle.ntx_num.specs.Dimension.{is_dimension, IsDimension, max_dimension}
 use Rattle.std.proofs.lemmas.Bool.{cond-true, cond-false}
 use Rattle.ntx_nodes.specs.declared.contents.GlyphFields.{GlyphFields}
 use Rattle.ntx_nodes.specs.declared.trouble.Trouble.{Trouble}
@@ -9,6 +11,15 @@ use Rattle.ntx_ship.specs.declared.piece.Piece.{Piece}
 use Rattle.ntx_ship.specs.declared.piece.Piece.TheVariants.{Glyph, Rule}
 use Rattle.ntx_ship.specs.declared.place.Place.{Place}
 use Rattle.ntx_ship.specs.Placed.{Pieces, may_stand, glyph_mark, rule_mark}
+
+pub both : (a b : Bool) → (a && b) ≡ true → (a ≡ true) × (b ≡ true)
+both true b e = (refl, e)
+both false b e = cc
+
+pub dimension_is : (x : ℤ) → is_dimension x ≡ true → IsDimension x
+dimension_is x e =
+    let b = both (int_le (neg_ℤ (pos max_dimension)) x) (int_le x (pos max_dimension)) e in
+    (grind (arith, ints, b.0), grind (arith, ints, b.1))
 
 pub glyph_stands : (here : Place) (g : GlyphFields) (width h v w : ℤ) → may_stand here width ≡ true → h ≡ here.h → v ≡ here.v → w ≡ width → ◌≡◌ {A = Pieces} (Ok (Glyph (record { h = h; v = v; font = g.font; code = g.char; width = w }) ∷ [])) (glyph_mark here g width)
 unfolding glyph_mark
@@ -19,6 +30,9 @@ glyph_stands here g width h v w stands eh ev ew =
 pub glyph_refused : (here : Place) (g : GlyphFields) (width : ℤ) → may_stand here width ≡ false → ◌≡◌ {A = Pieces} (Err Dimension) (glyph_mark here g width)
 unfolding glyph_mark
 glyph_refused here g width fails = sym (cond-false (may_stand here width) (Ok (Glyph (record { h = here.h; v = here.v; font = g.font; code = g.char; width = width }) ∷ [])) (Err Dimension) fails)
+
+pub is_above : (x : ℤ) → pos 1 ≤ℤ x → int_lt (pos 0) x ≡ true
+is_above x h = grind (arith, ints)
 
 above : (height width : ℤ) → int_lt (pos 0) width ≡ true → int_lt (pos 0) height ≡ true → (int_lt (pos 0) width && int_lt (pos 0) height) ≡ true
 above height width w h = ap (λ b. b && int_lt (pos 0) height) w ∙ h

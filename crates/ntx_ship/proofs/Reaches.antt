@@ -4,7 +4,7 @@ use Rattle.std.specs.Prelude.{nat_eq}
 use Rattle.std.specs.List.{sum_by}
 use Rattle.std.specs.Int.RustNames.{unsigned_abs}
 use Rattle.std.proofs.lemmas.Int.{ints}
-use Rattle.std.proofs.lemmas.List.Sums.{sum_by_more, sum_by_more_le}
+use Rattle.std.proofs.lemmas.List.Sums.{sum_by_more, sum_by-take-le}
 use Rattle.ntx_item.specs.declared.item.Item.{Item}
 use Rattle.ntx_item.specs.declared.item.Item.TheVariants.{Box, Glyph, Rule, Glue, Kern, Penalty, Disc}
 use Rattle.ntx_item.specs.declared.glue.GlueSpec.{GlueSpec}
@@ -54,9 +54,29 @@ total_within glue items i d total lt r e =
 
 -- ---- widths so far
 
-pub row_within : (items : List Item) (i : ℕ) (d : Item) (m k : ℕ) → i < length items → AreItemsInRange items → k ≡ m + (sum_by absolute_width (take i items) + i * 2 ^ 32) →
-    k + (absolute_width (get_or items i d) + 2 ^ 32) ≡ m + (sum_by absolute_width (take (i + 1) items) + (i + 1) * 2 ^ 32)
-row_within items i d m k lt r e = omega (arith, e, sum_by_more absolute_width items i d lt)
+-- as far can the first nodes of a list reach
+abbrev pub so_far : List Item → ℕ → ℕ
+so_far items i = sum_by absolute_width (take i items) + i * 2 ^ 32
+
+so_far_more : (items : List Item) (i : ℕ) (d : Item) → i < length items → so_far items i + (absolute_width (get_or items i d) + 2 ^ 32) ≡ so_far items (i + 1)
+so_far_more items i d lt = omega (arith, sum_by_more absolute_width items i d lt)
+
+-- They reach no farther than a list may.
+pub so_far_within : (items : List Item) (i : ℕ) → i ≤ length items → AreItemsInRange items → so_far items i ≤ 2 ^ 51
+so_far_within items i le r =
+    let widths : sum_by absolute_width items ≤ 2 ^ 48 = r.widths in
+    let count : length items ≤ 2 ^ 18 = r.count in
+    let few : sum_by absolute_width (take i items) ≤ sum_by absolute_width items = sum_by-take-le absolute_width items i in
+    omega (arith, widths, count, few, le)
+
+-- one node more
+pub nearer : (direction : Direction) (items : List Item) (i : ℕ) (d : Item) (most : ℕ) (size : ℤ) (here new_here : Place) → i < length items → IsPlaced (most + so_far items i) here → unsigned_abs size ≤ absolute_width (get_or items i d) + 2 ^ 32 → new_here ≡ moved direction size here → IsPlaced (most + so_far items (i + 1)) new_here
+nearer direction items i d most size here new_here lt near bounded is =
+    subst (IsPlaced (most + so_far items (i + 1))) (sym is)
+    (moved_within direction size here (most + so_far items i) (absolute_width (get_or items i d) + 2 ^ 32) (most + so_far items (i + 1)) near bounded (omega (arith, so_far_more items i d lt)))
+
+pub near_enough : (items : List Item) (i most : ℕ) (here : Place) → i ≤ length items → AreItemsInRange items → IsPlaced (most + so_far items i) here → IsPlaced (most + 2 ^ 51) here
+near_enough items i most here le r near = is_placed (most + so_far items i) (most + 2 ^ 51) here near (omega (arith, so_far_within items i le r))
 
 -- ---- sizes
 

@@ -18,6 +18,7 @@ use Rattle.ntx_nodes.specs.declared.trouble.Trouble.{Trouble}
 use Rattle.ntx_nodes.proofs.Oks.{at_Ok}
 use Rattle.ntx_tfm.specs.Font.{FontTables}
 use Rattle.ntx_item.specs.declared.item.Item.{Item}
+use Rattle.ntx_pack.specs.declared.glue_set.GlueSet.{GlueSet}
 use Rattle.ntx_pack.specs.Output.{move, set_size}
 use Rattle.ntx_view.specs.View.{item_of, item_at, items_answer, IsOneEach}
 use Rattle.ntx_ship.specs.declared.list.Inside.{Inside}
@@ -81,6 +82,20 @@ pub stations_more : (heap : Heap) (fonts : List FontTables) (inside : Inside) (n
 stations_more heap fonts inside names items i d total here contents all within are holds =
     ap (stand_after all) (stations_step heap fonts inside names items i d total here contents within are holds)
     ∙ stood_first all (record { contents = contents; here = here }) (rest_after heap fonts inside (drop (i + 1) names) total here (get_or items i d))
+
+-- The same, with what was computed of it.
+pub stations_next : (heap : Heap) (fonts : List FontTables) (inside : Inside) (names : List ℕ) (items : List Item) (i : ℕ) (d : Item) (total : ℤ) (here : Place) (contents : Contents) (all : List Station) (glue : GlueSet) (size new_total : ℤ) (new_here : Place) (new_all : List Station) → i < length names → AreItemsOf heap fonts names items → at heap (get_or names i 0) (λ node. Ok node.fields.contents) ≡ Ok contents → glue ≡ inside.glue →
+    size ≡ set_size glue total (own_size inside.direction (get_or items i d)) (get_or items i d) → new_total ≡ total +ℤ move glue (get_or items i d) → new_here ≡ moved inside.direction size here → new_all ≡ all ++ record { contents = contents; here = here } ∷ [] →
+    stand_after all (stations heap fonts inside (drop i names) total here) ≡ stand_after new_all (stations heap fonts inside (drop (i + 1) names) new_total new_here)
+stations_next heap fonts inside names items i d total here contents all glue size new_total new_here new_all within are holds same_glue size_is total_is here_is all_is =
+    let item = get_or items i d in
+    let all_total : new_total ≡ total +ℤ move inside.glue item = total_is ∙ ap (λ (set : GlueSet). total +ℤ move set item) same_glue in
+    let all_size : size ≡ set_size inside.glue total (own_size inside.direction item) item = size_is ∙ ap (λ (set : GlueSet). set_size set total (own_size inside.direction item) item) same_glue in
+    let all_here : new_here ≡ moved inside.direction (set_size inside.glue total (own_size inside.direction item) item) here = here_is ∙ ap (λ (x : ℤ). moved inside.direction x here) all_size in
+    stations_more heap fonts inside names items i d total here contents all within are holds
+    ∙ ap (λ (ss : List Station). stand_after ss (rest_after heap fonts inside (drop (i + 1) names) total here item)) (sym all_is)
+    ∙ ap (λ (t : ℤ). stand_after new_all (stations heap fonts inside (drop (i + 1) names) t (moved inside.direction (set_size inside.glue total (own_size inside.direction item) item) here))) (sym all_total)
+    ∙ ap (λ (p : Place). stand_after new_all (stations heap fonts inside (drop (i + 1) names) new_total p)) (sym all_here)
 
 -- Nothing is left at the end.
 pub stations_end : (heap : Heap) (fonts : List FontTables) (inside : Inside) (names : List ℕ) (i : ℕ) (total : ℤ) (here : Place) (all : List Station) → length names ≤ i → stand_after all (stations heap fonts inside (drop i names) total here) ≡ Ok all

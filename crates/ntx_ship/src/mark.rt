@@ -34,6 +34,7 @@ fn may_stand(here: Place, width: i64) -> bool
 /// # Refusals
 ///
 /// `Dimension` if its place, or the end of its width, is no dimension.
+#[tactic(auto, using(crate::proofs::Marks::glyph_refused))]
 pub fn glyph_mark(here: Place, g: GlyphFields, width: i64) -> Result<Piece, Trouble>
     requires place { IsPlaced (2 ^ 61) here }
     requires width { IsDimension width }
@@ -56,6 +57,7 @@ pub fn glyph_mark(here: Place, g: GlyphFields, width: i64) -> Result<Piece, Trou
 /// # Refusals
 ///
 /// `Dimension` if its place, or the end of its width, is no dimension.
+#[tactic(auto, using(crate::proofs::Marks::rule_refused, crate::proofs::Marks::is_above))]
 pub fn rule_mark(here: Place, height: i64, width: i64) -> Result<Piece, Trouble>
     requires place { IsPlaced (2 ^ 61) here }
     requires height_above { pos 1 ≤ℤ height }

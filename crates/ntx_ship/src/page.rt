@@ -10,7 +10,7 @@ ghost use Rattle.ntx_ship.specs.Reach.{IsPlaced, HasRanges, list_reach};
 
 use crate::list::{Inside, in_hlist, in_vlist};
 use crate::piece::Piece;
-use crate::place::{Place, narrowed};
+use crate::place::{Place, narrowed, sum};
 use crate::placing::place_list;
 use crate::station::contents_of;
 use ntx_nodes::{BoxFields, Contents, ListKind, Nodes, Trouble};
@@ -92,7 +92,7 @@ fn page_of(b: BoxFields, pieces: Vec<Piece>) -> PlacedPage
     ensures { result ≡ record { total = b.height +ℤ b.depth; width = b.width; pieces = pieces.items } }
 {
     PlacedPage {
-        total: narrowed(b.height + b.depth),
+        total: narrowed(sum(b.height, b.depth)),
         width: narrowed(b.width),
         pieces,
     }

@@ -1,6 +1,6 @@
 //! The pieces of lists and of the boxes in them.
 
-ghost use Rattle.std.specs.Prelude.{◌≡◌, ◌≤◌, ◌+◌, ◌++◌, ◌^◌, ℕ, List, ◌+ℤ◌, ◌∷◌, [], pos, length, unwrap_or, Ok, All, IfOk, OnOk};
+ghost use Rattle.std.specs.Prelude.{◌≡◌, ◌≤◌, ◌+◌, ◌++◌, ◌^◌, ℕ, List, ◌+ℤ◌, ◌∷◌, [], pos, length, unsigned_abs, unwrap_or, Ok, All, IfOk, OnOk};
 ghost use Rattle.ntx_num.specs.Answer.{Answers, result_map};
 ghost use Rattle.ntx_num.specs.Dimension.{IsDimension};
 ghost use Rattle.ntx_pack.specs.Output.{IsRatio};
@@ -15,7 +15,7 @@ ghost use Rattle.ntx_ship.specs.Reach.{IsPlaced, StandsWithin, reach};
 use crate::list::{Inside, in_hlist, in_part, in_vlist};
 use crate::mark::{glyph_mark, rule_mark};
 use crate::piece::Piece;
-use crate::place::Place;
+use crate::place::{Place, sum};
 use crate::station::{Station, stations};
 use ntx_nodes::{Contents, GlyphFields, ListKind, Nodes, RuleFields, Trouble, Way, names_reached};
 use ntx_num::{Fail, NoMemory};
@@ -25,11 +25,15 @@ use ntx_view::{char_size, items};
 use std::alloc::Global;
 
 /// Puts a mark at the end of the pieces, or refuses as it was refused.
+#[tactic(auto, using(crate::proofs::Adds::adds_one, crate::proofs::Adds::adds_error, crate::proofs::Adds::adds_no_memory))]
 fn add(pieces: &mut Vec<Piece>, mark: Result<Piece, Trouble>) -> Result<(), Fail<Trouble>>
     ensures { Adds result pieces.old.items pieces.new.items (result_map (λ piece. piece ∷ []) mark) }
 {
     match mark {
-        Ok(piece) => Ok(pieces.push(piece)?),
+        Ok(piece) => match pieces.push(piece) {
+            Ok(()) => Ok(()),
+            Err(_) => Err(Fail::NoMemory),
+        },
         Err(why) => Err(Fail::Is(why)),
     }
 }
@@ -59,7 +63,29 @@ fn place_glyph(
     add(pieces, glyph_mark(here, g, width))
 }
 
-/// Puts a rule at the end of the pieces, unless it has no width or no height and depth.
+/// Puts a rule whose left lower corner is here at the end of the pieces, unless it has no width or no height.
+#[tactic(auto, using(crate::proofs::Adds::no_width, crate::proofs::Adds::no_height, crate::proofs::Adds::adds_as))]
+fn add_rule(
+    here: Place,
+    height: i64,
+    width: i64,
+    pieces: &mut Vec<Piece>,
+) -> Result<(), Fail<Trouble>>
+    requires place { IsPlaced (2 ^ 61) here }
+    requires height { unsigned_abs height ≤ 2147483646 }
+    requires width { IsDimension width }
+    ensures { Adds result pieces.old.items pieces.new.items (rule_mark here height width) }
+{
+    if width <= 0 {
+        return Ok(());
+    }
+    if height <= 0 {
+        return Ok(());
+    }
+    add(pieces, rule_mark(here, height, width))
+}
+
+/// Puts a rule that stands here in a list of this direction at the end of the pieces.
 fn place_rule(
     direction: Direction,
     r: RuleFields,
@@ -70,14 +96,9 @@ fn place_rule(
     requires measured { HasMeasures (Contents.Rule r) }
     ensures { Adds result pieces.old.items pieces.new.items (rule_mark (corner direction r here) (r.height +ℤ r.depth) r.width) }
 {
-    let height = r.height + r.depth;
-    if r.width <= 0 || height <= 0 {
-        return Ok(());
-    }
-    add(
-        pieces,
-        rule_mark(here.corner(direction, r), height, r.width),
-    )
+    let corner = here.corner(direction, r);
+    let height = sum(r.height, r.depth);
+    add_rule(corner, height, r.width, pieces)
 }
 
 /// Ends a box that began where the pieces were as many as this, or takes its beginning away if they still are.
@@ -102,7 +123,7 @@ fn end_box(
     match inner {
         Ok(()) => match close(pieces, full) {
             Ok(()) => Ok(()),
-            Err(NoMemory) => Err(Fail::NoMemory),
+            Err(_) => Err(Fail::NoMemory),
         },
         Err(why) => Err(why),
     }
@@ -110,6 +131,7 @@ fn end_box(
 
 /// Puts what stands in a box at the end of the pieces, between push and pop if it holds a piece.
 #[cycle(placing)]
+#[tactic(auto, using(crate::proofs::Adds::adds_no_memory))]
 fn place_box<N: Nodes>(
     alloc: Global,
     nodes: &mut N,
@@ -125,7 +147,9 @@ fn place_box<N: Nodes>(
     ensures same { N.heap nodes.new ≡ N.heap nodes.old }
     ensures adds { Adds result pieces.old.items pieces.new.items (result_map grouped (list_pieces (N.heap nodes.old) fonts.now levels inside here)) }
 {
-    pieces.push(Piece::Push)?;
+    if pieces.push(Piece::Push).is_err() {
+        return Err(Fail::NoMemory);
+    }
     let full = pieces.len();
     let inner = place_list(alloc, nodes, fonts, inside, here, levels, pieces);
     end_box(pieces, full, inner)
@@ -176,6 +200,7 @@ fn place_node<N: Nodes>(
 
 /// Puts nodes that stand so at the end of the pieces.
 #[cycle(placing)]
+#[tactic(auto, using(crate::proofs::Adds::row_ended))]
 fn place_row<N: Nodes>(
     alloc: Global,
     nodes: &mut N,
