@@ -12,3 +12,5 @@ pub mod Drawables
 pub mod Ranges
 -- marks
 pub mod Marks
+-- the steps by which a list is placed
+pub mod Steps

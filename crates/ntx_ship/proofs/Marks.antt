@@ -1,6 +1,7 @@
 -- Marks that stand within a dimension.
-use Rattle.std.proofs.Common.{◌≡◌, ℤ, pos, ◌+ℤ◌, Bool, true, false, ◌&&◌, cond, List, [], ◌∷◌, Ok, Err, refl, sym, ap, ◌∙◌, arith}
+use Rattle.std.proofs.Common.{◌≡◌, ℤ, pos, ◌+ℤ◌, Bool, true, false, ◌&&◌, cond, List, [], ◌∷◌, Ok, Err, refl, sym, ap, ◌∙◌, ◌≤◌, ◌^◌, to_z, of_z, w64, arith}
 use Rattle.std.specs.Prelude.{Result, int_lt, int_le, neg_ℤ, ◌≤ℤ◌}
+use Rattle.std.specs.Int.RustNames.{unsigned_abs}
 use Rattle.std.proofs.lemmas.Int.{ints}
 use Rattle.ntx_num.specs.Dimension.{is_dimension, IsDimension, max_dimension}
 use Rattle.std.proofs.lemmas.Bool.{cond-true, cond-false}
@@ -11,6 +12,13 @@ use Rattle.ntx_ship.specs.declared.piece.Piece.{Piece}
 use Rattle.ntx_ship.specs.declared.piece.Piece.TheVariants.{Glyph, Rule}
 use Rattle.ntx_ship.specs.declared.place.Place.{Place}
 use Rattle.ntx_ship.specs.Placed.{Pieces, may_stand, glyph_mark, rule_mark}
+
+-- a number of the code is itself
+pub exact : (x : ℤ) → unsigned_abs x ≤ 2 ^ 62 → to_z w64 (of_z w64 x) ≡ x
+exact x h = omega (arith, ints)
+
+pub small : (x : ℤ) → IsDimension x → unsigned_abs x ≤ 2 ^ 62
+small x h = omega (arith, ints)
 
 pub both : (a b : Bool) → (a && b) ≡ true → (a ≡ true) × (b ≡ true)
 both true b e = (refl, e)

@@ -153,6 +153,17 @@ fn marks_have_to_stand_within_a_dimension(rt: HostRuntime) -> Result<(), test::F
     Ok(())
 }
 
+/// A character on a baseline as far down as it is high.
+fn letter(h: i32) -> Piece {
+    Piece::Glyph(GlyphMark {
+        h,
+        v: 286_720,
+        font: 0,
+        code: 97,
+        width: 327_680,
+    })
+}
+
 /// The bytes of a font with the character `a` alone, 327680 wide and 286720 high at its design size of 10 points.
 fn letter_font(alloc: Global) -> Result<Vec<u8>, AllocError> {
     let mut bytes = Vec::new(alloc);
@@ -181,15 +192,6 @@ fn characters_stand_on_the_baseline(rt: HostRuntime) -> Result<(), test::Fail> {
     list.letter(&mut nodes)?;
     let page = list.hbox(rt.alloc(), &mut nodes, &fonts, Additional(0))?;
     let page = placed(rt.alloc(), &mut nodes, &fonts, page)?;
-    let letter = |h| {
-        Piece::Glyph(GlyphMark {
-            h,
-            v: 286_720,
-            font: 0,
-            code: 97,
-            width: 327_680,
-        })
-    };
     let pieces = [letter(0), letter(327_679), letter(655_359)];
     assert_eq!(rt; page.pieces(), pieces.as_slice());
     Ok(())

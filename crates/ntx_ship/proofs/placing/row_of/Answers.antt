@@ -21,10 +21,8 @@ returns-in_err-seen-clause-answer g c =
 pub returns-in_err-names-clause-answer : goal.returns-in_err-names-clause-answer
 returns-in_err-names-clause-answer g c =
     let p = err_from_is_err_and c.from_residual-in_err-names.result c.from_residual-in_err-names.ensures.1 in
-    let head = c.args.inside.head in
     rw (p.1, p.2)
-    (refused_by_walk (g.N.Nodes.heap c.args.nodes.now) c.args.fonts.now c.args.inside c.args.here c.in_ok-seen.seen.items _ c.in_ok-seen.ensures.answer
-    (subst (λ (h : Heap). Answers {A = List ℕ} (Err _) (flat_walk h head)) c.items.ensures.same c.in_err-names.ensures.answer))
+    (refused_by_walk (g.N.Nodes.heap c.args.nodes.now) (g.N.Nodes.heap c.items.new.nodes) c.args.fonts.now c.args.inside c.args.here c.in_ok-seen.seen.items c.items.ensures.same c.in_ok-seen.ensures.answer c.in_err-names.ensures.answer)
 
 pub stations-requires-clause-count : goal.stations-requires-clause-count
 stations-requires-clause-count g c =

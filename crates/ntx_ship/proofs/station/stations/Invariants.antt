@@ -15,7 +15,7 @@ invariant-loop-i g l =
     record {
       glue : l.setter.glue ≡ l.inside.glue;
       total : l.setter.total ≡ running l.inside.glue (take l.i l.items);
-      near : (most : ℕ) → IsPlaced most l.here → IsPlaced (most + so_far l.items l.i) l.at;
-      within : (most : ℕ) → IsPlaced most l.here → All (StandsWithin (most + 2 ^ 51)) l.all.items;
-      whole : (fonts : List FontTables) → AreItemsOf heap fonts l.names l.items → stations heap fonts l.inside l.names (pos 0) l.here ≡ stand_after l.all.items (stations heap fonts l.inside (drop l.i l.names) l.setter.total l.at);
+      near : (most : ℕ) → IsPlaced most l.fn.here → IsPlaced (most + so_far l.items l.i) l.at;
+      within : (most : ℕ) → IsPlaced most l.fn.here → All (StandsWithin (most + 2 ^ 51)) l.all.items;
+      whole : (fonts : List FontTables) → AreItemsOf heap fonts l.names l.items → stations heap fonts l.inside l.names (pos 0) l.fn.here ≡ stand_after l.all.items (stations heap fonts l.inside (drop l.i l.names) l.setter.total l.at);
     }
