@@ -1,6 +1,6 @@
 -- What is put at the end of pieces.
 use Rattle.std.proofs.Common.{◌≡◌, ℕ, suc, ℤ, pos, Bool, true, false, ◌&&◌, ◌+◌, ◌≤◌, ◌<◌, List, [], ◌∷◌, ◌++◌, length, drop, get_or, Ok, Err, refl, sym, ap, ◌∙◌, subst, append_assoc, append-nil, arith}
-use Rattle.std.specs.Prelude.{Result, int_lt, ◌≤ℤ◌, if◌then◌else◌}
+use Rattle.std.specs.Prelude.{Result, int_lt, int_le, ◌≤ℤ◌, if◌then◌else◌}
 use Rattle.std.proofs.lemmas.Int.{ints}
 use Rattle.std.proofs.lemmas.List.{at_drop_more, at_drop_all}
 use Rattle.ntx_num.specs.Answer.{result_map, result_and_then}
@@ -46,6 +46,9 @@ hidden_by one two a old pieces e = subst (λ (b : Bool). Adds (Ok a) old old (if
 
 not_above : (x : ℤ) → x ≤ℤ pos 0 → int_lt (pos 0) x ≡ false
 not_above x h = grind (arith, ints)
+
+pub at_most_none : (x : ℤ) → int_le x (pos 0) ≡ true → x ≤ℤ pos 0
+at_most_none x h = grind (arith, ints)
 
 neither : (one two : Bool) → two ≡ false → (one && two) ≡ false
 neither true two e = e

@@ -1,5 +1,5 @@
 -- Marks that stand within a dimension.
-use Rattle.std.proofs.Common.{◌≡◌, ℤ, pos, ◌+ℤ◌, Bool, true, false, ◌&&◌, cond, List, [], ◌∷◌, Ok, Err, refl, sym, ap, ◌∙◌, ◌≤◌, ◌^◌, to_z, of_z, w64, arith}
+use Rattle.std.proofs.Common.{◌≡◌, ℤ, pos, ◌+ℤ◌, Bool, true, false, ◌&&◌, cond, List, [], ◌∷◌, Ok, Err, refl, sym, ap, ◌∙◌, ◌≤◌, ◌^◌, to_z, of_z, w32, w64, arith}
 use Rattle.std.specs.Prelude.{Result, int_lt, int_le, neg_ℤ, ◌≤ℤ◌}
 use Rattle.std.specs.Int.RustNames.{unsigned_abs}
 use Rattle.std.proofs.lemmas.Int.{ints}
@@ -19,6 +19,10 @@ exact x h = omega (arith, ints)
 
 pub small : (x : ℤ) → IsDimension x → unsigned_abs x ≤ 2 ^ 62
 small x h = omega (arith, ints)
+
+-- a number of fewer bits too
+pub kept : (r x : ℤ) → r ≡ x → IsDimension x → to_z w32 (of_z w32 r) ≡ x
+kept r x e h = omega (arith, ints, e)
 
 pub both : (a b : Bool) → (a && b) ≡ true → (a ≡ true) × (b ≡ true)
 both true b e = (refl, e)

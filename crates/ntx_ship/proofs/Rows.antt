@@ -157,7 +157,7 @@ pub refused_by_items : (heap : Heap) (fonts : List FontTables) (inside : Inside)
 refused_by_items heap fonts inside here (Is why) refused = items_refused heap fonts inside here why refused
 refused_by_items heap fonts inside here NoMemory refused = tt
 
-pub refused_by_walk : {e : Fail Trouble} (heap before : Heap) (fonts : List FontTables) (inside : Inside) (here : Place) (items : List Item) → before ≡ heap → items_answer heap fonts inside.head inside.kind ≡ Ok items → Answers {A = List ℕ} (Err e) (flat_walk before inside.head) → Answers {A = List Station} (Err e) (row_at heap fonts inside here)
-refused_by_walk {e = Is why} heap before fonts inside here items same found refused =
+pub refused_by_walk : (e : Fail Trouble) (heap before : Heap) (fonts : List FontTables) (inside : Inside) (here : Place) (items : List Item) → before ≡ heap → items_answer heap fonts inside.head inside.kind ≡ Ok items → Answers {A = List ℕ} (Err e) (flat_walk before inside.head) → Answers {A = List Station} (Err e) (row_at heap fonts inside here)
+refused_by_walk (Is why) heap before fonts inside here items same found refused =
     walk_refused heap fonts inside here items why found (ap (λ (h : Heap). flat_walk h inside.head) (sym same) ∙ refused)
-refused_by_walk {e = NoMemory} heap before fonts inside here items same found refused = tt
+refused_by_walk NoMemory heap before fonts inside here items same found refused = tt

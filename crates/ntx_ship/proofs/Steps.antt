@@ -1,5 +1,5 @@
 -- The steps by which a list is placed.
-use Rattle.std.proofs.Common.{◌≡◌, ℕ, zero, suc, ◌-◌, ◌+ℤ◌, List, Ok, Err, refl, sym, ap, ◌∙◌, subst, arith}
+use Rattle.std.proofs.Common.{◌≡◌, ℕ, zero, suc, ◌+◌, ◌-◌, ◌^◌, pos, ◌+ℤ◌, List, None, Ok, Err, refl, sym, ap, ◌∙◌, subst, arith}
 use Rattle.std.specs.Prelude.{Result, unwrap_or}
 use Rattle.ntx_num.specs.Answer.{Answers, result_map}
 use Rattle.ntx_num.specs.declared.answer.Fail.{Fail}
@@ -20,6 +20,8 @@ use Rattle.ntx_ship.specs.declared.piece.Piece.{Piece}
 use Rattle.ntx_ship.specs.declared.place.Place.{Place}
 use Rattle.ntx_ship.specs.declared.station.Station.{Station}
 use Rattle.ntx_ship.specs.Placed.{Placer, glyph_mark, rule_mark, grouped, reference, top, corner, hlist_inside, vlist_inside, part_inside, node_pieces, row_at, list_pieces}
+use Rattle.std.specs.List.{All}
+use Rattle.ntx_ship.specs.Reach.{IsPlaced, StandsWithin, reach}
 use Rattle.ntx_ship.specs.Adding.{Adds}
 use Rattle.ntx_ship.proofs.Adds.{list_refused, adds_nothing, adds_no_memory}
 
@@ -72,3 +74,13 @@ node_other a old fonts place direction (contents.Penalty p) here nh nv nr nd ng 
 pub suc_less : (levels : ℕ) → (levels ≡ 0 → ⊥) → levels ≡ suc (levels - 1)
 suc_less zero h = absurd (h refl)
 suc_less (suc n) h = omega arith
+
+-- The nodes of a list stand where its boxes may.
+pub row_fits : (levels : ℕ) (here : Place) (row same : List Station) → same ≡ row → (levels ≡ 0 → ⊥) → ((most : ℕ) → IsPlaced most here → All (StandsWithin (most + 2 ^ 51)) row) → IsPlaced (reach levels) here → All (StandsWithin (reach (levels - 1 + 1) + 2 ^ 51)) same
+row_fits levels here row same e h within near =
+    let back : levels - 1 + 1 ≡ levels = omega (arith, suc_less levels h) in
+    subst (λ (k : ℕ). All (StandsWithin (reach k + 2 ^ 51)) same) (sym back) (subst (λ (ss : List Station). All (StandsWithin (reach levels + 2 ^ 51)) ss) (sym e) (within (reach levels) near))
+
+-- what stands past the end of a list
+abbrev pub no_station : Station
+no_station = record { contents = contents.Hlist (record { width = pos 0; height = pos 0; depth = pos 0; shift = pos 0; list = None; glue_sign = 0; glue_order = 0; glue_num = pos 0; glue_den = pos 0 }); here = record { h = pos 0; v = pos 0 } }

@@ -242,6 +242,7 @@ fn row_of<N: Nodes>(
 
 /// Puts a list that begins here at the end of the pieces, with at most so many levels of lists, itself included.
 #[cycle(placing)]
+#[tactic(auto, using(crate::proofs::Steps::row_fits))]
 pub fn place_list<N: Nodes>(
     alloc: Global,
     nodes: &mut N,

@@ -1,14 +1,12 @@
 -- Lists are placed node by node, and boxes by their lists.
-use Rattle.std.proofs.Common.{◌≡◌, ℕ, ◌+◌, ◌-◌, ◌^◌, List, Ok, subst, sym, ap, ◌∙◌, arith}
-use Rattle.std.specs.List.{All}
+use Rattle.std.proofs.Common.{◌≡◌, ℕ, ◌+◌, ◌-◌, ◌^◌, List, get_or, Ok, subst, sym, ap, ◌∙◌}
 use Rattle.std.proofs.lemmas.Result.{err_from_is_err_and}
 use Rattle.ntx_nodes.specs.Heap.{Heap}
 use Rattle.ntx_ship.specs.declared.station.Station.{Station}
 use Rattle.ntx_ship.specs.Placed.{row_pieces, node_pieces, list_pieces}
-use Rattle.ntx_ship.specs.Reach.{StandsWithin, reach}
 use Rattle.ntx_ship.specs.Adding.{Adds}
 use Rattle.ntx_ship.proofs.Adds.{list_too_deep, list_row, row_more}
-use Rattle.ntx_ship.proofs.Steps.{list_error, node_hlist, node_vlist, node_rule, node_glyph, node_disc, node_other, suc_less}
+use Rattle.ntx_ship.proofs.Steps.{list_error, node_hlist, node_vlist, node_rule, node_glyph, node_disc, node_other, suc_less, no_station}
 use Rattle.ntx_ship.proofs.placing.+placing.Goals as goal
 
 pub place_list-returns-then-levels-eq0-clause-adds : goal.place_list-returns-then-levels-eq0-clause-adds
@@ -20,12 +18,6 @@ place_list-returns-in_err-row-clause-adds g t c =
     let p = err_from_is_err_and c.from_residual.result c.from_residual.ensures.1 in
     rw (p.1, p.2)
     (list_error (g.N.Nodes.heap c.args.nodes.now) c.args.fonts.now c.args.levels (c.args.levels - 1) c.args.inside c.args.here c.args.pieces.now.items c.args.pieces.now.items (suc_less c.args.levels c.if-levels-eq0.false) c.in_err-row.ensures.answer)
-
-pub place_list-place_row-requires-clause-row : goal.place_list-place_row-requires-clause-row
-place_list-place_row-requires-clause-row g t c =
-    let back : c.args.levels - 1 + 1 ≡ c.args.levels = omega (arith, suc_less c.args.levels c.if-levels-eq0.false) in
-    subst (λ (k : ℕ). All (StandsWithin (reach k + 2 ^ 51)) c.deref.result.now) (sym back)
-    (subst (λ (ss : List Station). All (StandsWithin (reach c.args.levels + 2 ^ 51)) ss) (sym c.deref.ensures.value) (c.in_ok-row.ensures.within (reach c.args.levels) c.requires.place))
 
 pub place_list-returns-clause-adds : goal.place_list-returns-clause-adds
 place_list-returns-clause-adds g t c =
@@ -64,8 +56,9 @@ pub place_row-loop-station-preserved : goal.place_row-loop-station-preserved
 place_row-loop-station-preserved g t c =
     let heap = g.N.Nodes.heap c.args.nodes.now in
     let inv = c.loop-station.invariant in
-    let adds = subst (λ (h : Heap). Adds (Ok c.in_ok-place_node.field-0) c.loop-station.pieces.items c.place_node.new.pieces.items (node_pieces c.args.fonts.now (list_pieces h c.args.fonts.now c.args.levels) c.args.direction _ _)) inv.same c.in_ok-place_node.ensures.adds in
+    let station = get_or c.args.row.now c.loop-station.station-index no_station in
+    let adds = subst (λ (h : Heap). Adds (Ok c.in_ok-place_node.field-0) c.loop-station.pieces.items c.place_node.new.pieces.items (node_pieces c.args.fonts.now (list_pieces h c.args.fonts.now c.args.levels) c.args.direction station.contents station.here)) inv.same c.in_ok-place_node.ensures.adds in
     record {
       same = c.place_node.ensures.same ∙ inv.same;
-      whole = row_more c.args.fonts.now (list_pieces heap c.args.fonts.now c.args.levels) c.args.direction c.args.row.now c.loop-station.station-index _ c.in_ok-place_node.field-0 c.args.pieces.now.items c.loop-station.pieces.items c.place_node.new.pieces.items _ c.loop-station-test.true inv.whole adds;
+      whole = row_more c.args.fonts.now (list_pieces heap c.args.fonts.now c.args.levels) c.args.direction c.args.row.now c.loop-station.station-index no_station c.in_ok-place_node.field-0 c.args.pieces.now.items c.loop-station.pieces.items c.place_node.new.pieces.items _ c.loop-station-test.true inv.whole adds;
     }

@@ -22,7 +22,7 @@ pub returns-in_err-names-clause-answer : goal.returns-in_err-names-clause-answer
 returns-in_err-names-clause-answer g c =
     let p = err_from_is_err_and c.from_residual-in_err-names.result c.from_residual-in_err-names.ensures.1 in
     rw (p.1, p.2)
-    (refused_by_walk (g.N.Nodes.heap c.args.nodes.now) (g.N.Nodes.heap c.items.new.nodes) c.args.fonts.now c.args.inside c.args.here c.in_ok-seen.seen.items c.items.ensures.same c.in_ok-seen.ensures.answer c.in_err-names.ensures.answer)
+    (refused_by_walk _ (g.N.Nodes.heap c.args.nodes.now) (g.N.Nodes.heap c.items.new.nodes) c.args.fonts.now c.args.inside c.args.here c.in_ok-seen.seen.items c.items.ensures.same c.in_ok-seen.ensures.answer c.in_err-names.ensures.answer)
 
 pub stations-requires-clause-count : goal.stations-requires-clause-count
 stations-requires-clause-count g c =

@@ -51,13 +51,13 @@ loop-i-preserved g c =
       total =
           c.set_size.ensures.total ∙ ap (λ (set : GlueSet). c.loop-i.setter.total +ℤ move set item) inv.glue
           ∙ ap (λ (t : ℤ). t +ℤ move c.args.inside.glue item) inv.total ∙ sym (running_more c.args.inside.glue items i past_end within);
-      near = λ most placed. nearer c.args.inside.direction items i past_end most c.set_size.result c.loop-i.at c.moved.result within (inv.near most placed) c.set_size.ensures.bounded c.moved.ensures;
+      near = λ most placed. nearer c.args.inside.direction items i past_end most c.set_size.result c.loop-i.at c.moved-at.result within (inv.near most placed) c.set_size.ensures.bounded c.moved-at.ensures;
       within = λ most placed.
           subst (All (StandsWithin (most + 2 ^ 51))) (sym pushed)
           (All-push (StandsWithin (most + 2 ^ 51)) c.loop-i.all.items station (inv.within most placed)
           (record { place = near_enough items i most c.loop-i.at (omega (arith, within)) c.requires.in_range (inv.near most placed); ranges = c.in-Ok.ensures.ranges }));
       whole = λ fonts are.
           inv.whole fonts are
-          ∙ stations_next (g.N.Nodes.heap c.args.nodes.now) fonts c.args.inside c.args.names.now items i past_end c.loop-i.setter.total c.loop-i.at c.in-Ok.contents c.loop-i.all.items c.loop-i.setter.glue c.set_size.result c.set_size.new.setter.total c.moved.result c.push.new.self.items
-          c.loop-i-test.true are (sym c.contents_of.ensures.value ∙ c.in-Ok.is) inv.glue c.set_size.ensures.size c.set_size.ensures.total c.moved.ensures pushed;
+          ∙ stations_next (g.N.Nodes.heap c.args.nodes.now) fonts c.args.inside c.args.names.now items i past_end c.loop-i.setter.total c.loop-i.at c.in-Ok.contents c.loop-i.all.items c.loop-i.setter.glue c.set_size.result c.set_size.new.setter.total c.moved-at.result c.push.new.self.items
+          c.loop-i-test.true are (sym c.contents_of.ensures.value ∙ c.in-Ok.is) inv.glue c.set_size.ensures.size c.set_size.ensures.total c.moved-at.ensures pushed;
     }
