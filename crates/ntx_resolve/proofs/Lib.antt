@@ -5,3 +5,5 @@ pub mod Lists
 pub mod Excess
 pub mod StatExcess
 pub mod Arms
+pub mod KindExcess
+pub mod Stats

@@ -3,3 +3,4 @@ pub mod Resolves
 pub mod Bodies
 pub mod Names
 pub mod Allows
+pub mod Closed

@@ -12,12 +12,15 @@
 
 mod assignments;
 mod bindings;
+mod blocks;
 mod code;
 mod exps;
+mod loops;
 mod names;
 mod prefixes;
 mod resolver;
 mod scope;
+mod script;
 mod tables;
 
 pub use code::{
@@ -26,6 +29,7 @@ pub use code::{
 };
 pub use resolver::Resolver;
 pub use scope::Scope;
+pub use script::resolve;
 
 #[cfg(test)]
 mod tests;
