@@ -17,6 +17,8 @@ mod print;
 mod printed;
 mod shown;
 mod strings;
+#[cfg(test)]
+mod tests;
 mod walks;
 
 pub use call::call_lib;
