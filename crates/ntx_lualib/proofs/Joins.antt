@@ -75,14 +75,13 @@ module _ (read : Value → Result (List ℕ) LuaWhy) (entries : Entries) (n : �
 
   pub joined_more : (between : List ℕ) (line new : Option (List ℕ)) (k : ℕ) (part : List ℕ) → k < n → IsJoined between line k → read (item_at entries (k + 1)) ≡ Ok part
       → new ≡ added max_text (cond (nat_eq k 0) line (added max_text line between)) part → IsJoined between new (k + 1)
-  joined_more between line new k part less h is e =
-      (
-        h.0 ++ part ∷ [],
-        e ∙ ap (λ m. added max_text (cond (nat_eq m 0) line (added max_text line between)) part) (sym h.2) ∙ part_added max_text between h.0 part line h.1,
-        omega (arith, length-append h.0 (part ∷ []), h.2),
-        h.3 ∙ ap (result_map (λ rest. h.0 ++ rest)) (step k less ∙ ap (λ r. r >>= λ x. each_of read (items_from entries (n - (k + 1)) (k + 1)) >>= λ rest. Ok (x ∷ rest)) is)
-            ∙ append_one h.0 part (each_of read (items_from entries (n - (k + 1)) (k + 1))),
-      )
+  joined_more between line new k part less h is e = (
+    h.0 ++ part ∷ [],
+    e ∙ ap (λ m. added max_text (cond (nat_eq m 0) line (added max_text line between)) part) (sym h.2) ∙ part_added max_text between h.0 part line h.1,
+    omega (arith, length-append h.0 (part ∷ []), h.2),
+    h.3 ∙ ap (result_map (λ rest. h.0 ++ rest)) (step k less ∙ ap (λ r. r >>= λ x. each_of read (items_from entries (n - (k + 1)) (k + 1)) >>= λ rest. Ok (x ∷ rest)) is)
+        ∙ append_one h.0 part (each_of read (items_from entries (n - (k + 1)) (k + 1))),
+  )
 
   refused : (between : List ℕ) (line : Option (List ℕ)) (k : ℕ) (why : LuaWhy) → k < n → IsJoined between line k → read (item_at entries (k + 1)) ≡ Err why
       → limited (result_map (joined between) (each_of read (items_from entries n 0))) ≡ Err why

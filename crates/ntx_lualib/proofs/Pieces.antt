@@ -27,8 +27,8 @@ plain_piece store old new (c ∷ d ∷ rest) values some nomark e =
       piece = c ∷ [];
       line = e;
       rest =
-        ap (λ b. cond b (directive store d (argument values 0) >>= λ bytes. result_map (λ after. bytes ++ after) (formatted store rest (drop (values_taken d) values)))
-        (result_map (λ after. c ∷ after) (formatted store (d ∷ rest) values))) nomark;
+          ap (λ b. cond b (directive store d (argument values 0) >>= λ bytes. result_map (λ after. bytes ++ after) (formatted store rest (drop (values_taken d) values)))
+          (result_map (λ after. c ∷ after) (formatted store (d ∷ rest) values))) nomark;
       some = omega arith;
       within = omega arith;
     }
@@ -43,9 +43,9 @@ marked_piece store old new (c ∷ d ∷ rest) values piece two mark is e =
       piece = piece;
       line = e;
       rest =
-        ap (λ b. cond b (directive store d (argument values 0) >>= λ bytes. result_map (λ after. bytes ++ after) (formatted store rest (drop (values_taken d) values)))
-        (result_map (λ after. c ∷ after) (formatted store (d ∷ rest) values))) mark
-        ∙ ap (λ r. r >>= λ bytes. result_map (λ after. bytes ++ after) (formatted store rest (drop (values_taken d) values))) is;
+          ap (λ b. cond b (directive store d (argument values 0) >>= λ bytes. result_map (λ after. bytes ++ after) (formatted store rest (drop (values_taken d) values)))
+          (result_map (λ after. c ∷ after) (formatted store (d ∷ rest) values))) mark
+          ∙ ap (λ r. r >>= λ bytes. result_map (λ after. bytes ++ after) (formatted store rest (drop (values_taken d) values))) is;
       some = omega arith;
       within = omega arith;
     }

@@ -20,7 +20,11 @@ use ntx_values::{LibFn, LuaWhy, Store, Value};
 use std::alloc::Global;
 
 /// The text with these bytes as the only value.
-fn give_text(alloc: Global, store: &mut Store, bytes: Result<Vec<u8>, Fail<LuaWhy>>) -> Result<Vec<Value>, Fail<LuaWhy>>
+fn give_text(
+    alloc: Global,
+    store: &mut Store,
+    bytes: Result<Vec<u8>, Fail<LuaWhy>>,
+) -> Result<Vec<Value>, Fail<LuaWhy>>
     ensures calls { (answer : Result (List ℕ) why.LuaWhy) → GivesBytes (result_map (λ bytes. bytes.items) bytes) answer → StoreCalls (result_map (λ values. values.items) result) store.old store.new (gives_text (λ _. answer) store.old) }
     ensures grows { Grows store.old store.new }
     ensures of { IfOk result (λ values. AreOf store.new values.items) }
@@ -42,7 +46,12 @@ fn give_text(alloc: Global, store: &mut Store, bytes: Result<Vec<u8>, Fail<LuaWh
 /// The sort and the value of each argument are tested from the left, with BadArgument. Then come TextsFull, if the text that is
 /// the value does not fit the store, TablesFull, if `table.insert` would make a 65537th key, and PrintFull, if `print` would pass
 /// 2^24 bytes in all. A refusal changes nothing. If memory runs out, nothing more was printed, but a list may be moved in part.
-pub fn call_lib(store: &mut Store, out: &mut Printed, f: LibFn, args: &[Value]) -> Result<Vec<Value>, Fail<LuaWhy>>
+pub fn call_lib(
+    store: &mut Store,
+    out: &mut Printed,
+    f: LibFn,
+    args: &[Value],
+) -> Result<Vec<Value>, Fail<LuaWhy>>
     requires { AreOf store.old args.now }
     ensures calls { Calls (result_map (λ values. values.items) result) (store.old, out.old) (store.new, out.new) (called f args.now (store.old, out.old)) }
     ensures grows { Grows store.old store.new }

@@ -61,7 +61,13 @@ fn skip(bytes: &[u8], n: usize) -> &[u8]
 }
 
 /// Adds the next piece of a format to a line.
-fn take_piece(alloc: Global, store: &Store, line: &mut Line, format: &[u8], values: &[Value]) -> Result<Taken, Fail<LuaWhy>>
+fn take_piece(
+    alloc: Global,
+    store: &Store,
+    line: &mut Line,
+    format: &[u8],
+    values: &[Value],
+) -> Result<Taken, Fail<LuaWhy>>
     requires of { AreOf store.now values.now }
     requires more { format.now ≢ [] }
     ensures { Takes (result_map (λ taken. (taken.bytes, taken.values)) result) line.old line.new store.now format.now values.now }
@@ -69,7 +75,10 @@ fn take_piece(alloc: Global, store: &Store, line: &mut Line, format: &[u8], valu
     let head = format[0];
     if head != b'%' {
         line.add(MAX_TEXT, &format[..1])?;
-        return Ok(Taken { bytes: 1, values: 0 });
+        return Ok(Taken {
+            bytes: 1,
+            values: 0,
+        });
     }
     if format.len() < 2 {
         return Err(BAD);
@@ -84,7 +93,12 @@ fn take_piece(alloc: Global, store: &Store, line: &mut Line, format: &[u8], valu
 }
 
 /// The bytes of a format with its values.
-fn formatted(alloc: Global, store: &Store, format: &[u8], values: &[Value]) -> Result<Vec<u8>, Fail<LuaWhy>>
+fn formatted(
+    alloc: Global,
+    store: &Store,
+    format: &[u8],
+    values: &[Value],
+) -> Result<Vec<u8>, Fail<LuaWhy>>
     requires { AreOf store.now values.now }
     ensures { Answers (result_map (λ bytes. bytes.items) result) (limited (formatted store.now format.now values.now)) }
 {
@@ -105,7 +119,11 @@ fn formatted(alloc: Global, store: &Store, format: &[u8], values: &[Value]) -> R
 ///
 /// BadArgument if the first argument is no text, a `%` is not followed by `%`, `d` or `s`, or a `%d` has no integer. Then TextsFull
 /// if the text would have more than 2^20 bytes.
-pub(crate) fn string_format(alloc: Global, store: &Store, args: &[Value]) -> Result<Vec<u8>, Fail<LuaWhy>>
+pub(crate) fn string_format(
+    alloc: Global,
+    store: &Store,
+    args: &[Value],
+) -> Result<Vec<u8>, Fail<LuaWhy>>
     requires { AreOf store.now args.now }
     ensures { Answers (result_map (λ bytes. bytes.items) result) (limited (string_format args.now store.now)) }
 {

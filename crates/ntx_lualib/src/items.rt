@@ -20,7 +20,12 @@ pub(crate) fn item(store: &Store, table: TableId, n: usize) -> Value
 }
 
 /// Sets a table at a number.
-pub(crate) fn set_item(store: &mut Store, table: TableId, n: usize, value: Value) -> Result<(), Fail<LuaWhy>>
+pub(crate) fn set_item(
+    store: &mut Store,
+    table: TableId,
+    n: usize,
+    value: Value,
+) -> Result<(), Fail<LuaWhy>>
     requires table { IsOf store.old (Value.Table table) }
     requires value { IsOf store.old value }
     requires small { n < 2 ^ 63 }

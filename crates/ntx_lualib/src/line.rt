@@ -54,7 +54,13 @@ impl Line {
     }
 
     /// Adds a part, with the bytes between parts before it unless it is the first.
-    pub fn add_part(&mut self, limit: usize, first: bool, between: &[u8], part: &[u8]) -> Result<(), NoMemory>
+    pub fn add_part(
+        &mut self,
+        limit: usize,
+        first: bool,
+        between: &[u8],
+        part: &[u8],
+    ) -> Result<(), NoMemory>
         ensures { OnOk result (self.new ≡ added limit (if first then self.old else added limit self.old between.now) part.now) }
     {
         if !first {

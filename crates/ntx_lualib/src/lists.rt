@@ -122,7 +122,11 @@ fn insert(store: &mut Store, table: TableId, args: &[Value]) -> Result<(), Fail<
 ///
 /// BadArgument if the first argument is no table, or with more than two arguments the second is no integer from 1 to the one after
 /// the border. Then TablesFull if the table would hold a 65537th key.
-pub(crate) fn table_insert(alloc: Global, store: &mut Store, args: &[Value]) -> Result<Vec<Value>, Fail<LuaWhy>>
+pub(crate) fn table_insert(
+    alloc: Global,
+    store: &mut Store,
+    args: &[Value],
+) -> Result<Vec<Value>, Fail<LuaWhy>>
     requires { AreOf store.old args.now }
     ensures calls { StoreCalls (result_map (λ values. values.items) result) store.old store.new (table_insert args.now store.old) }
     ensures grows { Grows store.old store.new }
@@ -151,7 +155,11 @@ fn removal_place(store: &Store, table: TableId, args: &[Value]) -> Result<usize,
 /// # Refusals
 ///
 /// BadArgument if the first argument is no table, or the second is neither nil nor an integer from 1 to the one after the border.
-pub(crate) fn table_remove(alloc: Global, store: &mut Store, args: &[Value]) -> Result<Vec<Value>, Fail<LuaWhy>>
+pub(crate) fn table_remove(
+    alloc: Global,
+    store: &mut Store,
+    args: &[Value],
+) -> Result<Vec<Value>, Fail<LuaWhy>>
     requires { AreOf store.old args.now }
     ensures calls { StoreCalls (result_map (λ values. values.items) result) store.old store.new (table_remove args.now store.old) }
     ensures grows { Grows store.old store.new }

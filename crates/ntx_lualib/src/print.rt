@@ -38,7 +38,12 @@ fn line_of(alloc: Global, store: &Store, args: &[Value]) -> Result<Line, NoMemor
 /// # Refusals
 ///
 /// PrintFull if more than 2^24 bytes would be printed in all.
-pub(crate) fn print(alloc: Global, store: &Store, out: &mut Printed, args: &[Value]) -> Result<Vec<Value>, Fail<LuaWhy>>
+pub(crate) fn print(
+    alloc: Global,
+    store: &Store,
+    out: &mut Printed,
+    args: &[Value],
+) -> Result<Vec<Value>, Fail<LuaWhy>>
     requires { AreOf store.now args.now }
     ensures { Prints (result_map (λ values. values.items) result) out.old out.new (print_step (printed_line store.now args.now) out.old) }
 {
@@ -48,7 +53,12 @@ pub(crate) fn print(alloc: Global, store: &Store, out: &mut Printed, args: &[Val
 }
 
 /// What a table holds from 1 to its border, with the bytes between each two.
-fn joined(alloc: Global, store: &Store, table: TableId, between: &[u8]) -> Result<Vec<u8>, Fail<LuaWhy>>
+fn joined(
+    alloc: Global,
+    store: &Store,
+    table: TableId,
+    between: &[u8],
+) -> Result<Vec<u8>, Fail<LuaWhy>>
     requires { IsOf store.now (Value.Table table) }
     ensures { Answers (result_map (λ bytes. bytes.items) result) (limited (result_map (joined between.now) (each_of (element_text store.now) (elements (table_of store.now table))))) }
 {
@@ -81,7 +91,11 @@ fn separator(alloc: Global, store: &Store, args: &[Value]) -> Result<Vec<u8>, Fa
 ///
 /// BadArgument if the first argument is no table, the second is neither a text nor nil, or an element is neither a text nor an
 /// integer. Then TextsFull if the text would have more than 2^20 bytes.
-pub(crate) fn table_concat(alloc: Global, store: &Store, args: &[Value]) -> Result<Vec<u8>, Fail<LuaWhy>>
+pub(crate) fn table_concat(
+    alloc: Global,
+    store: &Store,
+    args: &[Value],
+) -> Result<Vec<u8>, Fail<LuaWhy>>
     requires { AreOf store.now args.now }
     ensures { Answers (result_map (λ bytes. bytes.items) result) (limited (table_concat args.now store.now)) }
 {

@@ -62,7 +62,11 @@ fn type_name(value: Value) -> &'static [u8]
 }
 
 /// `tostring`
-pub(crate) fn tostring(alloc: Global, store: &Store, args: &[Value]) -> Result<Vec<u8>, Fail<LuaWhy>>
+pub(crate) fn tostring(
+    alloc: Global,
+    store: &Store,
+    args: &[Value],
+) -> Result<Vec<u8>, Fail<LuaWhy>>
     requires { AreOf store.now args.now }
     ensures { Answers (result_map (λ bytes. bytes.items) result) (Ok (shown store.now (argument args.now 0))) }
 {

@@ -7,8 +7,8 @@ ghost use Rattle.std.specs.List.{repeat};
 ghost use Rattle.ntx_lualib.specs.Strings.{place, substring, byte_at, byte_of, times, string_len, string_sub, string_byte, string_char, string_rep};
 ghost use Rattle.ntx_lualib.specs.inner.Lines.{limited};
 
-use crate::line::MAX_TEXT;
 use crate::arguments::{BAD, integer_at, integer_or, text_at};
+use crate::line::MAX_TEXT;
 use ntx_num::Fail;
 use ntx_values::{LuaWhy, Store, Value};
 use std::alloc::Global;
@@ -55,7 +55,11 @@ fn byte_at(bytes: &[u8], place: usize) -> Value
 }
 
 /// `string.len`
-pub(crate) fn string_len(alloc: Global, store: &Store, args: &[Value]) -> Result<Vec<Value>, Fail<LuaWhy>>
+pub(crate) fn string_len(
+    alloc: Global,
+    store: &Store,
+    args: &[Value],
+) -> Result<Vec<Value>, Fail<LuaWhy>>
     requires { AreOf store.now args.now }
     ensures value { Answers (result_map (λ values. values.items) result) (string_len args.now store.now) }
     ensures of { IfOk result (λ values. AreOf store.now values.items) }
@@ -66,7 +70,11 @@ pub(crate) fn string_len(alloc: Global, store: &Store, args: &[Value]) -> Result
 }
 
 /// `string.sub`
-pub(crate) fn string_sub(alloc: Global, store: &Store, args: &[Value]) -> Result<Vec<u8>, Fail<LuaWhy>>
+pub(crate) fn string_sub(
+    alloc: Global,
+    store: &Store,
+    args: &[Value],
+) -> Result<Vec<u8>, Fail<LuaWhy>>
     requires { AreOf store.now args.now }
     ensures { Answers (result_map (λ bytes. bytes.items) result) (string_sub args.now store.now) }
 {
@@ -77,7 +85,11 @@ pub(crate) fn string_sub(alloc: Global, store: &Store, args: &[Value]) -> Result
 }
 
 /// `string.byte`
-pub(crate) fn string_byte(alloc: Global, store: &Store, args: &[Value]) -> Result<Vec<Value>, Fail<LuaWhy>>
+pub(crate) fn string_byte(
+    alloc: Global,
+    store: &Store,
+    args: &[Value],
+) -> Result<Vec<Value>, Fail<LuaWhy>>
     requires { AreOf store.now args.now }
     ensures value { Answers (result_map (λ values. values.items) result) (string_byte args.now store.now) }
     ensures of { IfOk result (λ values. AreOf store.now values.items) }
@@ -135,7 +147,11 @@ fn repeated(alloc: Global, bytes: &[u8], n: usize) -> Result<Vec<u8>, Fail<LuaWh
 }
 
 /// `string.rep`
-pub(crate) fn string_rep(alloc: Global, store: &Store, args: &[Value]) -> Result<Vec<u8>, Fail<LuaWhy>>
+pub(crate) fn string_rep(
+    alloc: Global,
+    store: &Store,
+    args: &[Value],
+) -> Result<Vec<u8>, Fail<LuaWhy>>
     requires { AreOf store.now args.now }
     ensures { Answers (result_map (λ bytes. bytes.items) result) (limited (string_rep args.now store.now)) }
 {

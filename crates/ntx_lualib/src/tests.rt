@@ -3,8 +3,8 @@
 ghost use Rattle.std.specs.Prelude.{IfOk};
 ghost use Rattle.ntx_values.specs.State.{IsOf, AreOf, Grows};
 
-mod lists;
 mod limits;
+mod lists;
 mod numbers;
 mod strings;
 mod walks;
@@ -70,7 +70,11 @@ fn list_of(store: &mut Store, integers: &[u8]) -> Result<TableId, Fail<LuaWhy>>
     let table = store.new_table()?;
     for (i, integer) in integers.iter().enumerate() {
         if *integer != 0 {
-            store.set(table, Value::Int(i as i64 + 1), Value::Int(i64::from(*integer)))?;
+            store.set(
+                table,
+                Value::Int(i as i64 + 1),
+                Value::Int(i64::from(*integer)),
+            )?;
         }
     }
     Ok(table)
@@ -146,7 +150,12 @@ fn is_wanted(store: &Store, answer: &Result<Vec<Value>, Fail<LuaWhy>>, want: Wan
 }
 
 /// Makes the arguments of a call and calls it.
-fn call(store: &mut Store, out: &mut Printed, f: LibFn, args: &[Arg; 3]) -> Result<Vec<Value>, Fail<LuaWhy>> {
+fn call(
+    store: &mut Store,
+    out: &mut Printed,
+    f: LibFn,
+    args: &[Arg; 3],
+) -> Result<Vec<Value>, Fail<LuaWhy>> {
     let first = value_of(store, args[0])?;
     let second = value_of(store, args[1])?;
     let third = value_of(store, args[2])?;

@@ -38,7 +38,11 @@ fn after(i: i64) -> i64
 }
 
 /// The iterator that `ipairs` gives.
-pub(crate) fn ipairs_next(alloc: Global, store: &Store, args: &[Value]) -> Result<Vec<Value>, Fail<LuaWhy>>
+pub(crate) fn ipairs_next(
+    alloc: Global,
+    store: &Store,
+    args: &[Value],
+) -> Result<Vec<Value>, Fail<LuaWhy>>
     requires { AreOf store.now args.now }
     ensures value { Answers (result_map (λ values. values.items) result) (ipairs_next args.now store.now) }
     ensures of { IfOk result (λ values. AreOf store.now values.items) }

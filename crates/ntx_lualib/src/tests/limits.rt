@@ -11,7 +11,12 @@ fn lines_are_printed(rt: HostRuntime) -> Result<(), test::Fail> {
     let mut out = Printed::new(rt.alloc())?;
     let text = Value::Text(store.text(b"a")?);
     call_lib(&mut store, &mut out, LibFn::Print, &[])?;
-    call_lib(&mut store, &mut out, LibFn::Print, &[text, Value::Int(-2), Value::Nil])?;
+    call_lib(
+        &mut store,
+        &mut out,
+        LibFn::Print,
+        &[text, Value::Int(-2), Value::Nil],
+    )?;
     call_lib(&mut store, &mut out, LibFn::Print, &[Value::Bool(true)])?;
     assert_eq!(rt; out.take().as_slice(), b"\na\t-2\tnil\ntrue\n".as_slice());
     assert_eq!(rt; out.take().as_slice(), b"".as_slice());
@@ -40,11 +45,21 @@ fn one_text_has_as_many_bytes_as_may_be(rt: HostRuntime) -> Result<(), test::Fai
     let mut store = Store::new(rt.alloc())?;
     let mut out = Printed::new(rt.alloc())?;
     let text = Value::Text(store.text(b"a")?);
-    let most = call_lib(&mut store, &mut out, LibFn::StringRep, &[text, Value::Int(1 << 20)])?;
+    let most = call_lib(
+        &mut store,
+        &mut out,
+        LibFn::StringRep,
+        &[text, Value::Int(1 << 20)],
+    )?;
     let len = call_lib(&mut store, &mut out, LibFn::StringLen, &most)?;
     assert_eq!(rt; len.as_slice(), [Value::Int(1 << 20)].as_slice());
     let full = Err(Fail::Is(LuaWhy::TextsFull));
-    let more = call_lib(&mut store, &mut out, LibFn::StringRep, &[text, Value::Int((1 << 20) + 1)]);
+    let more = call_lib(
+        &mut store,
+        &mut out,
+        LibFn::StringRep,
+        &[text, Value::Int((1 << 20) + 1)],
+    );
     assert!(rt; more == full);
     Ok(())
 }

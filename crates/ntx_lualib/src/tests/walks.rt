@@ -23,9 +23,21 @@ const ENDS: [Row; 20] = [
     (LibFn::Ipairs, [Int(1), M, M], BAD),
     (LibFn::IpairsNext, [List(b""), Int(0), M], Want::Nil),
     (LibFn::IpairsNext, [List(b"\x05"), Int(1), M], Want::Nil),
-    (LibFn::IpairsNext, [List(b"\x05\0\x07"), Int(1), M], Want::Nil),
-    (LibFn::IpairsNext, [List(b"\x05"), Int(i64::MAX), M], Want::Nil),
-    (LibFn::IpairsNext, [List(b"\x05"), Int(i64::MIN), M], Want::Nil),
+    (
+        LibFn::IpairsNext,
+        [List(b"\x05\0\x07"), Int(1), M],
+        Want::Nil,
+    ),
+    (
+        LibFn::IpairsNext,
+        [List(b"\x05"), Int(i64::MAX), M],
+        Want::Nil,
+    ),
+    (
+        LibFn::IpairsNext,
+        [List(b"\x05"), Int(i64::MIN), M],
+        Want::Nil,
+    ),
     (LibFn::IpairsNext, [List(b"\x05"), M, M], BAD),
     (LibFn::IpairsNext, [List(b"\x05"), Text(b"1"), M], BAD),
     (LibFn::IpairsNext, [M, Int(0), M], BAD),
@@ -57,14 +69,34 @@ fn next_passes_over_what_was_removed(rt: HostRuntime) -> Result<(), Fail> {
     let mut out = Printed::new(rt.alloc())?;
     let id = store.new_table()?;
     let table = Value::Table(id);
-    for (key, value) in [(1, Value::Int(5)), (2, Value::Int(6)), (3, Value::Int(7)), (2, Value::Nil)] {
+    for (key, value) in [
+        (1, Value::Int(5)),
+        (2, Value::Int(6)),
+        (3, Value::Int(7)),
+        (2, Value::Nil),
+    ] {
         store.set(id, Value::Int(key), value)?;
     }
-    for (key, after, value) in [(Value::Nil, 1, 5), (Value::Int(1), 3, 7), (Value::Int(2), 3, 7)] {
+    for (key, after, value) in [
+        (Value::Nil, 1, 5),
+        (Value::Int(1), 3, 7),
+        (Value::Int(2), 3, 7),
+    ] {
         let next = call_lib(&mut store, &mut out, LibFn::Next, &[table, key])?;
-        assert_eq!(rt; next.as_slice(), [Value::Int(after), Value::Int(value)].as_slice());
+        assert_eq!(rt;
+            next.as_slice(),
+            [Value::Int(after), Value::Int(value)].as_slice()
+        );
     }
-    let numbered = call_lib(&mut store, &mut out, LibFn::IpairsNext, &[table, Value::Int(2)])?;
-    assert_eq!(rt; numbered.as_slice(), [Value::Int(3), Value::Int(7)].as_slice());
+    let numbered = call_lib(
+        &mut store,
+        &mut out,
+        LibFn::IpairsNext,
+        &[table, Value::Int(2)],
+    )?;
+    assert_eq!(rt;
+        numbered.as_slice(),
+        [Value::Int(3), Value::Int(7)].as_slice()
+    );
     Ok(())
 }

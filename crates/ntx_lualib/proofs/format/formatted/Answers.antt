@@ -23,8 +23,7 @@ returns-in_err-taken c =
 
 pub loop-rest-preserved : goal.loop-rest-preserved
 loop-rest-preserved c =
-    let e : IsPiece c.loop-rest.line c.take_piece.new.line c.args.store.now c.loop-rest.rest.now c.loop-rest.left.now c.in_ok-taken.taken.bytes c.in_ok-taken.taken.values = c.in_ok-taken.ensures in
-    (
+    let e : IsPiece c.loop-rest.line c.take_piece.new.line c.args.store.now c.loop-rest.rest.now c.loop-rest.left.now c.in_ok-taken.taken.bytes c.in_ok-taken.taken.values = c.in_ok-taken.ensures in (
       subst (AreOf c.args.store.now) (sym c.after-left.ensures) (All-drop (IsOf c.args.store.now) c.in_ok-taken.taken.values c.loop-rest.left.now c.loop-rest.invariant.0),
       read_piece c.loop-rest.line c.take_piece.new.line e.piece (formatted c.args.store.now c.args.format.now c.args.values.now) (formatted c.args.store.now c.loop-rest.rest.now c.loop-rest.left.now)
           (formatted c.args.store.now c.skip-rest.result.now c.after-left.result.now) e.line

@@ -33,15 +33,15 @@ loop-k-preserved c =
     let once = (table_lawful c.args.store.now c.args.table c.lawful.ensures c.requires.table).once in
     let held = c.requires.held c.loop-k.k (omega arith) (omega arith) in
     let value : c.item-value.result ≡ item_at es (c.loop-k.k + 1) =
-        c.item-value.ensures.value ∙ ap (λ (st : StoreState). item_at (table_of st c.args.table) (c.loop-k.k + 1)) c.loop-k.invariant.moved
-        ∙ fill_item s c.args.table c.requires.table once (lowered es c.args.p c.loop-k.k) (c.loop-k.k + 1) (lowered_kept es c.args.p c.loop-k.k) in
+    c.item-value.ensures.value ∙ ap (λ (st : StoreState). item_at (table_of st c.args.table) (c.loop-k.k + 1)) c.loop-k.invariant.moved
+    ∙ fill_item s c.args.table c.requires.table once (lowered es c.args.p c.loop-k.k) (c.loop-k.k + 1) (lowered_kept es c.args.p c.loop-k.k) in
     record {
       low = omega arith;
       high = omega arith;
       moved =
-        fill_more s c.args.table c.requires.table once (lowered es c.args.p c.loop-k.k) (lowered es c.args.p (c.loop-k.k + 1)) c.loop-k.k (item_at es (c.loop-k.k + 1)) c.loop-k.store c.set_item.new.store _ c.loop-k.invariant.moved held
-        (lowered_step es c.args.p c.loop-k.k c.loop-k.invariant.low)
-        (subst (λ (v : Value). set_step c.args.table (Int (pos c.loop-k.k)) v c.loop-k.store ≡ Ok (_, c.set_item.new.store)) value c.in_ok-set_item.ensures.step);
+          fill_more s c.args.table c.requires.table once (lowered es c.args.p c.loop-k.k) (lowered es c.args.p (c.loop-k.k + 1)) c.loop-k.k (item_at es (c.loop-k.k + 1)) c.loop-k.store c.set_item.new.store _ c.loop-k.invariant.moved held
+          (lowered_step es c.args.p c.loop-k.k c.loop-k.invariant.low)
+          (subst (λ (v : Value). set_step c.args.table (Int (pos c.loop-k.k)) v c.loop-k.store ≡ Ok (_, c.set_item.new.store)) value c.in_ok-set_item.ensures.step);
       grows = Grows-then s c.loop-k.store c.set_item.new.store c.loop-k.invariant.grows c.in_ok-set_item.ensures.grows;
     }
 
@@ -52,8 +52,8 @@ returns-in_err-set_item-clause-moves c =
     let once = (table_lawful c.args.store.now c.args.table c.lawful.ensures c.requires.table).once in
     let held = c.requires.held c.loop-k.k (omega arith) (omega arith) in
     let value : c.item-value.result ≡ item_at es (c.loop-k.k + 1) =
-        c.item-value.ensures.value ∙ ap (λ (st : StoreState). item_at (table_of st c.args.table) (c.loop-k.k + 1)) c.loop-k.invariant.moved
-        ∙ fill_item s c.args.table c.requires.table once (lowered es c.args.p c.loop-k.k) (c.loop-k.k + 1) (lowered_kept es c.args.p c.loop-k.k) in
+    c.item-value.ensures.value ∙ ap (λ (st : StoreState). item_at (table_of st c.args.table) (c.loop-k.k + 1)) c.loop-k.invariant.moved
+    ∙ fill_item s c.args.table c.requires.table once (lowered es c.args.p c.loop-k.k) (c.loop-k.k + 1) (lowered_kept es c.args.p c.loop-k.k) in
     let p = err_from_is_err_and c.from_residual.result c.from_residual.ensures.1 in
     rw (p.1, p.2)
     (fill_fails s c.args.table c.requires.table once (lowered es c.args.p c.loop-k.k) (lowered es c.args.p (c.loop-k.k + 1)) c.loop-k.k (item_at es (c.loop-k.k + 1)) c.loop-k.store c.set_item.new.store c.set_item.new.store c.in_err-set_item.field-0.0 (lowered es c.args.p c.args.m)
