@@ -8,3 +8,4 @@ pub mod Refills
 pub mod Numbering
 pub mod Moves
 pub mod Insertions
+pub mod Calling

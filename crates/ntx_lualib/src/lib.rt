@@ -7,6 +7,7 @@
 #![tactic(auto)]
 
 mod arguments;
+mod call;
 mod format;
 mod items;
 mod line;
@@ -20,4 +21,5 @@ mod strings;
 mod tests;
 mod walks;
 
+pub use call::call_lib;
 pub use printed::Printed;

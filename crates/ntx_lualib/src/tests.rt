@@ -1,15 +1,176 @@
-//! What was printed is taken once.
+//! Worked calls of the library. Each table of rows is plain data, and one loop runs them.
 
-use crate::Printed;
+ghost use Rattle.std.specs.Prelude.{IfOk};
+ghost use Rattle.ntx_values.specs.State.{IsOf, AreOf, Grows};
+
+mod limits;
+mod lists;
+mod numbers;
+mod strings;
+mod walks;
+
+use crate::{Printed, call_lib};
+use ntx_num::Fail;
+use ntx_values::{LibFn, LuaWhy, Store, TableId, Value};
+use std::alloc::Global;
+use std::process::Abort;
 use std::test;
 
-#[test]
-fn printed_bytes_are_taken_once(rt: HostRuntime) -> Result<(), test::Fail> {
-    let mut out = Printed::new(rt.alloc())?;
-    assert_eq!(rt; out.take().as_slice(), b"".as_slice());
-    out.print(b"ab")?;
-    out.print(b"\n")?;
-    assert_eq!(rt; out.take().as_slice(), b"ab\n".as_slice());
-    assert_eq!(rt; out.take().as_slice(), b"".as_slice());
+/// An argument as plain data.
+#[derive(Clone, Copy)]
+enum Arg {
+    /// It is not given, and neither are those after it.
+    Missing,
+    /// nil
+    Nil,
+    /// A truth value.
+    Bool(bool),
+    /// An integer.
+    Int(i64),
+    /// A text.
+    Text(&'static [u8]),
+    /// A table with these integers from 1 on; 0 is left out.
+    List(&'static [u8]),
+    /// A table with these texts of one byte from 1 on.
+    Letters(&'static [u8]),
+    /// A function that a script wrote.
+    Function,
+    /// A function of the library.
+    Lib(LibFn),
+    /// A node by its name.
+    Node(u64),
+}
+
+/// What a call has to answer.
+#[derive(Clone, Copy)]
+enum Want {
+    /// No value.
+    Nothing,
+    /// nil alone.
+    Nil,
+    /// An integer alone.
+    Int(i64),
+    /// A text alone.
+    Text(&'static [u8]),
+    /// A refusal.
+    Refused(LuaWhy),
+}
+
+/// The refusal of an argument.
+const BAD: Want = Want::Refused(LuaWhy::BadArgument);
+
+/// A call: the function, its arguments, and what it has to answer.
+type Row = (LibFn, [Arg; 3], Want);
+
+/// A table with integers from 1 on, 0 left out.
+fn list_of(store: &mut Store, integers: &[u8]) -> Result<TableId, Fail<LuaWhy>>
+    ensures grows { Grows store.old store.new }
+    ensures of { IfOk result (λ t. IsOf store.new (Value.Table t)) }
+{
+    let table = store.new_table()?;
+    for (i, integer) in integers.iter().enumerate() {
+        if *integer != 0 {
+            store.set(
+                table,
+                Value::Int(i as i64 + 1),
+                Value::Int(i64::from(*integer)),
+            )?;
+        }
+    }
+    Ok(table)
+}
+
+/// Sets a table at a number to a text of one byte.
+fn set_letter(store: &mut Store, table: TableId, place: i64, letter: u8) -> Result<(), Fail<LuaWhy>>
+    requires { IsOf store.old (Value.Table table) }
+    ensures grows { Grows store.old store.new }
+{
+    let text = store.text(&[letter])?;
+    store.set(table, Value::Int(place), Value::Text(text))
+}
+
+/// A table with texts of one byte from 1 on.
+fn letters_of(store: &mut Store, letters: &[u8]) -> Result<TableId, Fail<LuaWhy>>
+    ensures grows { Grows store.old store.new }
+    ensures of { IfOk result (λ t. IsOf store.new (Value.Table t)) }
+{
+    let table = store.new_table()?;
+    for (i, letter) in letters.iter().enumerate() {
+        set_letter(store, table, i as i64 + 1, *letter)?;
+    }
+    Ok(table)
+}
+
+/// The value of an argument.
+fn value_of(store: &mut Store, arg: Arg) -> Result<Value, Fail<LuaWhy>>
+    ensures grows { Grows store.old store.new }
+    ensures of { IfOk result (λ v. IsOf store.new v) }
+{
+    match arg {
+        Arg::Missing | Arg::Nil => Ok(Value::Nil),
+        Arg::Bool(b) => Ok(Value::Bool(b)),
+        Arg::Int(n) => Ok(Value::Int(n)),
+        Arg::Text(bytes) => Ok(Value::Text(store.text(bytes)?)),
+        Arg::List(integers) => Ok(Value::Table(list_of(store, integers)?)),
+        Arg::Letters(letters) => Ok(Value::Table(letters_of(store, letters)?)),
+        Arg::Function => Ok(Value::Function(store.new_function()?)),
+        Arg::Lib(f) => Ok(Value::Prim(ntx_values::Primitive::Lib(f))),
+        Arg::Node(name) => Ok(Value::Node(name)),
+    }
+}
+
+/// How many arguments are given.
+fn given(args: &[Arg; 3]) -> usize {
+    for (i, arg) in args.iter().enumerate() {
+        if matches!(arg, Arg::Missing) {
+            return i;
+        }
+    }
+    3
+}
+
+/// Whether a value is the only one.
+fn is_one(values: &Vec<Value>, value: Value) -> bool {
+    values.as_slice() == [value].as_slice()
+}
+
+/// Whether an answer is as wanted.
+fn is_wanted(store: &Store, answer: &Result<Vec<Value>, Fail<LuaWhy>>, want: Want) -> bool {
+    match (answer, want) {
+        (Ok(values), Want::Nothing) => values.is_empty(),
+        (Ok(values), Want::Nil) => is_one(values, Value::Nil),
+        (Ok(values), Want::Int(n)) => is_one(values, Value::Int(n)),
+        (Ok(values), Want::Text(bytes)) => match store.find_text(bytes) {
+            Some(text) => is_one(values, Value::Text(text)),
+            None => false,
+        },
+        (Err(Fail::Is(why)), Want::Refused(wanted)) => *why == wanted,
+        _ => false,
+    }
+}
+
+/// Makes the arguments of a call and calls it.
+fn call(
+    store: &mut Store,
+    out: &mut Printed,
+    f: LibFn,
+    args: &[Arg; 3],
+) -> Result<Vec<Value>, Fail<LuaWhy>> {
+    let first = value_of(store, args[0])?;
+    let second = value_of(store, args[1])?;
+    let third = value_of(store, args[2])?;
+    let values = [first, second, third];
+    call_lib(store, out, f, &values[..given(args).min(3)])
+}
+
+/// Calls each row and compares its answer.
+fn run(rt: &impl Abort, alloc: Global, rows: &[Row]) -> Result<(), test::Fail> {
+    let mut store = Store::new(alloc)?;
+    let mut out = Printed::new(alloc)?;
+    for (i, row) in rows.iter().enumerate() {
+        let result = call(&mut store, &mut out, row.0, &row.1);
+        let same = is_wanted(&store, &result, row.2);
+        assert!(rt; same, "row {i}");
+    }
     Ok(())
 }

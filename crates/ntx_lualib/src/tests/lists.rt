@@ -1,0 +1,325 @@
+//! Calls on lists.
+
+ghost use Rattle.ntx_values.specs.State.{IsOf};
+
+use super::Arg::{Bool, Int, Letters, List, Missing, Nil, Text};
+use super::{Arg, BAD, Row, Want, is_wanted, list_of, run, value_of};
+use crate::{Printed, call_lib};
+use ntx_num::Fail;
+use ntx_values::{LibFn, Store, TableId, Value};
+use std::alloc::Global;
+use std::process::Abort;
+use std::test;
+
+const M: Arg = Missing;
+
+const JOINED: [Row; 22] = [
+    (LibFn::TableConcat, [List(b""), M, M], Want::Text(b"")),
+    (
+        LibFn::TableConcat,
+        [List(b""), Text(b","), M],
+        Want::Text(b""),
+    ),
+    (
+        LibFn::TableConcat,
+        [Letters(b"abc"), M, M],
+        Want::Text(b"abc"),
+    ),
+    (
+        LibFn::TableConcat,
+        [Letters(b"abc"), Nil, M],
+        Want::Text(b"abc"),
+    ),
+    (
+        LibFn::TableConcat,
+        [Letters(b"abc"), Text(b""), M],
+        Want::Text(b"abc"),
+    ),
+    (
+        LibFn::TableConcat,
+        [Letters(b"abc"), Text(b", "), M],
+        Want::Text(b"a, b, c"),
+    ),
+    (
+        LibFn::TableConcat,
+        [Letters(b"a"), Text(b", "), M],
+        Want::Text(b"a"),
+    ),
+    (
+        LibFn::TableConcat,
+        [List(b"\x01\x02\x0c"), Text(b"-"), M],
+        Want::Text(b"1-2-12"),
+    ),
+    (
+        LibFn::TableConcat,
+        [List(b"\x01\0\x03"), Text(b"-"), M],
+        Want::Text(b"1"),
+    ),
+    (
+        LibFn::TableConcat,
+        [List(b"\0\x02\x03"), Text(b"-"), M],
+        Want::Text(b""),
+    ),
+    (
+        LibFn::TableConcat,
+        [Letters(b"ab"), Text(b"-"), Int(2)],
+        Want::Text(b"a-b"),
+    ),
+    (LibFn::TableConcat, [Letters(b"ab"), Int(1), M], BAD),
+    (LibFn::TableConcat, [Letters(b"ab"), Bool(false), M], BAD),
+    (LibFn::TableConcat, [Text(b"ab"), Text(b"-"), M], BAD),
+    (LibFn::TableConcat, [M, M, M], BAD),
+    (LibFn::TableInsert, [M, M, M], BAD),
+    (LibFn::TableInsert, [Text(b"a"), Int(1), M], BAD),
+    (LibFn::TableInsert, [Nil, Int(1), Int(2)], BAD),
+    (LibFn::TableRemove, [M, M, M], BAD),
+    (LibFn::TableRemove, [Int(1), Int(1), M], BAD),
+    (LibFn::TableRemove, [Text(b""), M, M], BAD),
+    (LibFn::TableRemove, [Nil, M, M], BAD),
+];
+
+/// A change: the function, the list before, the arguments after it, the answer, and the list afterwards.
+type Change = (LibFn, &'static [u8], [Arg; 2], Want, &'static [u8]);
+
+const CHANGES: [Change; 30] = [
+    (LibFn::TableInsert, b"", [Int(7), M], Want::Nothing, b"\x07"),
+    (
+        LibFn::TableInsert,
+        b"\x01\x02",
+        [Int(7), M],
+        Want::Nothing,
+        b"\x01\x02\x07",
+    ),
+    (
+        LibFn::TableInsert,
+        b"\x01\x02",
+        [M, M],
+        Want::Nothing,
+        b"\x01\x02",
+    ),
+    (
+        LibFn::TableInsert,
+        b"\x01\x02",
+        [Nil, M],
+        Want::Nothing,
+        b"\x01\x02",
+    ),
+    (
+        LibFn::TableInsert,
+        b"\x01\0\x03",
+        [Int(7), M],
+        Want::Nothing,
+        b"\x01\x07\x03",
+    ),
+    (
+        LibFn::TableInsert,
+        b"",
+        [Int(1), Int(7)],
+        Want::Nothing,
+        b"\x07",
+    ),
+    (
+        LibFn::TableInsert,
+        b"\x01\x02\x03",
+        [Int(1), Int(7)],
+        Want::Nothing,
+        b"\x07\x01\x02\x03",
+    ),
+    (
+        LibFn::TableInsert,
+        b"\x01\x02\x03",
+        [Int(2), Int(7)],
+        Want::Nothing,
+        b"\x01\x07\x02\x03",
+    ),
+    (
+        LibFn::TableInsert,
+        b"\x01\x02\x03",
+        [Int(3), Int(7)],
+        Want::Nothing,
+        b"\x01\x02\x07\x03",
+    ),
+    (
+        LibFn::TableInsert,
+        b"\x01\x02\x03",
+        [Int(4), Int(7)],
+        Want::Nothing,
+        b"\x01\x02\x03\x07",
+    ),
+    (
+        LibFn::TableInsert,
+        b"\x01\x02\x03",
+        [Int(2), Nil],
+        Want::Nothing,
+        b"\x01\0\x02\x03",
+    ),
+    (
+        LibFn::TableInsert,
+        b"\x01\x02\x03",
+        [Int(4), Nil],
+        Want::Nothing,
+        b"\x01\x02\x03",
+    ),
+    (
+        LibFn::TableInsert,
+        b"\x01\x02\0\x04",
+        [Int(1), Int(7)],
+        Want::Nothing,
+        b"\x07\x01\x02\x04",
+    ),
+    (
+        LibFn::TableInsert,
+        b"\x01\x02\x03",
+        [Int(0), Int(7)],
+        BAD,
+        b"\x01\x02\x03",
+    ),
+    (
+        LibFn::TableInsert,
+        b"\x01\x02\x03",
+        [Int(5), Int(7)],
+        BAD,
+        b"\x01\x02\x03",
+    ),
+    (
+        LibFn::TableInsert,
+        b"\x01\x02\x03",
+        [Int(-1), Int(7)],
+        BAD,
+        b"\x01\x02\x03",
+    ),
+    (
+        LibFn::TableInsert,
+        b"\x01\x02\x03",
+        [Int(i64::MIN), Int(7)],
+        BAD,
+        b"\x01\x02\x03",
+    ),
+    (
+        LibFn::TableInsert,
+        b"\x01\x02\x03",
+        [Nil, Int(7)],
+        BAD,
+        b"\x01\x02\x03",
+    ),
+    (LibFn::TableRemove, b"", [M, M], Want::Nil, b""),
+    (LibFn::TableRemove, b"", [Nil, M], Want::Nil, b""),
+    (LibFn::TableRemove, b"", [Int(1), M], Want::Nil, b""),
+    (
+        LibFn::TableRemove,
+        b"\x05\x06\x07",
+        [M, M],
+        Want::Int(7),
+        b"\x05\x06",
+    ),
+    (
+        LibFn::TableRemove,
+        b"\x05\x06\x07",
+        [Nil, M],
+        Want::Int(7),
+        b"\x05\x06",
+    ),
+    (
+        LibFn::TableRemove,
+        b"\x05\x06\x07",
+        [Int(1), M],
+        Want::Int(5),
+        b"\x06\x07",
+    ),
+    (
+        LibFn::TableRemove,
+        b"\x05\x06\x07",
+        [Int(2), M],
+        Want::Int(6),
+        b"\x05\x07",
+    ),
+    (
+        LibFn::TableRemove,
+        b"\x05\x06\x07",
+        [Int(4), M],
+        Want::Nil,
+        b"\x05\x06\x07",
+    ),
+    (
+        LibFn::TableRemove,
+        b"\x05\x06\0\x08",
+        [Int(1), M],
+        Want::Int(5),
+        b"\x06\0\0\x08",
+    ),
+    (LibFn::TableRemove, b"\x05", [M, M], Want::Int(5), b""),
+    (
+        LibFn::TableRemove,
+        b"\x05\x06",
+        [Int(0), M],
+        BAD,
+        b"\x05\x06",
+    ),
+    (
+        LibFn::TableRemove,
+        b"\x05\x06",
+        [Int(4), M],
+        BAD,
+        b"\x05\x06",
+    ),
+];
+
+/// What a table has to hold at a number.
+fn item(list: &[u8], i: usize) -> Value {
+    match list.get(i) {
+        Some(integer) if *integer != 0 => Value::Int(i64::from(*integer)),
+        _ => Value::Nil,
+    }
+}
+
+/// Whether a table holds a list at 1 to 8.
+fn holds(store: &Store, table: TableId, list: &[u8]) -> bool
+    requires { IsOf store.now (Value.Table table) }
+{
+    for i in 0..8usize {
+        if store.get(table, Value::Int(i as i64 + 1)) != item(list, i) {
+            return false;
+        }
+    }
+    true
+}
+
+/// Whether a change answers as wanted and leaves the wanted list.
+fn is_done(
+    store: &mut Store,
+    out: &mut Printed,
+    change: &Change,
+) -> Result<bool, Fail<ntx_values::LuaWhy>> {
+    let table = list_of(store, change.1)?;
+    let first = value_of(store, change.2[0])?;
+    let second = value_of(store, change.2[1])?;
+    let values = [Value::Table(table), first, second];
+    let count = match change.2 {
+        [Arg::Missing, _] => 1,
+        [_, Arg::Missing] => 2,
+        _ => 3usize,
+    };
+    let result = call_lib(store, out, change.0, &values[..count]);
+    Ok(is_wanted(store, &result, change.3) && holds(store, table, change.4))
+}
+
+/// Makes each change and compares what it leaves.
+fn run_changes(rt: &impl Abort, alloc: Global, changes: &[Change]) -> Result<(), test::Fail> {
+    let mut store = Store::new(alloc)?;
+    let mut out = Printed::new(alloc)?;
+    for (i, change) in changes.iter().enumerate() {
+        let same = is_done(&mut store, &mut out, change)?;
+        assert!(rt; same, "change {i}");
+    }
+    Ok(())
+}
+
+#[test]
+fn lists_are_joined(rt: HostRuntime) -> Result<(), test::Fail> {
+    run(&rt, rt.alloc(), &JOINED)
+}
+
+#[test]
+fn lists_are_changed(rt: HostRuntime) -> Result<(), test::Fail> {
+    run_changes(&rt, rt.alloc(), &CHANGES)
+}
