@@ -19,6 +19,7 @@ mod shown;
 mod strings;
 #[cfg(test)]
 mod tests;
+mod texts;
 mod walks;
 
 pub use call::call_lib;

@@ -43,11 +43,6 @@ impl Printed {
         })
     }
 
-    /// The allocator of the printed bytes.
-    pub(crate) fn alloc(&self) -> Global {
-        self.alloc
-    }
-
     /// The bytes that were printed and not yet taken. They are taken by this. It takes no memory.
     pub fn take(&mut self) -> Vec<u8>
         ensures bytes { result.items ≡ self.old.waiting }

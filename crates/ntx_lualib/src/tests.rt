@@ -151,6 +151,7 @@ fn is_wanted(store: &Store, answer: &Result<Vec<Value>, Fail<LuaWhy>>, want: Wan
 
 /// Makes the arguments of a call and calls it.
 fn call(
+    alloc: Global,
     store: &mut Store,
     out: &mut Printed,
     f: LibFn,
@@ -160,7 +161,7 @@ fn call(
     let second = value_of(store, args[1])?;
     let third = value_of(store, args[2])?;
     let values = [first, second, third];
-    call_lib(store, out, f, &values[..given(args).min(3)])
+    call_lib(alloc, store, out, f, &values[..given(args).min(3)])
 }
 
 /// Calls each row and compares its answer.
@@ -168,7 +169,7 @@ fn run(rt: &impl Abort, alloc: Global, rows: &[Row]) -> Result<(), test::Fail> {
     let mut store = Store::new(alloc)?;
     let mut out = Printed::new(alloc)?;
     for (i, row) in rows.iter().enumerate() {
-        let result = call(&mut store, &mut out, row.0, &row.1);
+        let result = call(alloc, &mut store, &mut out, row.0, &row.1);
         let same = is_wanted(&store, &result, row.2);
         assert!(rt; same, "row {i}");
     }

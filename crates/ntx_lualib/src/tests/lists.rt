@@ -286,6 +286,7 @@ fn holds(store: &Store, table: TableId, list: &[u8]) -> bool
 
 /// Whether a change answers as wanted and leaves the wanted list.
 fn is_done(
+    alloc: Global,
     store: &mut Store,
     out: &mut Printed,
     change: &Change,
@@ -299,7 +300,7 @@ fn is_done(
         [_, Arg::Missing] => 2,
         _ => 3usize,
     };
-    let result = call_lib(store, out, change.0, &values[..count]);
+    let result = call_lib(alloc, store, out, change.0, &values[..count]);
     Ok(is_wanted(store, &result, change.3) && holds(store, table, change.4))
 }
 
@@ -308,7 +309,7 @@ fn run_changes(rt: &impl Abort, alloc: Global, changes: &[Change]) -> Result<(),
     let mut store = Store::new(alloc)?;
     let mut out = Printed::new(alloc)?;
     for (i, change) in changes.iter().enumerate() {
-        let same = is_done(&mut store, &mut out, change)?;
+        let same = is_done(alloc, &mut store, &mut out, change)?;
         assert!(rt; same, "change {i}");
     }
     Ok(())

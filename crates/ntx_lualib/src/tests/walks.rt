@@ -54,10 +54,10 @@ fn walks_begin_and_go_on(rt: HostRuntime) -> Result<(), Fail> {
     let mut out = Printed::new(rt.alloc())?;
     let id = store.new_table()?;
     let table = Value::Table(id);
-    let pairs = call_lib(&mut store, &mut out, LibFn::Pairs, &[table])?;
+    let pairs = call_lib(rt.alloc(), &mut store, &mut out, LibFn::Pairs, &[table])?;
     let walk = Value::Prim(Primitive::Lib(LibFn::Next));
     assert_eq!(rt; pairs.as_slice(), [walk, table, Value::Nil].as_slice());
-    let ipairs = call_lib(&mut store, &mut out, LibFn::Ipairs, &[table])?;
+    let ipairs = call_lib(rt.alloc(), &mut store, &mut out, LibFn::Ipairs, &[table])?;
     let walk = Value::Prim(Primitive::Lib(LibFn::IpairsNext));
     assert_eq!(rt; ipairs.as_slice(), [walk, table, Value::Int(0)].as_slice());
     Ok(())
@@ -82,13 +82,14 @@ fn next_passes_over_what_was_removed(rt: HostRuntime) -> Result<(), Fail> {
         (Value::Int(1), 3, 7),
         (Value::Int(2), 3, 7),
     ] {
-        let next = call_lib(&mut store, &mut out, LibFn::Next, &[table, key])?;
+        let next = call_lib(rt.alloc(), &mut store, &mut out, LibFn::Next, &[table, key])?;
         assert_eq!(rt;
             next.as_slice(),
             [Value::Int(after), Value::Int(value)].as_slice()
         );
     }
     let numbered = call_lib(
+        rt.alloc(),
         &mut store,
         &mut out,
         LibFn::IpairsNext,
