@@ -1,4 +1,5 @@
--- Formats (Lua 5.3 Reference Manual, section 6.4, `string.format`), of which `%d`, `%s` and `%%` are known.
+-- Formats (Lua 5.3 Reference Manual, section 6.4, `string.format`), of which `%d`, `%s` and `%%` are known, without width and
+-- precision. A missing value is nil, which `%s` takes; `%d` takes an integer alone.
 --     directive store d v          what `%` and a byte give for a value
 --     formatted store bytes vs     the bytes of a format with its values
 --     string_format

@@ -1,4 +1,6 @@
--- Lists in tables: what a table holds at 1 to its border (Lua 5.3 Reference Manual, section 6.6).
+-- Lists in tables: what a table holds at 1 to its border (Lua 5.3 Reference Manual, section 6.6). Where this differs from the manual:
+-- the border is the least one; `table.insert` takes any number of arguments, appends with at most two and drops those after the third;
+-- `table.remove` takes no place 0 and leaves what is there, and gives nil for an empty list; `table.concat` joins the whole list.
 --     insert_at, remove_at     a table with a value put in, or taken out, at a place
 --     elements entries         what it holds from 1 to its border
 --     table_insert, table_remove, table_concat

@@ -1,4 +1,4 @@
--- Integers (Lua 5.3 Reference Manual, section 6.7).
+-- Integers (Lua 5.3 Reference Manual, section 6.7), which are the only numbers: no text is one.
 --     absolute n           the absolute value, which wraps at 64 bits
 --     greatest, least      of one or more
 --     math_abs, math_max, math_min

@@ -1,4 +1,6 @@
--- Bytes of texts (Lua 5.3 Reference Manual, section 6.4). Places count from 1.
+-- Bytes of texts (Lua 5.3 Reference Manual, section 6.4). Places count from 1. Where this differs from the manual: a function on texts
+-- takes texts alone, and no integer as one; `string.byte` gives one value, which is nil outside the text; `string.rep` puts nothing
+-- between the copies.
 --     place len i          the place that a number names in a text of a length; a negative one counts from the end
 --     substring bytes i j  the bytes from place i to place j
 --     string_len, string_sub, string_byte, string_char, string_rep

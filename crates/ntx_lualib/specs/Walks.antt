@@ -1,4 +1,6 @@
--- Walks over tables (Lua 5.3 Reference Manual, section 6.1, `pairs`, `ipairs` and `next`).
+-- Walks over tables (Lua 5.3 Reference Manual, section 6.1, `pairs`, `ipairs` and `next`). Where this differs from the manual: the order
+-- is that of first insertion; a key that was removed can still be walked from, and one that was never held is BadArgument; `ipairs`
+-- takes a table alone.
 --     pairs, ipairs, ipairs_next, next
 use Rattle.std.specs.Prelude.{◌+◌, ◌-◌, ◌^◌, nat_eq, if◌then◌else◌, ℤ, pos, negsuc, ◌+ℤ◌, List, [], ◌∷◌, Option, Some, None, Result, Ok, Err}
 use Rattle.ntx_values.specs.Value.{is_nil}

@@ -23,6 +23,10 @@ pub(crate) fn argument(args: &[Value], n: usize) -> Value
 }
 
 /// The text after `n` other arguments.
+///
+/// # Refusals
+///
+/// BadArgument if it is no text.
 pub(crate) fn text_at(store: &Store, args: &[Value], n: usize) -> Result<TextId, Fail<LuaWhy>>
     requires { AreOf store.now args.now }
     ensures value { Answers (result_map (bytes_of store.now) result) (text_of store.now (argument args.now n)) }
@@ -35,6 +39,10 @@ pub(crate) fn text_at(store: &Store, args: &[Value], n: usize) -> Result<TextId,
 }
 
 /// The integer that a value is.
+///
+/// # Refusals
+///
+/// BadArgument if it is no integer.
 pub(crate) fn integer_of(value: Value) -> Result<i64, Fail<LuaWhy>>
     ensures { Answers result (integer_of value) }
 {
@@ -45,6 +53,10 @@ pub(crate) fn integer_of(value: Value) -> Result<i64, Fail<LuaWhy>>
 }
 
 /// The integer after `n` other arguments.
+///
+/// # Refusals
+///
+/// BadArgument if it is no integer.
 pub(crate) fn integer_at(args: &[Value], n: usize) -> Result<i64, Fail<LuaWhy>>
     ensures { Answers result (integer_of (argument args.now n)) }
 {
@@ -52,6 +64,10 @@ pub(crate) fn integer_at(args: &[Value], n: usize) -> Result<i64, Fail<LuaWhy>>
 }
 
 /// The integer after `n` other arguments, or what nil means there.
+///
+/// # Refusals
+///
+/// BadArgument if it is neither an integer nor nil.
 pub(crate) fn integer_or(default: i64, args: &[Value], n: usize) -> Result<i64, Fail<LuaWhy>>
     ensures { Answers result (integer_or default (argument args.now n)) }
 {
@@ -63,6 +79,10 @@ pub(crate) fn integer_or(default: i64, args: &[Value], n: usize) -> Result<i64, 
 }
 
 /// The table after `n` other arguments.
+///
+/// # Refusals
+///
+/// BadArgument if it is no table.
 pub(crate) fn table_at(args: &[Value], n: usize) -> Result<TableId, Fail<LuaWhy>>
     ensures value { Answers result (table_of (argument args.now n)) }
     ensures of { (store : StoreState) → AreOf store args.now → IfOk result (λ t. IsOf store (Value.Table t)) }

@@ -20,6 +20,10 @@ pub(crate) fn item(store: &Store, table: TableId, n: usize) -> Value
 }
 
 /// Sets a table at a number.
+///
+/// # Refusals
+///
+/// TablesFull if the table would hold a 65537th key.
 pub(crate) fn set_item(
     store: &mut Store,
     table: TableId,

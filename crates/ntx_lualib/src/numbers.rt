@@ -19,6 +19,10 @@ fn absolute(n: i64) -> i64
 }
 
 /// `math.abs`
+///
+/// # Refusals
+///
+/// BadArgument if the first argument is no integer.
 pub(crate) fn math_abs(alloc: Global, args: &[Value]) -> Result<Vec<Value>, Fail<LuaWhy>>
     ensures value { Answers (result_map (λ values. values.items) result) (math_abs args.now) }
     ensures of { (store : StoreState) → IfOk result (λ values. AreOf store values.items) }
@@ -61,6 +65,10 @@ fn least(first: i64, others: &[i64]) -> i64
 }
 
 /// `math.max`
+///
+/// # Refusals
+///
+/// BadArgument if there is no argument, or one is no integer.
 pub(crate) fn math_max(alloc: Global, args: &[Value]) -> Result<Vec<Value>, Fail<LuaWhy>>
     ensures value { Answers (result_map (λ values. values.items) result) (math_max args.now) }
     ensures of { (store : StoreState) → IfOk result (λ values. AreOf store values.items) }
@@ -73,6 +81,10 @@ pub(crate) fn math_max(alloc: Global, args: &[Value]) -> Result<Vec<Value>, Fail
 }
 
 /// `math.min`
+///
+/// # Refusals
+///
+/// BadArgument if there is no argument, or one is no integer.
 pub(crate) fn math_min(alloc: Global, args: &[Value]) -> Result<Vec<Value>, Fail<LuaWhy>>
     ensures value { Answers (result_map (λ values. values.items) result) (math_min args.now) }
     ensures of { (store : StoreState) → IfOk result (λ values. AreOf store values.items) }

@@ -45,7 +45,8 @@ pub(crate) fn print(
     args: &[Value],
 ) -> Result<Vec<Value>, Fail<LuaWhy>>
     requires { AreOf store.now args.now }
-    ensures { Prints (result_map (λ values. values.items) result) out.old out.new (print_step (printed_line store.now args.now) out.old) }
+    ensures prints { Prints (result_map (λ values. values.items) result) out.old out.new (print_step (printed_line store.now args.now) out.old) }
+    ensures of { IfOk result (λ values. AreOf store.now values.items) }
 {
     let line = line_of(alloc, store, args)?.finish(LuaWhy::PrintFull)?;
     out.print(&line)?;

@@ -81,6 +81,10 @@ pub(crate) fn type_of(alloc: Global, args: &[Value]) -> Result<Vec<u8>, Fail<Lua
 }
 
 /// A text, or an integer by its digits, as an element of a list that is joined.
+///
+/// # Refusals
+///
+/// BadArgument if it is neither a text nor an integer.
 pub(crate) fn element(alloc: Global, store: &Store, value: Value) -> Result<Vec<u8>, Fail<LuaWhy>>
     requires { IsOf store.now value }
     ensures { Answers (result_map (λ bytes. bytes.items) result) (element_text store.now value) }

@@ -55,6 +55,10 @@ fn byte_at(bytes: &[u8], place: usize) -> Value
 }
 
 /// `string.len`
+///
+/// # Refusals
+///
+/// BadArgument if the first argument is no text.
 pub(crate) fn string_len(
     alloc: Global,
     store: &Store,
@@ -70,6 +74,10 @@ pub(crate) fn string_len(
 }
 
 /// `string.sub`
+///
+/// # Refusals
+///
+/// BadArgument if the first argument is no text, the second no integer, or the third neither an integer nor nil.
 pub(crate) fn string_sub(
     alloc: Global,
     store: &Store,
@@ -85,6 +93,10 @@ pub(crate) fn string_sub(
 }
 
 /// `string.byte`
+///
+/// # Refusals
+///
+/// BadArgument if the first argument is no text, or the second neither an integer nor nil.
 pub(crate) fn string_byte(
     alloc: Global,
     store: &Store,
@@ -112,6 +124,10 @@ fn byte_of(value: Value) -> Result<u8, Fail<LuaWhy>>
 }
 
 /// `string.char`
+///
+/// # Refusals
+///
+/// BadArgument if an argument is no integer from 0 to 255.
 pub(crate) fn string_char(alloc: Global, args: &[Value]) -> Result<Vec<u8>, Fail<LuaWhy>>
     ensures { Answers (result_map (λ bytes. bytes.items) result) (string_char args.now) }
 {
@@ -147,6 +163,11 @@ fn repeated(alloc: Global, bytes: &[u8], n: usize) -> Result<Vec<u8>, Fail<LuaWh
 }
 
 /// `string.rep`
+///
+/// # Refusals
+///
+/// BadArgument if the first argument is no text or the second no integer. Then TextsFull if the text would have more than 2^20
+/// bytes.
 pub(crate) fn string_rep(
     alloc: Global,
     store: &Store,

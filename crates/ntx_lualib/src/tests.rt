@@ -119,14 +119,20 @@ fn value_of(store: &mut Store, arg: Arg) -> Result<Value, Fail<LuaWhy>>
     }
 }
 
-/// How many arguments are given.
-fn given(args: &[Arg; 3]) -> usize {
-    for (i, arg) in args.iter().enumerate() {
+/// The values of arguments, up to the first that is missing.
+fn values_of(alloc: Global, store: &mut Store, args: &[Arg]) -> Result<Vec<Value>, Fail<LuaWhy>>
+    ensures grows { Grows store.old store.new }
+    ensures of { IfOk result (λ values. AreOf store.new values.items) }
+{
+    let mut values = Vec::new(alloc);
+    for arg in args {
         if matches!(arg, Arg::Missing) {
-            return i;
+            return Ok(values);
         }
+        let value = value_of(store, *arg)?;
+        values.push(value)?;
     }
-    3
+    Ok(values)
 }
 
 /// Whether a value is the only one.
@@ -155,13 +161,10 @@ fn call(
     store: &mut Store,
     out: &mut Printed,
     f: LibFn,
-    args: &[Arg; 3],
+    args: &[Arg],
 ) -> Result<Vec<Value>, Fail<LuaWhy>> {
-    let first = value_of(store, args[0])?;
-    let second = value_of(store, args[1])?;
-    let third = value_of(store, args[2])?;
-    let values = [first, second, third];
-    call_lib(alloc, store, out, f, &values[..given(args).min(3)])
+    let values = values_of(alloc, store, args)?;
+    call_lib(alloc, store, out, f, &values)
 }
 
 /// Calls each row and compares its answer.

@@ -11,6 +11,10 @@ use ntx_values::{BadKey, LibFn, LuaWhy, Primitive, Store, Value};
 use std::alloc::Global;
 
 /// `pairs`
+///
+/// # Refusals
+///
+/// BadArgument if the first argument is no table.
 pub(crate) fn pairs(alloc: Global, args: &[Value]) -> Result<Vec<Value>, Fail<LuaWhy>>
     ensures value { Answers (result_map (λ values. values.items) result) (pairs args.now) }
     ensures of { (store : StoreState) → AreOf store args.now → IfOk result (λ values. AreOf store values.items) }
@@ -21,6 +25,10 @@ pub(crate) fn pairs(alloc: Global, args: &[Value]) -> Result<Vec<Value>, Fail<Lu
 }
 
 /// `ipairs`
+///
+/// # Refusals
+///
+/// BadArgument if the first argument is no table.
 pub(crate) fn ipairs(alloc: Global, args: &[Value]) -> Result<Vec<Value>, Fail<LuaWhy>>
     ensures value { Answers (result_map (λ values. values.items) result) (ipairs args.now) }
     ensures of { (store : StoreState) → AreOf store args.now → IfOk result (λ values. AreOf store values.items) }
@@ -38,6 +46,10 @@ fn after(i: i64) -> i64
 }
 
 /// The iterator that `ipairs` gives.
+///
+/// # Refusals
+///
+/// BadArgument if the first argument is no table or the second no integer.
 pub(crate) fn ipairs_next(
     alloc: Global,
     store: &Store,
@@ -58,6 +70,10 @@ pub(crate) fn ipairs_next(
 }
 
 /// `next`
+///
+/// # Refusals
+///
+/// BadArgument if the first argument is no table, or the second is neither nil nor a key that the table ever held.
 pub(crate) fn next(alloc: Global, store: &Store, args: &[Value]) -> Result<Vec<Value>, Fail<LuaWhy>>
     requires { AreOf store.now args.now }
     ensures value { Answers (result_map (λ values. values.items) result) (next args.now store.now) }

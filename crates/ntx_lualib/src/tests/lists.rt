@@ -1,12 +1,12 @@
 //! Calls on lists.
 
-ghost use Rattle.ntx_values.specs.State.{IsOf};
+ghost use Rattle.ntx_values.specs.State.{IsOf, AreOf};
 
 use super::Arg::{Bool, Int, Letters, List, Missing, Nil, Text};
-use super::{Arg, BAD, Row, Want, is_wanted, list_of, run, value_of};
+use super::{Arg, BAD, Row, Want, is_wanted, run, values_of};
 use crate::{Printed, call_lib};
 use ntx_num::Fail;
-use ntx_values::{LibFn, Store, TableId, Value};
+use ntx_values::{LibFn, LuaWhy, Store, TableId, Value};
 use std::alloc::Global;
 use std::process::Abort;
 use std::test;
@@ -273,7 +273,7 @@ fn item(list: &[u8], i: usize) -> Value {
 }
 
 /// Whether a table holds a list at 1 to 8.
-fn holds(store: &Store, table: TableId, list: &[u8]) -> bool
+fn holds_list(store: &Store, table: TableId, list: &[u8]) -> bool
     requires { IsOf store.now (Value.Table table) }
 {
     for i in 0..8usize {
@@ -284,24 +284,28 @@ fn holds(store: &Store, table: TableId, list: &[u8]) -> bool
     true
 }
 
+/// Whether the first of these values is a table that holds a list.
+fn holds(store: &Store, values: &[Value], list: &[u8]) -> bool
+    requires { AreOf store.now values.now }
+{
+    match values.first() {
+        Some(Value::Table(table)) => holds_list(store, *table, list),
+        _ => false,
+    }
+}
+
 /// Whether a change answers as wanted and leaves the wanted list.
 fn is_done(
     alloc: Global,
     store: &mut Store,
     out: &mut Printed,
     change: &Change,
-) -> Result<bool, Fail<ntx_values::LuaWhy>> {
-    let table = list_of(store, change.1)?;
-    let first = value_of(store, change.2[0])?;
-    let second = value_of(store, change.2[1])?;
-    let values = [Value::Table(table), first, second];
-    let count = match change.2 {
-        [Arg::Missing, _] => 1,
-        [_, Arg::Missing] => 2,
-        _ => 3usize,
-    };
-    let result = call_lib(alloc, store, out, change.0, &values[..count]);
-    Ok(is_wanted(store, &result, change.3) && holds(store, table, change.4))
+) -> Result<bool, Fail<LuaWhy>> {
+    let args = [Arg::List(change.1), change.2[0], change.2[1]];
+    let values = values_of(alloc, store, &args)?;
+    let result = call_lib(alloc, store, out, change.0, &values);
+    let answers = is_wanted(store, &result, change.3);
+    Ok(answers && holds(store, &values, change.4))
 }
 
 /// Makes each change and compares what it leaves.
