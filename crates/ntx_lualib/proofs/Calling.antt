@@ -37,10 +37,13 @@ by_store (Err (Is why)) old new out step h g = (ap (result_map (λ after. (after
 by_store (Err NoMemory) old new out step h g = (g, refl)
 
 -- values alone
+abbrev answered : StoreState → PrintedState → Result (List Value) LuaWhy → Result (List Value × LibState) LuaWhy
+answered s out answer = on_store (gives (λ _. answer)) (s, out)
+
 pub by_answer : (r : Result (List Value) (Fail LuaWhy)) (s : StoreState) (out : PrintedState) (answer : StoreState → Result (List Value) LuaWhy)
     → Answers r (answer s) → Calls r (s, out) (s, out) (on_store (gives answer) (s, out))
-by_answer (Ok values) s out answer h = ap (λ a. result_map (λ after. (after.0, (after.1, out))) (result_map (λ values. (values, s)) a)) h
-by_answer (Err (Is why)) s out answer h = (ap (λ a. result_map (λ after. (after.0, (after.1, out))) (result_map (λ values. (values, s)) a)) h, refl)
+by_answer (Ok values) s out answer h = ap (answered s out) h
+by_answer (Err (Is why)) s out answer h = (ap (answered s out) h, refl)
 by_answer (Err NoMemory) s out answer h = (Grows-same s, refl)
 
 -- a printed line
@@ -51,10 +54,13 @@ by_print (Err (Is why)) s old new args h = (ap (result_map (λ out. ([], (s, out
 by_print (Err NoMemory) s old new args h = (Grows-same s, h)
 
 -- bytes that are too many for a text are none of the store's
+abbrev text_made : StoreState → Result (ℕ × List (List ℕ)) LuaWhy → Result (TextId × StoreState) LuaWhy
+text_made s r = result_map (λ p. (record { number = p.0 }, record s { texts = p.1 })) r
+
 pub too_long : (bytes : List ℕ) (s : StoreState) → IsLawful s → max_text < length bytes → text_step bytes s ≡ Err TextsFull
 too_long bytes s lawful long =
-    ap (λ (o : Option ℕ). result_map (λ p. (record { number = p.0 }, record s { texts = p.1 })) (option_map_or (λ place. Ok (place, s.texts)) o (cond (has_room_for bytes s.texts) (Ok (length s.texts, s.texts ++ bytes ∷ [])) (Err TextsFull)))) absent
-    ∙ ap (λ b. result_map (λ p. (record { number = p.0 }, record s { texts = p.1 })) (cond b (Ok (length s.texts, s.texts ++ bytes ∷ [])) (Err TextsFull))) room
+    ap (λ (o : Option ℕ). text_made s (option_map_or (λ place. Ok (place, s.texts)) o (cond (has_room_for bytes s.texts) (Ok (length s.texts, s.texts ++ bytes ∷ [])) (Err TextsFull)))) absent
+    ∙ ap (λ b. text_made s (cond b (Ok (length s.texts, s.texts ++ bytes ∷ [])) (Err TextsFull))) room
   where
     room : has_room_for bytes s.texts ≡ false
     room = let over : nat_le (length bytes) max_text ≡ false = grind (arith, nat_tests) in ap (λ b. b && nat_le (sum_by length s.texts + length bytes) max_bytes) over
@@ -71,16 +77,6 @@ too_long bytes s lawful long =
     absent : place_of bytes s.texts ≡ None
     absent = by (place_of bytes s.texts) refl
 
--- the bytes that were given are those that are stated
-pub given : (bytes : List ℕ) (answer : Result (List ℕ) LuaWhy) → GivesBytes (Ok bytes) answer → answer ≡ Ok bytes
-given bytes answer (inl h) = h
-given bytes (Ok all) (inr h) = by (nat_le (length all) max_text) h
-  where
-    by : (b : Bool) → ok_or (cond b (Some all) None) TextsFull ≡ Ok bytes → Ok all ≡ Ok bytes
-    by true g = g
-    by false g = cc
-given bytes (Err why) (inr h) = h
-
 -- a refusal before the text is made
 pub given_fails : (fail : Fail LuaWhy) (answer : Result (List ℕ) LuaWhy) (s : StoreState) → IsLawful s → GivesBytes (Err fail) answer → StoreCalls (Err fail) s s (gives_text (λ _. answer) s)
 given_fails NoMemory answer s lawful h = tt
@@ -93,14 +89,3 @@ given_fails (Is why) (Ok all) s lawful (inr h) = (by (cases_lt max_text (length 
         ap (λ r. r >>= λ made. Ok (Text made.0 ∷ [], made.1)) (too_long all s lawful long)
         ∙ ap Err (same_Err TextsFull why (sym (ap (λ o. ok_or o TextsFull) (passes max_text all long)) ∙ h))
     by (inr short) = let both : Ok all ≡ Err why = sym (ap (λ o. ok_or o TextsFull) (fits max_text all short)) ∙ h in absurd (not_both (Ok all) all why refl both)
-
--- a refusal of the text
-pub text_fails : (fail : Fail LuaWhy) (bytes : List ℕ) (answer : Result (List ℕ) LuaWhy) (old new : StoreState) → answer ≡ Ok bytes → Steps {A = TextId} (Err fail) old new (text_step bytes old)
-    → StoreCalls (Err fail) old new (gives_text (λ _. answer) old)
-text_fails NoMemory bytes answer old new e h = tt
-text_fails (Is why) bytes answer old new e h =
-    (ap (λ a. gives_text (λ _. a) old) e ∙ ap (λ r. r >>= λ made. Ok (Text made.0 ∷ [], made.1)) h.0, h.1)
-
-pub text_given : (bytes : List ℕ) (answer : Result (List ℕ) LuaWhy) (old new : StoreState) (t : TextId) → answer ≡ Ok bytes → text_step bytes old ≡ Ok (t, new)
-    → gives_text (λ _. answer) old ≡ Ok (Text t ∷ [], new)
-text_given bytes answer old new t e h = ap (λ a. gives_text (λ _. a) old) e ∙ ap (λ r. r >>= λ made. Ok (Text made.0 ∷ [], made.1)) h
