@@ -31,6 +31,8 @@ enum Arg {
     Text(&'static [u8]),
     /// A table with these integers from 1 on; 0 is left out.
     List(&'static [u8]),
+    /// A table with these integers from 1 on, from which what is at a place was then removed.
+    Holed(&'static [u8], i64),
     /// A table with these texts of one byte from 1 on.
     Letters(&'static [u8]),
     /// A function that a script wrote.
@@ -50,6 +52,8 @@ enum Want {
     Nil,
     /// An integer alone.
     Int(i64),
+    /// An integer and another.
+    Pair(i64, i64),
     /// A text alone.
     Text(&'static [u8]),
     /// A refusal.
@@ -77,6 +81,16 @@ fn list_of(store: &mut Store, integers: &[u8]) -> Result<TableId, Fail<LuaWhy>>
             )?;
         }
     }
+    Ok(table)
+}
+
+/// A table with integers from 1 on, from which what is at a place was then removed.
+fn holed_of(store: &mut Store, integers: &[u8], place: i64) -> Result<TableId, Fail<LuaWhy>>
+    ensures grows { Grows store.old store.new }
+    ensures of { IfOk result (λ t. IsOf store.new (Value.Table t)) }
+{
+    let table = list_of(store, integers)?;
+    store.set(table, Value::Int(place), Value::Nil)?;
     Ok(table)
 }
 
@@ -112,6 +126,7 @@ fn value_of(store: &mut Store, arg: Arg) -> Result<Value, Fail<LuaWhy>>
         Arg::Int(n) => Ok(Value::Int(n)),
         Arg::Text(bytes) => Ok(Value::Text(store.text(bytes)?)),
         Arg::List(integers) => Ok(Value::Table(list_of(store, integers)?)),
+        Arg::Holed(integers, place) => Ok(Value::Table(holed_of(store, integers, place)?)),
         Arg::Letters(letters) => Ok(Value::Table(letters_of(store, letters)?)),
         Arg::Function => Ok(Value::Function(store.new_function()?)),
         Arg::Lib(f) => Ok(Value::Prim(ntx_values::Primitive::Lib(f))),
@@ -136,8 +151,13 @@ fn values_of(alloc: Global, store: &mut Store, args: &[Arg]) -> Result<Vec<Value
 }
 
 /// Whether a value is the only one.
-fn is_one(values: &Vec<Value>, value: Value) -> bool {
-    values.as_slice() == [value].as_slice()
+fn is_one(values: &[Value], value: Value) -> bool {
+    values.len() == 1 && values[0] == value
+}
+
+/// Whether these two integers are the values.
+fn is_pair(values: &[Value], first: i64, second: i64) -> bool {
+    values.len() == 2 && values[0] == Value::Int(first) && values[1] == Value::Int(second)
 }
 
 /// Whether an answer is as wanted.
@@ -146,6 +166,7 @@ fn is_wanted(store: &Store, answer: &Result<Vec<Value>, Fail<LuaWhy>>, want: Wan
         (Ok(values), Want::Nothing) => values.is_empty(),
         (Ok(values), Want::Nil) => is_one(values, Value::Nil),
         (Ok(values), Want::Int(n)) => is_one(values, Value::Int(n)),
+        (Ok(values), Want::Pair(first, second)) => is_pair(values, first, second),
         (Ok(values), Want::Text(bytes)) => match store.find_text(bytes) {
             Some(text) => is_one(values, Value::Text(text)),
             None => false,
@@ -162,7 +183,9 @@ fn call(
     out: &mut Printed,
     f: LibFn,
     args: &[Arg],
-) -> Result<Vec<Value>, Fail<LuaWhy>> {
+) -> Result<Vec<Value>, Fail<LuaWhy>>
+    ensures { IfOk result (λ values. AreOf store.new values.items) }
+{
     let values = values_of(alloc, store, args)?;
     call_lib(alloc, store, out, f, &values)
 }

@@ -1,8 +1,8 @@
 //! Walks over tables.
 
-use super::Arg::{Int, List, Missing, Nil, Text};
-use super::{BAD, Row, Want, run};
-use crate::{Printed, call_lib};
+use super::Arg::{Holed, Int, List, Missing, Nil, Text};
+use super::{BAD, Row, Want, call, run};
+use crate::Printed;
 use ntx_values::{LibFn, Primitive, Store, Value};
 use std::test::Fail;
 
@@ -48,56 +48,90 @@ fn walks_end(rt: HostRuntime) -> Result<(), Fail> {
     run(&rt, rt.alloc(), &ENDS)
 }
 
+const STEPS: [Row; 13] = [
+    (LibFn::Next, [List(b"\x05\x06"), M, M], Want::Pair(1, 5)),
+    (LibFn::Next, [List(b"\x05\x06"), Nil, M], Want::Pair(1, 5)),
+    (
+        LibFn::Next,
+        [List(b"\x05\x06"), Int(1), M],
+        Want::Pair(2, 6),
+    ),
+    (LibFn::Next, [List(b"\0\0\x07"), M, M], Want::Pair(3, 7)),
+    (
+        LibFn::Next,
+        [Holed(b"\x05\x06\x07", 2), M, M],
+        Want::Pair(1, 5),
+    ),
+    (
+        LibFn::Next,
+        [Holed(b"\x05\x06\x07", 2), Int(1), M],
+        Want::Pair(3, 7),
+    ),
+    (
+        LibFn::Next,
+        [Holed(b"\x05\x06\x07", 2), Int(2), M],
+        Want::Pair(3, 7),
+    ),
+    (
+        LibFn::Next,
+        [Holed(b"\x05\x06\x07", 3), Int(2), M],
+        Want::Nil,
+    ),
+    (LibFn::Next, [Holed(b"\x05", 1), M, M], Want::Nil),
+    (
+        LibFn::IpairsNext,
+        [List(b"\x05\x06"), Int(0), M],
+        Want::Pair(1, 5),
+    ),
+    (
+        LibFn::IpairsNext,
+        [List(b"\x05\x06"), Int(1), M],
+        Want::Pair(2, 6),
+    ),
+    (
+        LibFn::IpairsNext,
+        [Holed(b"\x05\x06\x07", 2), Int(2), M],
+        Want::Pair(3, 7),
+    ),
+    (
+        LibFn::IpairsNext,
+        [Holed(b"\x05\x06\x07", 2), Int(1), M],
+        Want::Nil,
+    ),
+];
+
 #[test]
-fn walks_begin_and_go_on(rt: HostRuntime) -> Result<(), Fail> {
-    let mut store = Store::new(rt.alloc())?;
-    let mut out = Printed::new(rt.alloc())?;
-    let id = store.new_table()?;
-    let table = Value::Table(id);
-    let pairs = call_lib(rt.alloc(), &mut store, &mut out, LibFn::Pairs, &[table])?;
-    let walk = Value::Prim(Primitive::Lib(LibFn::Next));
-    assert_eq!(rt; pairs.as_slice(), [walk, table, Value::Nil].as_slice());
-    let ipairs = call_lib(rt.alloc(), &mut store, &mut out, LibFn::Ipairs, &[table])?;
-    let walk = Value::Prim(Primitive::Lib(LibFn::IpairsNext));
-    assert_eq!(rt; ipairs.as_slice(), [walk, table, Value::Int(0)].as_slice());
-    Ok(())
+fn walks_go_on(rt: HostRuntime) -> Result<(), Fail> {
+    run(&rt, rt.alloc(), &STEPS)
+}
+
+/// Whether a walk begins: its iterator, a table, and the value before the first.
+fn begins(values: &[Value], walk: LibFn, start: Value) -> bool {
+    values.len() == 3
+        && values[0] == Value::Prim(Primitive::Lib(walk))
+        && matches!(values[1], Value::Table(_))
+        && values[2] == start
 }
 
 #[test]
-fn next_passes_over_what_was_removed(rt: HostRuntime) -> Result<(), Fail> {
+fn walks_begin(rt: HostRuntime) -> Result<(), Fail> {
     let mut store = Store::new(rt.alloc())?;
     let mut out = Printed::new(rt.alloc())?;
-    let id = store.new_table()?;
-    let table = Value::Table(id);
-    for (key, value) in [
-        (1, Value::Int(5)),
-        (2, Value::Int(6)),
-        (3, Value::Int(7)),
-        (2, Value::Nil),
-    ] {
-        store.set(id, Value::Int(key), value)?;
-    }
-    for (key, after, value) in [
-        (Value::Nil, 1, 5),
-        (Value::Int(1), 3, 7),
-        (Value::Int(2), 3, 7),
-    ] {
-        let next = call_lib(rt.alloc(), &mut store, &mut out, LibFn::Next, &[table, key])?;
-        assert_eq!(rt;
-            next.as_slice(),
-            [Value::Int(after), Value::Int(value)].as_slice()
-        );
-    }
-    let numbered = call_lib(
+    let pairs = call(
         rt.alloc(),
         &mut store,
         &mut out,
-        LibFn::IpairsNext,
-        &[table, Value::Int(2)],
+        LibFn::Pairs,
+        &[List(b"\x05")],
     )?;
-    assert_eq!(rt;
-        numbered.as_slice(),
-        [Value::Int(3), Value::Int(7)].as_slice()
-    );
+    assert!(rt; begins(&pairs, LibFn::Next, Value::Nil));
+    let ipairs = call(
+        rt.alloc(),
+        &mut store,
+        &mut out,
+        LibFn::Ipairs,
+        &[List(b"\x05")],
+    )?;
+    assert!(rt; begins(&ipairs, LibFn::IpairsNext, Value::Int(0)));
     Ok(())
 }
