@@ -1,10 +1,9 @@
 -- Bytes under a limit.
-use Rattle.std.proofs.Common.{◌≡◌, ℕ, ◌+◌, ◌<◌, ◌≤◌, ◌⊎◌, inl, inr, Bool, true, false, cond, List, ◌++◌, length, refl, ap, sym, ◌∙◌, arith, length-append, append_assoc, Some, None, Ok, Err}
-use Rattle.std.specs.Prelude.{nat_le, ok_or, Result, Option}
+use Rattle.std.proofs.Common.{◌≡◌, ℕ, ◌<◌, ◌≤◌, inl, inr, true, false, cond, List, ◌++◌, length, ap, sym, ◌∙◌, arith, length-append, Some, None, Ok, Err}
+use Rattle.std.specs.Prelude.{nat_le, ok_or}
 use Rattle.std.proofs.lemmas.Bool.{cases_lt}
 use Rattle.std.proofs.lemmas.Bool.Decides.{nat_tests}
 use Rattle.ntx_values.specs.Texts.{max_text}
-use Rattle.ntx_values.specs.declared.why.LuaWhy.{LuaWhy}
 use Rattle.ntx_values.specs.declared.why.LuaWhy.TheVariants.{TextsFull}
 use Rattle.ntx_lualib.specs.inner.Lines.{bounded, added, limited}
 

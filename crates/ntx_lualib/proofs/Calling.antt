@@ -1,16 +1,16 @@
 -- Calls of the library, from what each function gives.
-use Rattle.std.proofs.Common.{◌≡◌, ℕ, ◌+◌, ◌<◌, ◌≤◌, ◌⊎◌, inl, inr, Bool, true, false, cond, ◌&&◌, List, [], ◌∷◌, ◌++◌, length, get_or, Option, Some, None, Ok, Err, refl, ap, sym, ◌∙◌, subst, arith, All}
+use Rattle.std.proofs.Common.{◌≡◌, ℕ, ◌+◌, ◌<◌, ◌≤◌, ◌⊎◌, inl, inr, false, cond, ◌&&◌, List, [], ◌∷◌, ◌++◌, length, get_or, Option, Some, None, Ok, Err, refl, ap, sym, ◌∙◌, arith}
 use Rattle.std.specs.Prelude.{Result, nat_le, nat_eq, sum_by, ok_or}
 use Rattle.std.specs.Option.{option_map_or}
 use Rattle.std.specs.Cmp.Lexicographic.{pointwise}
 use Rattle.std.proofs.lemmas.Bool.{cases_lt}
 use Rattle.std.proofs.lemmas.Bool.Decides.{nat_tests}
 use Rattle.std.proofs.lemmas.List.Quantifiers.{position-Some}
-use Rattle.ntx_num.specs.Answer.{result_map, Answers, Steps}
+use Rattle.ntx_num.specs.Answer.{result_map, Answers}
 use Rattle.ntx_num.specs.declared.answer.Fail.{Fail}
 use Rattle.ntx_num.specs.declared.answer.Fail.TheVariants.{NoMemory, Is}
-use Rattle.ntx_num.proofs.Answers.{same_Ok, same_Err, mapped_Ok}
-use Rattle.ntx_values.specs.Texts.{max_text, max_bytes, place_of, has_room_for, made}
+use Rattle.ntx_num.proofs.Answers.{same_Err}
+use Rattle.ntx_values.specs.Texts.{max_text, max_bytes, place_of, has_room_for}
 use Rattle.ntx_values.specs.State.{StoreState, IsLawful, Grows}
 use Rattle.ntx_values.specs.Steps.{text_step}
 use Rattle.ntx_values.specs.declared.value.Value.{Value}
@@ -22,7 +22,6 @@ use Rattle.ntx_values.proofs.Growth.{Grows-same}
 use Rattle.ntx_values.proofs.Makings.{found_bytes}
 use Rattle.ntx_lualib.specs.Output.{PrintedState, print_step, printed_line}
 use Rattle.ntx_lualib.specs.Library.{LibState, on_store, gives, gives_text, prints, Calls}
-use Rattle.ntx_lualib.specs.inner.Lines.{bounded, limited}
 use Rattle.ntx_lualib.specs.inner.Prints.{Prints}
 use Rattle.ntx_lualib.specs.inner.StoreCalls.{StoreCalls, GivesBytes}
 use Rattle.ntx_lualib.specs.Arguments.{◌>>=◌}

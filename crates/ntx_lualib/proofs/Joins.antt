@@ -1,5 +1,5 @@
 -- Parts that are joined one after another.
-use Rattle.std.proofs.Common.{◌≡◌, ℕ, zero, suc, ◌+◌, ◌-◌, ◌<◌, ◌≤◌, Bool, true, false, cond, List, [], ◌∷◌, ◌++◌, length, map, take, get_or, refl, ap, sym, ◌∙◌, subst, arith, append_assoc, length-append, Ok, Err, Some, None}
+use Rattle.std.proofs.Common.{◌≡◌, ℕ, suc, ◌+◌, ◌-◌, ◌<◌, ◌≤◌, false, cond, List, [], ◌∷◌, ◌++◌, length, map, take, get_or, refl, ap, sym, ◌∙◌, arith, append_assoc, length-append, Ok, Err, Some}
 use Rattle.std.specs.Prelude.{nat_eq, Option, Result, ok_or}
 use Rattle.std.proofs.lemmas.List.{append-nil, map_more, take_all, length-map, length-take}
 use Rattle.std.proofs.lemmas.Bool.Decides.{nat_tests}
@@ -8,7 +8,6 @@ use Rattle.ntx_num.specs.declared.answer.Fail.{Fail}
 use Rattle.ntx_num.specs.declared.answer.Fail.TheVariants.{NoMemory, Is}
 use Rattle.ntx_values.specs.Texts.{max_text}
 use Rattle.ntx_values.specs.Table.{Entries, item_at}
-use Rattle.ntx_values.specs.State.{StoreState}
 use Rattle.ntx_values.specs.declared.value.Value.{Value}
 use Rattle.ntx_values.specs.declared.why.LuaWhy.{LuaWhy}
 use Rattle.ntx_values.specs.declared.why.LuaWhy.TheVariants.{TextsFull}

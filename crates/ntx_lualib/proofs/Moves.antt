@@ -1,5 +1,5 @@
 -- A store whose table is refilled value by value.
-use Rattle.std.proofs.Common.{◌≡◌, ℕ, ◌+◌, ◌<◌, ◌≤◌, Bool, true, false, cond, pos, get_or, length, [], Ok, Err, is_ok, refl, ap, sym, ◌∙◌, subst, arith, true≢false}
+use Rattle.std.proofs.Common.{◌≡◌, ℕ, true, cond, pos, length, [], Ok, Err, is_ok, ap, sym, ◌∙◌, true≢false}
 use Rattle.std.specs.Prelude.{Result, nat_le}
 use Rattle.std.specs.List.{IsDistinct}
 use Rattle.std.specs.Map.{keys_of}
@@ -8,7 +8,7 @@ use Rattle.indexmap.specs.IndexMap.{insert_entry}
 use Rattle.ntx_num.specs.Answer.{result_map, Steps}
 use Rattle.ntx_num.specs.declared.answer.Fail.{Fail}
 use Rattle.ntx_num.specs.declared.answer.Fail.TheVariants.{NoMemory, Is}
-use Rattle.ntx_num.proofs.Answers.{same_Ok, mapped_Ok}
+use Rattle.ntx_num.proofs.Answers.{same_Ok}
 use Rattle.ntx_values.specs.Value.{is_same, is_nil}
 use Rattle.ntx_values.specs.Table.{Entries, max_keys, has_key, value_at, item_at, written}
 use Rattle.ntx_values.specs.State.{StoreState, IsOf, table_of}
@@ -19,7 +19,7 @@ use Rattle.ntx_values.specs.declared.value.TableId.{TableId}
 use Rattle.ntx_values.specs.declared.why.LuaWhy.{LuaWhy}
 use Rattle.ntx_values.specs.declared.why.LuaWhy.TheVariants.{TablesFull}
 use Rattle.ntx_lualib.specs.Lists.{refilled, with_table}
-use Rattle.ntx_lualib.specs.inner.Moves.{Moves, Changes}
+use Rattle.ntx_lualib.specs.inner.Moves.{Moves}
 use Rattle.ntx_lualib.proofs.Refills.{refilled_alike, refilled_self, insert-refilled, has_key-refilled, value_at-kept}
 
 pub table_of-with : (s : StoreState) (t : TableId) (es : Entries) → IsOf s (Table t) → table_of (with_table s t es) t ≡ es

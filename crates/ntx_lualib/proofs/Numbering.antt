@@ -1,9 +1,9 @@
 -- Keys that are numbers, and what is moved along them.
-use Rattle.std.proofs.Common.{◌≡◌, ℕ, ◌+◌, ◌-◌, ◌<◌, ◌≤◌, ◌⊎◌, inl, inr, Bool, true, false, cond, ◌&&◌, ◌||◌, pos, negsuc, ℤ, Option, Some, None, is_some, unwrap_or, length, refl, ap, sym, ◌∙◌, subst, arith, true≢false}
+use Rattle.std.proofs.Common.{◌≡◌, ℕ, ◌+◌, ◌-◌, ◌<◌, ◌≤◌, Bool, true, false, cond, ◌&&◌, pos, negsuc, Option, Some, None, is_some, unwrap_or, length, refl, ap, sym, ◌∙◌, subst, arith, true≢false}
 use Rattle.std.specs.Prelude.{nat_eq, nat_le, nat_lt, unsigned_abs}
 use Rattle.std.specs.Map.{lookup}
 use Rattle.std.specs.Ordering.{int_eq}
-use Rattle.std.proofs.lemmas.Bool.Decides.{nat_tests, Decides-int_eq, Decides-eqb, same_from_decides}
+use Rattle.std.proofs.lemmas.Bool.Decides.{nat_tests, Decides-int_eq}
 use Rattle.ntx_values.specs.Value.{is_same, is_nil}
 use Rattle.ntx_values.specs.Table.{Entries, has_key, value_at, item_at, border_of}
 use Rattle.ntx_values.specs.declared.value.Value.{Value}

@@ -1,5 +1,5 @@
 -- A format is read piece by piece.
-use Rattle.std.proofs.Common.{◌≡◌, ◌≢◌, ℕ, zero, suc, ◌+◌, ◌<◌, ◌≤◌, Bool, true, false, cond, List, [], ◌∷◌, ◌++◌, length, take, drop, get_or, refl, ap, sym, ◌∙◌, arith, append_assoc, Ok, Err, Some, None}
+use Rattle.std.proofs.Common.{◌≡◌, ◌≢◌, ℕ, ◌≤◌, true, false, cond, List, [], ◌∷◌, ◌++◌, length, take, drop, get_or, refl, ap, sym, ◌∙◌, arith, append_assoc, Ok, Err, Some}
 use Rattle.std.specs.Prelude.{nat_eq, Option, Result, ok_or}
 use Rattle.std.proofs.lemmas.List.{append-nil}
 use Rattle.ntx_num.specs.Answer.{result_map, Answers}

@@ -4,7 +4,7 @@ use Rattle.ntx_num.specs.Answer.{result_map}
 use Rattle.ntx_num.specs.declared.answer.Fail.{Fail}
 use Rattle.ntx_num.specs.declared.answer.Fail.TheVariants.{NoMemory, Is}
 use Rattle.ntx_values.specs.Table.{Entries, value_at, item_at}
-use Rattle.ntx_values.specs.State.{StoreState, Grows, table_of}
+use Rattle.ntx_values.specs.State.{StoreState, table_of}
 use Rattle.ntx_values.specs.declared.value.Value.{Value}
 use Rattle.ntx_values.specs.declared.value.Value.TheVariants.{Int}
 use Rattle.ntx_values.specs.declared.value.TableId.{TableId}

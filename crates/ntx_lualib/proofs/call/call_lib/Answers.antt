@@ -1,6 +1,5 @@
 use Rattle.std.proofs.Common.{Ok}
 use Rattle.ntx_num.specs.Answer.{result_map}
-use Rattle.ntx_values.proofs.Growth.{Grows-same}
 use Rattle.ntx_lualib.specs.Arguments.{argument}
 use Rattle.ntx_lualib.specs.Shown.{shown, type_name}
 use Rattle.ntx_lualib.specs.Strings.{string_len, string_sub, string_byte, string_char, string_rep}

@@ -1,4 +1,4 @@
-use Rattle.std.proofs.Common.{◌≡◌, ◌≤◌, arith}
+use Rattle.std.proofs.Common.{arith}
 use Rattle.std.proofs.lemmas.Int.{ints}
 use Rattle.ntx_values.specs.State.{table_of}
 use Rattle.ntx_values.proofs.Borders.{border_of-le}

@@ -1,8 +1,6 @@
-use Rattle.std.proofs.Common.{◌≡◌, ◌≤◌, ◌∙◌, subst, sym, ap, arith}
+use Rattle.std.proofs.Common.{◌≤◌, arith}
 use Rattle.std.proofs.lemmas.Result.{err_from_is_err_and}
-use Rattle.ntx_values.specs.State.{table_of}
-use Rattle.ntx_values.specs.Table.{item_at, has_key, border_of}
-use Rattle.ntx_values.specs.declared.value.Value.TheVariants.{Int, Table}
+use Rattle.ntx_values.specs.declared.value.Value.TheVariants.{Table}
 use Rattle.ntx_values.proofs.Growth.{IsOf-grown}
 use Rattle.ntx_lualib.proofs.Insertions.{first_set, held_after, insert_refused, insert_done}
 use Rattle.ntx_lualib.proofs.lists.insert_at.Goals as goal

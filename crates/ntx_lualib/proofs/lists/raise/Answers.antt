@@ -1,12 +1,12 @@
-use Rattle.std.proofs.Common.{◌≡◌, ◌≤◌, ◌<◌, ◌+◌, ◌-◌, ◌∙◌, ap, subst, sym, pos, Ok, Err, arith, rules}
+use Rattle.std.proofs.Common.{◌≡◌, ◌-◌, ◌∙◌, ap, subst, pos, Ok, Err, arith}
 use Rattle.std.proofs.lemmas.Result.{err_from_is_err_and}
 use Rattle.ntx_num.specs.Answer.{Steps}
 use Rattle.ntx_values.specs.Table.{item_at}
-use Rattle.ntx_values.specs.State.{StoreState, table_of, IsOf}
+use Rattle.ntx_values.specs.State.{StoreState, table_of}
 use Rattle.ntx_values.specs.Steps.{set_step}
 use Rattle.ntx_values.specs.declared.value.Value.{Value}
-use Rattle.ntx_values.specs.declared.value.Value.TheVariants.{Int, Table}
-use Rattle.ntx_values.proofs.Growth.{Grows-same, Grows-then, IsOf-grown}
+use Rattle.ntx_values.specs.declared.value.Value.TheVariants.{Int}
+use Rattle.ntx_values.proofs.Growth.{Grows-same, Grows-then}
 use Rattle.ntx_values.proofs.Lawful.{table_lawful}
 use Rattle.ntx_lualib.specs.Lists.{refilled, with_table}
 use Rattle.ntx_lualib.specs.inner.Moves.{raised}

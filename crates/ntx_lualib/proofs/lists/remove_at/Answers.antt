@@ -1,4 +1,4 @@
-use Rattle.std.proofs.Common.{◌≡◌, ◌≤◌, ◌+◌, arith}
+use Rattle.std.proofs.Common.{arith}
 use Rattle.ntx_values.specs.State.{table_of}
 use Rattle.ntx_lualib.proofs.Numbering.{held_key}
 use Rattle.ntx_lualib.proofs.Insertions.{remove_done}

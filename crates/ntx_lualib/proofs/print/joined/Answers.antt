@@ -1,4 +1,4 @@
-use Rattle.std.proofs.Common.{◌≡◌, ◌<◌, ◌+◌, ◌∙◌, ap, subst, sym, cond, List, ℕ, Err, arith, rules}
+use Rattle.std.proofs.Common.{◌≡◌, ◌<◌, ◌∙◌, ap, subst, sym, cond, List, ℕ, Err, arith}
 use Rattle.std.specs.Prelude.{nat_eq}
 use Rattle.std.proofs.lemmas.Result.{err_from_is_err_and}
 use Rattle.ntx_num.specs.Answer.{Answers, result_map}
@@ -7,7 +7,7 @@ use Rattle.ntx_values.specs.Table.{border_of}
 use Rattle.ntx_values.specs.State.{table_of}
 use Rattle.ntx_lualib.specs.Lists.{element_text}
 use Rattle.ntx_lualib.specs.inner.Lines.{added}
-use Rattle.ntx_lualib.proofs.Joins.{IsJoined, joined_start, joined_more, joined_fails, joined_end}
+use Rattle.ntx_lualib.proofs.Joins.{joined_start, joined_more, joined_fails, joined_end}
 use Rattle.ntx_lualib.proofs.print.joined.Goals as goal
 
 pub loop-k-init : goal.loop-k-init

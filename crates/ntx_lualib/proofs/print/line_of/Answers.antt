@@ -1,4 +1,4 @@
-use Rattle.std.proofs.Common.{◌≡◌, ◌≤◌, ◌∙◌, ◌∷◌, [], ap, subst, sym, cond, length, arith, rules}
+use Rattle.std.proofs.Common.{◌∙◌, ◌∷◌, [], ap, cond, arith}
 use Rattle.std.specs.Prelude.{nat_eq}
 use Rattle.ntx_values.specs.declared.value.Value.TheVariants.{Nil}
 use Rattle.ntx_lualib.specs.Shown.{shown}

@@ -1,4 +1,4 @@
-use Rattle.std.proofs.Common.{◌≡◌, ◌-◌, ◌∙◌, ap, sym, min, length, take, drop, arith}
+use Rattle.std.proofs.Common.{◌≡◌, ◌-◌, ◌∙◌, min, length, take, drop, arith}
 use Rattle.ntx_lualib.proofs.Slices.{cut}
 use Rattle.ntx_lualib.proofs.strings.cut.Goals as goal
 

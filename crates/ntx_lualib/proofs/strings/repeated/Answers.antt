@@ -1,4 +1,4 @@
-use Rattle.std.proofs.Common.{◌≡◌, ◌++◌, ◌<◌, ◌≤◌, ◌/◌, ◌^◌, zero, suc, length, List, [], ◌∷◌, ℕ, ◌∙◌, sym, ap, arith, refl, Ok, subst}
+use Rattle.std.proofs.Common.{◌≡◌, ◌++◌, ◌<◌, zero, length, ◌∙◌, sym, ap, arith, Ok}
 use Rattle.std.specs.List.{repeat}
 use Rattle.std.proofs.lemmas.List.{nil_from_length}
 use Rattle.std.proofs.lemmas.Bool.Decides.{nat_tests}

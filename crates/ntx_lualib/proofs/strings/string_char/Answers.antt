@@ -1,7 +1,6 @@
 use Rattle.std.proofs.Common.{arith, rules}
 use Rattle.std.proofs.lemmas.Result.{err_from_is_err_and}
 use Rattle.ntx_values.specs.declared.value.Value.TheVariants.{Nil}
-use Rattle.ntx_lualib.specs.Arguments.{integer_of}
 use Rattle.ntx_lualib.specs.Strings.{byte_of}
 use Rattle.ntx_lualib.proofs.Each.{each_fails, each_more}
 use Rattle.ntx_lualib.proofs.strings.string_char.Goals as goal

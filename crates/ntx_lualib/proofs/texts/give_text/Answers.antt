@@ -1,4 +1,4 @@
-use Rattle.std.proofs.Common.{◌≡◌, List, ℕ, Result, Vec, Global, subst}
+use Rattle.std.proofs.Common.{ℕ, Result, Vec, Global, subst}
 use Rattle.std.proofs.lemmas.Result.{err_from_is_err_and}
 use Rattle.ntx_num.specs.Answer.{result_map}
 use Rattle.ntx_num.specs.declared.answer.Fail.{Fail}
