@@ -2,7 +2,7 @@
 
 ghost use Rattle.ntx_values.specs.State.{IsOf, AreOf};
 
-use super::Arg::{Bool, Int, Letters, List, Missing, Nil, Text};
+use super::Arg::{Bool, Int, Letters, List, Nil, Text};
 use super::{Arg, BAD, Row, Want, is_wanted, run, values_of};
 use crate::{Printed, call_lib};
 use ntx_num::Fail;
@@ -11,254 +11,228 @@ use std::alloc::Global;
 use std::process::Abort;
 use std::test;
 
-const M: Arg = Missing;
-
-const JOINED: [Row; 22] = [
-    (LibFn::TableConcat, [List(b""), M, M], Want::Text(b"")),
+static JOINED: [Row; 22] = [
+    (LibFn::TableConcat, &[List(b"")], Want::Text(b"")),
     (
         LibFn::TableConcat,
-        [List(b""), Text(b","), M],
+        &[List(b""), Text(b",")],
         Want::Text(b""),
     ),
+    (LibFn::TableConcat, &[Letters(b"abc")], Want::Text(b"abc")),
     (
         LibFn::TableConcat,
-        [Letters(b"abc"), M, M],
+        &[Letters(b"abc"), Nil],
         Want::Text(b"abc"),
     ),
     (
         LibFn::TableConcat,
-        [Letters(b"abc"), Nil, M],
+        &[Letters(b"abc"), Text(b"")],
         Want::Text(b"abc"),
     ),
     (
         LibFn::TableConcat,
-        [Letters(b"abc"), Text(b""), M],
-        Want::Text(b"abc"),
-    ),
-    (
-        LibFn::TableConcat,
-        [Letters(b"abc"), Text(b", "), M],
+        &[Letters(b"abc"), Text(b", ")],
         Want::Text(b"a, b, c"),
     ),
     (
         LibFn::TableConcat,
-        [Letters(b"a"), Text(b", "), M],
+        &[Letters(b"a"), Text(b", ")],
         Want::Text(b"a"),
     ),
     (
         LibFn::TableConcat,
-        [List(b"\x01\x02\x0c"), Text(b"-"), M],
+        &[List(b"\x01\x02\x0c"), Text(b"-")],
         Want::Text(b"1-2-12"),
     ),
     (
         LibFn::TableConcat,
-        [List(b"\x01\0\x03"), Text(b"-"), M],
+        &[List(b"\x01\0\x03"), Text(b"-")],
         Want::Text(b"1"),
     ),
     (
         LibFn::TableConcat,
-        [List(b"\0\x02\x03"), Text(b"-"), M],
+        &[List(b"\0\x02\x03"), Text(b"-")],
         Want::Text(b""),
     ),
     (
         LibFn::TableConcat,
-        [Letters(b"ab"), Text(b"-"), Int(2)],
+        &[Letters(b"ab"), Text(b"-"), Int(2)],
         Want::Text(b"a-b"),
     ),
-    (LibFn::TableConcat, [Letters(b"ab"), Int(1), M], BAD),
-    (LibFn::TableConcat, [Letters(b"ab"), Bool(false), M], BAD),
-    (LibFn::TableConcat, [Text(b"ab"), Text(b"-"), M], BAD),
-    (LibFn::TableConcat, [M, M, M], BAD),
-    (LibFn::TableInsert, [M, M, M], BAD),
-    (LibFn::TableInsert, [Text(b"a"), Int(1), M], BAD),
-    (LibFn::TableInsert, [Nil, Int(1), Int(2)], BAD),
-    (LibFn::TableRemove, [M, M, M], BAD),
-    (LibFn::TableRemove, [Int(1), Int(1), M], BAD),
-    (LibFn::TableRemove, [Text(b""), M, M], BAD),
-    (LibFn::TableRemove, [Nil, M, M], BAD),
+    (LibFn::TableConcat, &[Letters(b"ab"), Int(1)], BAD),
+    (LibFn::TableConcat, &[Letters(b"ab"), Bool(false)], BAD),
+    (LibFn::TableConcat, &[Text(b"ab"), Text(b"-")], BAD),
+    (LibFn::TableConcat, &[], BAD),
+    (LibFn::TableInsert, &[], BAD),
+    (LibFn::TableInsert, &[Text(b"a"), Int(1)], BAD),
+    (LibFn::TableInsert, &[Nil, Int(1), Int(2)], BAD),
+    (LibFn::TableRemove, &[], BAD),
+    (LibFn::TableRemove, &[Int(1), Int(1)], BAD),
+    (LibFn::TableRemove, &[Text(b"")], BAD),
+    (LibFn::TableRemove, &[Nil], BAD),
 ];
 
-/// A change: the function, the list before, the arguments after it, the answer, and the list afterwards.
-type Change = (LibFn, &'static [u8], [Arg; 2], Want, &'static [u8]);
+/// A change: the function, its arguments with a list first, the answer, and the list afterwards.
+type Change = (LibFn, &'static [Arg], Want, &'static [u8]);
 
-const CHANGES: [Change; 30] = [
-    (LibFn::TableInsert, b"", [Int(7), M], Want::Nothing, b"\x07"),
+static CHANGES: [Change; 30] = [
     (
         LibFn::TableInsert,
-        b"\x01\x02",
-        [Int(7), M],
-        Want::Nothing,
-        b"\x01\x02\x07",
-    ),
-    (
-        LibFn::TableInsert,
-        b"\x01\x02",
-        [M, M],
-        Want::Nothing,
-        b"\x01\x02",
-    ),
-    (
-        LibFn::TableInsert,
-        b"\x01\x02",
-        [Nil, M],
-        Want::Nothing,
-        b"\x01\x02",
-    ),
-    (
-        LibFn::TableInsert,
-        b"\x01\0\x03",
-        [Int(7), M],
-        Want::Nothing,
-        b"\x01\x07\x03",
-    ),
-    (
-        LibFn::TableInsert,
-        b"",
-        [Int(1), Int(7)],
+        &[List(b""), Int(7)],
         Want::Nothing,
         b"\x07",
     ),
     (
         LibFn::TableInsert,
-        b"\x01\x02\x03",
-        [Int(1), Int(7)],
+        &[List(b"\x01\x02"), Int(7)],
+        Want::Nothing,
+        b"\x01\x02\x07",
+    ),
+    (
+        LibFn::TableInsert,
+        &[List(b"\x01\x02")],
+        Want::Nothing,
+        b"\x01\x02",
+    ),
+    (
+        LibFn::TableInsert,
+        &[List(b"\x01\x02"), Nil],
+        Want::Nothing,
+        b"\x01\x02",
+    ),
+    (
+        LibFn::TableInsert,
+        &[List(b"\x01\0\x03"), Int(7)],
+        Want::Nothing,
+        b"\x01\x07\x03",
+    ),
+    (
+        LibFn::TableInsert,
+        &[List(b""), Int(1), Int(7)],
+        Want::Nothing,
+        b"\x07",
+    ),
+    (
+        LibFn::TableInsert,
+        &[List(b"\x01\x02\x03"), Int(1), Int(7)],
         Want::Nothing,
         b"\x07\x01\x02\x03",
     ),
     (
         LibFn::TableInsert,
-        b"\x01\x02\x03",
-        [Int(2), Int(7)],
+        &[List(b"\x01\x02\x03"), Int(2), Int(7)],
         Want::Nothing,
         b"\x01\x07\x02\x03",
     ),
     (
         LibFn::TableInsert,
-        b"\x01\x02\x03",
-        [Int(3), Int(7)],
+        &[List(b"\x01\x02\x03"), Int(3), Int(7)],
         Want::Nothing,
         b"\x01\x02\x07\x03",
     ),
     (
         LibFn::TableInsert,
-        b"\x01\x02\x03",
-        [Int(4), Int(7)],
+        &[List(b"\x01\x02\x03"), Int(4), Int(7)],
         Want::Nothing,
         b"\x01\x02\x03\x07",
     ),
     (
         LibFn::TableInsert,
-        b"\x01\x02\x03",
-        [Int(2), Nil],
+        &[List(b"\x01\x02\x03"), Int(2), Nil],
         Want::Nothing,
         b"\x01\0\x02\x03",
     ),
     (
         LibFn::TableInsert,
-        b"\x01\x02\x03",
-        [Int(4), Nil],
+        &[List(b"\x01\x02\x03"), Int(4), Nil],
         Want::Nothing,
         b"\x01\x02\x03",
     ),
     (
         LibFn::TableInsert,
-        b"\x01\x02\0\x04",
-        [Int(1), Int(7)],
+        &[List(b"\x01\x02\0\x04"), Int(1), Int(7)],
         Want::Nothing,
         b"\x07\x01\x02\x04",
     ),
     (
         LibFn::TableInsert,
-        b"\x01\x02\x03",
-        [Int(0), Int(7)],
+        &[List(b"\x01\x02\x03"), Int(0), Int(7)],
         BAD,
         b"\x01\x02\x03",
     ),
     (
         LibFn::TableInsert,
-        b"\x01\x02\x03",
-        [Int(5), Int(7)],
+        &[List(b"\x01\x02\x03"), Int(5), Int(7)],
         BAD,
         b"\x01\x02\x03",
     ),
     (
         LibFn::TableInsert,
-        b"\x01\x02\x03",
-        [Int(-1), Int(7)],
+        &[List(b"\x01\x02\x03"), Int(-1), Int(7)],
         BAD,
         b"\x01\x02\x03",
     ),
     (
         LibFn::TableInsert,
-        b"\x01\x02\x03",
-        [Int(i64::MIN), Int(7)],
+        &[List(b"\x01\x02\x03"), Int(i64::MIN), Int(7)],
         BAD,
         b"\x01\x02\x03",
     ),
     (
         LibFn::TableInsert,
-        b"\x01\x02\x03",
-        [Nil, Int(7)],
+        &[List(b"\x01\x02\x03"), Nil, Int(7)],
         BAD,
         b"\x01\x02\x03",
     ),
-    (LibFn::TableRemove, b"", [M, M], Want::Nil, b""),
-    (LibFn::TableRemove, b"", [Nil, M], Want::Nil, b""),
-    (LibFn::TableRemove, b"", [Int(1), M], Want::Nil, b""),
+    (LibFn::TableRemove, &[List(b"")], Want::Nil, b""),
+    (LibFn::TableRemove, &[List(b""), Nil], Want::Nil, b""),
+    (LibFn::TableRemove, &[List(b""), Int(1)], Want::Nil, b""),
     (
         LibFn::TableRemove,
-        b"\x05\x06\x07",
-        [M, M],
+        &[List(b"\x05\x06\x07")],
         Want::Int(7),
         b"\x05\x06",
     ),
     (
         LibFn::TableRemove,
-        b"\x05\x06\x07",
-        [Nil, M],
+        &[List(b"\x05\x06\x07"), Nil],
         Want::Int(7),
         b"\x05\x06",
     ),
     (
         LibFn::TableRemove,
-        b"\x05\x06\x07",
-        [Int(1), M],
+        &[List(b"\x05\x06\x07"), Int(1)],
         Want::Int(5),
         b"\x06\x07",
     ),
     (
         LibFn::TableRemove,
-        b"\x05\x06\x07",
-        [Int(2), M],
+        &[List(b"\x05\x06\x07"), Int(2)],
         Want::Int(6),
         b"\x05\x07",
     ),
     (
         LibFn::TableRemove,
-        b"\x05\x06\x07",
-        [Int(4), M],
+        &[List(b"\x05\x06\x07"), Int(4)],
         Want::Nil,
         b"\x05\x06\x07",
     ),
     (
         LibFn::TableRemove,
-        b"\x05\x06\0\x08",
-        [Int(1), M],
+        &[List(b"\x05\x06\0\x08"), Int(1)],
         Want::Int(5),
         b"\x06\0\0\x08",
     ),
-    (LibFn::TableRemove, b"\x05", [M, M], Want::Int(5), b""),
+    (LibFn::TableRemove, &[List(b"\x05")], Want::Int(5), b""),
     (
         LibFn::TableRemove,
-        b"\x05\x06",
-        [Int(0), M],
+        &[List(b"\x05\x06"), Int(0)],
         BAD,
         b"\x05\x06",
     ),
     (
         LibFn::TableRemove,
-        b"\x05\x06",
-        [Int(4), M],
+        &[List(b"\x05\x06"), Int(4)],
         BAD,
         b"\x05\x06",
     ),
@@ -301,11 +275,10 @@ fn is_done(
     out: &mut Printed,
     change: &Change,
 ) -> Result<bool, Fail<LuaWhy>> {
-    let args = [Arg::List(change.1), change.2[0], change.2[1]];
-    let values = values_of(alloc, store, &args)?;
+    let values = values_of(alloc, store, change.1)?;
     let result = call_lib(alloc, store, out, change.0, &values);
-    let answers = is_wanted(store, &result, change.3);
-    Ok(answers && holds(store, &values, change.4))
+    let answers = is_wanted(store, &result, change.2);
+    Ok(answers && holds(store, &values, change.3))
 }
 
 /// Makes each change and compares what it leaves.
