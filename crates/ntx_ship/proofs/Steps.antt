@@ -76,10 +76,8 @@ suc_less zero h = absurd (h refl)
 suc_less (suc n) h = omega arith
 
 -- The nodes of a list stand where its boxes may.
-pub row_fits : (levels : ℕ) (here : Place) (row same : List Station) → same ≡ row → (levels ≡ 0 → ⊥) → ((most : ℕ) → IsPlaced most here → All (StandsWithin (most + 2 ^ 51)) row) → IsPlaced (reach levels) here → All (StandsWithin (reach (levels - 1 + 1) + 2 ^ 51)) same
-row_fits levels here row same e h within near =
-    let back : levels - 1 + 1 ≡ levels = omega (arith, suc_less levels h) in
-    subst (λ (k : ℕ). All (StandsWithin (reach k + 2 ^ 51)) same) (sym back) (subst (λ (ss : List Station). All (StandsWithin (reach levels + 2 ^ 51)) ss) (sym e) (within (reach levels) near))
+pub row_fits : (levels : ℕ) (here : Place) (row same : List Station) → same ≡ row → ((most : ℕ) → IsPlaced most here → All (StandsWithin (most + 2 ^ 51)) row) → IsPlaced (reach levels) here → All (StandsWithin (reach levels + 2 ^ 51)) same
+row_fits levels here row same e within near = subst (λ (ss : List Station). All (StandsWithin (reach levels + 2 ^ 51)) ss) (sym e) (within (reach levels) near)
 
 -- what stands past the end of a list
 abbrev pub no_station : Station

@@ -1,6 +1,6 @@
 //! The pieces of lists and of the boxes in them.
 
-ghost use Rattle.std.specs.Prelude.{◌≡◌, ◌≤◌, ◌+◌, ◌++◌, ◌^◌, ℕ, List, ◌+ℤ◌, ◌∷◌, [], pos, length, unsigned_abs, unwrap_or, Ok, All, IfOk, OnOk};
+ghost use Rattle.std.specs.Prelude.{◌≡◌, ◌≤◌, ◌+◌, ◌-◌, ◌++◌, ◌^◌, ℕ, List, ◌+ℤ◌, ◌∷◌, [], pos, length, unsigned_abs, unwrap_or, Ok, All, IfOk, OnOk};
 ghost use Rattle.ntx_num.specs.Answer.{Answers, result_map};
 ghost use Rattle.ntx_num.specs.Dimension.{IsDimension};
 ghost use Rattle.ntx_pack.specs.Output.{IsRatio};
@@ -155,7 +155,7 @@ fn place_box<N: Nodes>(
     end_box(pieces, full, inner)
 }
 
-/// Puts a node at the end of the pieces.
+/// Puts a node at the end of the pieces, which is in a list that has so many levels of lists, itself included.
 #[cycle(placing)]
 fn place_node<N: Nodes>(
     alloc: Global,
@@ -166,39 +166,34 @@ fn place_node<N: Nodes>(
     levels: u64,
     pieces: &mut Vec<Piece>,
 ) -> Result<(), Fail<Trouble>>
-    requires levels { levels ≤ 100 }
-    requires station { StandsWithin (reach (levels + 1) + 2 ^ 51) station }
+    requires least { 1 ≤ levels }
+    requires most { levels ≤ 101 }
+    requires station { StandsWithin (reach levels + 2 ^ 51) station }
     ensures same { N.heap nodes.new ≡ N.heap nodes.old }
-    ensures adds { Adds result pieces.old.items pieces.new.items (node_pieces fonts.now (list_pieces (N.heap nodes.old) fonts.now levels) direction station.contents station.here) }
+    ensures adds { Adds result pieces.old.items pieces.new.items (node_pieces fonts.now (list_pieces (N.heap nodes.old) fonts.now (levels - 1)) direction station.contents station.here) }
 {
     let here = station.here;
+    let lower = levels - 1;
     match station.contents {
         Contents::Hlist(b) => {
             let at = here.reference(direction, b);
-            place_box(alloc, nodes, fonts, in_hlist(b), at, levels, pieces)
+            place_box(alloc, nodes, fonts, in_hlist(b), at, lower, pieces)
         }
         Contents::Vlist(b) => {
             let at = here.reference(direction, b).top(b);
-            place_box(alloc, nodes, fonts, in_vlist(b), at, levels, pieces)
+            place_box(alloc, nodes, fonts, in_vlist(b), at, lower, pieces)
         }
         Contents::Rule(r) => place_rule(direction, r, here, pieces),
         Contents::Glyph(g) => place_glyph(fonts, g, here, pieces),
         Contents::Disc(d) => {
-            place_list(
-                alloc,
-                nodes,
-                fonts,
-                in_part(d.replace),
-                here,
-                levels,
-                pieces,
-            )
+            let part = in_part(d.replace);
+            place_list(alloc, nodes, fonts, part, here, lower, pieces)
         }
         _ => Ok(()),
     }
 }
 
-/// Puts nodes that stand so at the end of the pieces.
+/// Puts nodes that stand so at the end of the pieces, which are a list that has so many levels of lists, itself included.
 #[cycle(placing)]
 #[tactic(auto, using(crate::proofs::Adds::row_ended))]
 fn place_row<N: Nodes>(
@@ -210,10 +205,11 @@ fn place_row<N: Nodes>(
     levels: u64,
     pieces: &mut Vec<Piece>,
 ) -> Result<(), Fail<Trouble>>
-    requires levels { levels ≤ 100 }
-    requires row { All (StandsWithin (reach (levels + 1) + 2 ^ 51)) row.now }
+    requires least { 1 ≤ levels }
+    requires most { levels ≤ 101 }
+    requires row { All (StandsWithin (reach levels + 2 ^ 51)) row.now }
     ensures same { N.heap nodes.new ≡ N.heap nodes.old }
-    ensures adds { Adds result pieces.old.items pieces.new.items (row_pieces fonts.now (list_pieces (N.heap nodes.old) fonts.now levels) direction row.now) }
+    ensures adds { Adds result pieces.old.items pieces.new.items (row_pieces fonts.now (list_pieces (N.heap nodes.old) fonts.now (levels - 1)) direction row.now) }
 {
     for station in row {
         place_node(alloc, nodes, fonts, direction, *station, levels, pieces)?;
@@ -268,7 +264,7 @@ pub fn place_list<N: Nodes>(
         fonts,
         inside.direction,
         &row,
-        levels - 1,
+        levels,
         pieces,
     )
 }

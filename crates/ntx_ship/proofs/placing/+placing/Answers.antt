@@ -30,35 +30,35 @@ place_list-returns-clause-adds g t c =
 
 pub place_node-returns-in-Hlist-clause-adds : goal.place_node-returns-in-Hlist-clause-adds
 place_node-returns-in-Hlist-clause-adds g t c =
-    node_hlist c.args.fonts.now (list_pieces (g.N.Nodes.heap c.args.nodes.now) c.args.fonts.now c.args.levels) c.args.direction c.in-Hlist.b c.in_hlist.result c.args.station.contents c.reference-at.result c.args.station.here c.in-Hlist.is c.in_hlist.ensures c.reference-at.ensures c.place_box.ensures.adds
+    node_hlist c.args.fonts.now (list_pieces (g.N.Nodes.heap c.args.nodes.now) c.args.fonts.now (c.args.levels - 1)) c.args.direction c.in-Hlist.b c.in_hlist.result c.args.station.contents c.reference-at.result c.args.station.here c.in-Hlist.is c.in_hlist.ensures c.reference-at.ensures c.place_box.ensures.adds
 
 pub place_node-returns-in-Vlist-clause-adds : goal.place_node-returns-in-Vlist-clause-adds
 place_node-returns-in-Vlist-clause-adds g t c =
-    node_vlist c.args.fonts.now (list_pieces (g.N.Nodes.heap c.args.nodes.now) c.args.fonts.now c.args.levels) c.args.direction c.in-Vlist.b c.in_vlist.result c.args.station.contents c.top-at.result c.args.station.here c.in-Vlist.is c.in_vlist.ensures (rw c.reference.ensures at c.top-at.ensures) c.place_box-in-Vlist.ensures.adds
+    node_vlist c.args.fonts.now (list_pieces (g.N.Nodes.heap c.args.nodes.now) c.args.fonts.now (c.args.levels - 1)) c.args.direction c.in-Vlist.b c.in_vlist.result c.args.station.contents c.top-at.result c.args.station.here c.in-Vlist.is c.in_vlist.ensures (rw c.reference.ensures at c.top-at.ensures) c.place_box-in-Vlist.ensures.adds
 
 pub place_node-returns-in-Rule-clause-adds : goal.place_node-returns-in-Rule-clause-adds
 place_node-returns-in-Rule-clause-adds g t c =
-    node_rule c.args.fonts.now (list_pieces (g.N.Nodes.heap c.args.nodes.now) c.args.fonts.now c.args.levels) c.args.direction c.in-Rule.r c.args.station.contents c.args.station.here c.in-Rule.is c.place_rule.ensures
+    node_rule c.args.fonts.now (list_pieces (g.N.Nodes.heap c.args.nodes.now) c.args.fonts.now (c.args.levels - 1)) c.args.direction c.in-Rule.r c.args.station.contents c.args.station.here c.in-Rule.is c.place_rule.ensures
 
 pub place_node-returns-in-Glyph-clause-adds : goal.place_node-returns-in-Glyph-clause-adds
 place_node-returns-in-Glyph-clause-adds g t c =
-    node_glyph c.args.fonts.now (list_pieces (g.N.Nodes.heap c.args.nodes.now) c.args.fonts.now c.args.levels) c.args.direction c.in-Glyph.g c.args.station.contents c.args.station.here c.in-Glyph.is c.place_glyph.ensures
+    node_glyph c.args.fonts.now (list_pieces (g.N.Nodes.heap c.args.nodes.now) c.args.fonts.now (c.args.levels - 1)) c.args.direction c.in-Glyph.g c.args.station.contents c.args.station.here c.in-Glyph.is c.place_glyph.ensures
 
 pub place_node-returns-in-Disc-clause-adds : goal.place_node-returns-in-Disc-clause-adds
 place_node-returns-in-Disc-clause-adds g t c =
-    node_disc c.args.fonts.now (list_pieces (g.N.Nodes.heap c.args.nodes.now) c.args.fonts.now c.args.levels) c.args.direction c.in-Disc.d c.in_part.result c.args.station.contents c.args.station.here c.in-Disc.is c.in_part.ensures c.place_list.ensures.adds
+    node_disc c.args.fonts.now (list_pieces (g.N.Nodes.heap c.args.nodes.now) c.args.fonts.now (c.args.levels - 1)) c.args.direction c.in-Disc.d c.in_part.result c.args.station.contents c.args.station.here c.in-Disc.is c.in_part.ensures c.place_list.ensures.adds
 
 pub place_node-returns-in_default-clause-adds : goal.place_node-returns-in_default-clause-adds
 place_node-returns-in_default-clause-adds g t c =
-    node_other tt c.args.pieces.now.items c.args.fonts.now (list_pieces (g.N.Nodes.heap c.args.nodes.now) c.args.fonts.now c.args.levels) c.args.direction c.args.station.contents c.args.station.here c.in_default.not-Hlist c.in_default.not-Vlist c.in_default.not-Rule c.in_default.not-Disc c.in_default.not-Glyph
+    node_other tt c.args.pieces.now.items c.args.fonts.now (list_pieces (g.N.Nodes.heap c.args.nodes.now) c.args.fonts.now (c.args.levels - 1)) c.args.direction c.args.station.contents c.args.station.here c.in_default.not-Hlist c.in_default.not-Vlist c.in_default.not-Rule c.in_default.not-Disc c.in_default.not-Glyph
 
 pub place_row-loop-station-preserved : goal.place_row-loop-station-preserved
 place_row-loop-station-preserved g t c =
     let heap = g.N.Nodes.heap c.args.nodes.now in
     let inv = c.loop-station.invariant in
     let station = get_or c.args.row.now c.loop-station.station-index no_station in
-    let adds = subst (λ (h : Heap). Adds (Ok c.in_ok-place_node.field-0) c.loop-station.pieces.items c.place_node.new.pieces.items (node_pieces c.args.fonts.now (list_pieces h c.args.fonts.now c.args.levels) c.args.direction station.contents station.here)) inv.same c.in_ok-place_node.ensures.adds in
+    let adds = subst (λ (h : Heap). Adds (Ok c.in_ok-place_node.field-0) c.loop-station.pieces.items c.place_node.new.pieces.items (node_pieces c.args.fonts.now (list_pieces h c.args.fonts.now (c.args.levels - 1)) c.args.direction station.contents station.here)) inv.same c.in_ok-place_node.ensures.adds in
     record {
       same = c.place_node.ensures.same ∙ inv.same;
-      whole = row_more c.args.fonts.now (list_pieces heap c.args.fonts.now c.args.levels) c.args.direction c.args.row.now c.loop-station.station-index no_station c.in_ok-place_node.field-0 c.args.pieces.now.items c.loop-station.pieces.items c.place_node.new.pieces.items _ c.loop-station-test.true inv.whole adds;
+      whole = row_more c.args.fonts.now (list_pieces heap c.args.fonts.now (c.args.levels - 1)) c.args.direction c.args.row.now c.loop-station.station-index no_station c.in_ok-place_node.field-0 c.args.pieces.now.items c.loop-station.pieces.items c.place_node.new.pieces.items _ c.loop-station-test.true inv.whole adds;
     }
