@@ -238,7 +238,6 @@ fn row_of<N: Nodes>(
 
 /// Puts a list that begins here at the end of the pieces, with at most so many levels of lists, itself included.
 #[cycle(placing)]
-#[tactic(auto, using(crate::proofs::Steps::row_fits))]
 pub fn place_list<N: Nodes>(
     alloc: Global,
     nodes: &mut N,
@@ -258,13 +257,5 @@ pub fn place_list<N: Nodes>(
         return Err(Fail::Is(Trouble::Nest));
     }
     let row = row_of(alloc, nodes, fonts, inside, here)?;
-    place_row(
-        alloc,
-        nodes,
-        fonts,
-        inside.direction,
-        &row,
-        levels,
-        pieces,
-    )
+    place_row(alloc, nodes, fonts, inside.direction, &row, levels, pieces)
 }

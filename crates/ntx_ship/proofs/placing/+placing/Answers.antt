@@ -1,12 +1,12 @@
 -- Lists are placed node by node, and boxes by their lists.
-use Rattle.std.proofs.Common.{◌≡◌, ℕ, ◌+◌, ◌-◌, ◌^◌, List, get_or, Ok, subst, sym, ap, ◌∙◌}
+use Rattle.std.proofs.Common.{◌≡◌, ℕ, ◌+◌, ◌-◌, ◌≤◌, ◌^◌, List, get_or, Ok, subst, sym, ap, ◌∙◌, arith}
 use Rattle.std.proofs.lemmas.Result.{err_from_is_err_and}
 use Rattle.ntx_nodes.specs.Heap.{Heap}
 use Rattle.ntx_ship.specs.declared.station.Station.{Station}
 use Rattle.ntx_ship.specs.Placed.{row_pieces, node_pieces, list_pieces}
 use Rattle.ntx_ship.specs.Adding.{Adds}
 use Rattle.ntx_ship.proofs.Adds.{list_too_deep, list_row, row_more}
-use Rattle.ntx_ship.proofs.Steps.{list_error, node_hlist, node_vlist, node_rule, node_glyph, node_disc, node_other, suc_less, no_station}
+use Rattle.ntx_ship.proofs.Steps.{list_error, node_hlist, node_vlist, node_rule, node_glyph, node_disc, node_other, suc_less, no_station, row_fits}
 use Rattle.ntx_ship.proofs.placing.+placing.Goals as goal
 
 pub place_list-returns-then-levels-eq0-clause-adds : goal.place_list-returns-then-levels-eq0-clause-adds
@@ -46,7 +46,7 @@ place_node-returns-in-Glyph-clause-adds g t c =
 
 pub place_node-returns-in-Disc-clause-adds : goal.place_node-returns-in-Disc-clause-adds
 place_node-returns-in-Disc-clause-adds g t c =
-    node_disc c.args.fonts.now (list_pieces (g.N.Nodes.heap c.args.nodes.now) c.args.fonts.now (c.args.levels - 1)) c.args.direction c.in-Disc.d c.in_part.result c.args.station.contents c.args.station.here c.in-Disc.is c.in_part.ensures c.place_list.ensures.adds
+    node_disc c.args.fonts.now (list_pieces (g.N.Nodes.heap c.args.nodes.now) c.args.fonts.now (c.args.levels - 1)) c.args.direction c.in-Disc.d c.in_part-part.result c.args.station.contents c.args.station.here c.in-Disc.is c.in_part-part.ensures c.place_list.ensures.adds
 
 pub place_node-returns-in_default-clause-adds : goal.place_node-returns-in_default-clause-adds
 place_node-returns-in_default-clause-adds g t c =
@@ -62,3 +62,13 @@ place_row-loop-station-preserved g t c =
       same = c.place_node.ensures.same ∙ inv.same;
       whole = row_more c.args.fonts.now (list_pieces heap c.args.fonts.now (c.args.levels - 1)) c.args.direction c.args.row.now c.loop-station.station-index no_station c.in_ok-place_node.field-0 c.args.pieces.now.items c.loop-station.pieces.items c.place_node.new.pieces.items _ c.loop-station-test.true inv.whole adds;
     }
+
+pub place_list-place_row-requires : goal.place_list-place_row-requires
+place_list-place_row-requires g t c = λ κs here.
+    let least : 1 ≤ c.args.levels = omega (arith, c.if-levels-eq0.false) in (
+      omega (arith, c.decreases, least),
+      (
+        here,
+        (least, (c.requires.levels, row_fits c.args.levels c.args.here c.in_ok-row.row.items c.deref.result.now c.deref.ensures.value c.in_ok-row.ensures.within c.requires.place)),
+      ),
+    )
