@@ -1,14 +1,12 @@
 -- Marks that stand within a dimension.
-use Rattle.std.proofs.Common.{◌≡◌, ℤ, pos, ◌+ℤ◌, Bool, true, false, ◌&&◌, cond, List, [], ◌∷◌, Ok, Err, refl, sym, ap, ◌∙◌, ◌≤◌, ◌^◌, to_z, of_z, w32, w64, arith}
-use Rattle.std.specs.Prelude.{Result, int_lt, int_le, neg_ℤ, ◌≤ℤ◌}
+use Rattle.std.proofs.Common.{◌≡◌, ℤ, pos, Bool, true, false, ◌&&◌, cond, [], ◌∷◌, Ok, Err, refl, sym, ap, ◌∙◌, ◌≤◌, ◌^◌, to_z, of_z, w32, w64, arith}
+use Rattle.std.specs.Prelude.{int_lt, int_le, neg_ℤ, ◌≤ℤ◌}
 use Rattle.std.specs.Int.RustNames.{unsigned_abs}
 use Rattle.std.proofs.lemmas.Int.{ints}
 use Rattle.ntx_num.specs.Dimension.{is_dimension, IsDimension, max_dimension}
 use Rattle.std.proofs.lemmas.Bool.{cond-true, cond-false}
 use Rattle.ntx_nodes.specs.declared.contents.GlyphFields.{GlyphFields}
-use Rattle.ntx_nodes.specs.declared.trouble.Trouble.{Trouble}
 use Rattle.ntx_nodes.specs.declared.trouble.Trouble.TheVariants.{Dimension}
-use Rattle.ntx_ship.specs.declared.piece.Piece.{Piece}
 use Rattle.ntx_ship.specs.declared.piece.Piece.TheVariants.{Glyph, Rule}
 use Rattle.ntx_ship.specs.declared.place.Place.{Place}
 use Rattle.ntx_ship.specs.Placed.{Pieces, may_stand, glyph_mark, rule_mark}

@@ -1,5 +1,5 @@
 -- The numbers by which the nodes of lawful heaps are placed.
-use Rattle.std.proofs.Common.{◌≡◌, ℕ, Some, Ok, sym, ap, ◌∙◌, subst}
+use Rattle.std.proofs.Common.{◌≡◌, ℕ, Some, Ok, sym, ap, ◌∙◌}
 use Rattle.std.specs.FinMap as map
 use Rattle.ntx_num.proofs.Answers.{same_Ok}
 use Rattle.ntx_nodes.specs.Heap.{Heap, IsLawful}

@@ -20,7 +20,7 @@ use Rattle.ntx_tfm.specs.Font.{FontTables}
 use Rattle.ntx_item.specs.declared.item.Item.{Item}
 use Rattle.ntx_pack.specs.declared.glue_set.GlueSet.{GlueSet}
 use Rattle.ntx_pack.specs.Output.{move, set_size}
-use Rattle.ntx_view.specs.View.{item_of, item_at, items_answer, IsOneEach}
+use Rattle.ntx_view.specs.View.{item_of, items_answer, IsOneEach}
 use Rattle.ntx_ship.specs.declared.list.Inside.{Inside}
 use Rattle.ntx_ship.specs.declared.place.Place.{Place}
 use Rattle.ntx_ship.specs.declared.station.Station.{Station}

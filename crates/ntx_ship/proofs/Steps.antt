@@ -1,5 +1,5 @@
 -- The steps by which a list is placed.
-use Rattle.std.proofs.Common.{◌≡◌, ℕ, zero, suc, ◌+◌, ◌-◌, ◌^◌, pos, ◌+ℤ◌, List, None, Ok, Err, refl, sym, ap, ◌∙◌, subst, arith}
+use Rattle.std.proofs.Common.{◌≡◌, ℕ, zero, suc, ◌+◌, ◌-◌, ◌^◌, pos, ◌+ℤ◌, List, None, Ok, Err, refl, sym, subst, arith}
 use Rattle.std.specs.Prelude.{Result, unwrap_or}
 use Rattle.ntx_num.specs.Answer.{Answers, result_map}
 use Rattle.ntx_num.specs.declared.answer.Fail.{Fail}

@@ -22,7 +22,6 @@ use Rattle.ntx_item.specs.Sums.{natural_width}
 use Rattle.ntx_view.specs.View.{char_size, no_size, item_of, items_answer}
 use Rattle.ntx_pack.specs.declared.direction.Direction.{Direction}
 use Rattle.ntx_pack.specs.declared.direction.Direction.TheVariants.{Horizontal, Vertical}
-use Rattle.ntx_pack.specs.declared.glue_set.GlueSet.{GlueSet}
 use Rattle.ntx_pack.specs.GlueSet.{glue_set_in, unset}
 use Rattle.ntx_pack.specs.Output.{move, set_size}
 use Rattle.ntx_pack.specs.Vertical.{extent}

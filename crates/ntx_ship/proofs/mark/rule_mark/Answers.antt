@@ -1,5 +1,5 @@
 -- No bits of a mark are lost.
-use Rattle.std.proofs.Common.{◌≡◌, ◌≤◌, ◌^◌, ℤ, true, false, to_z, of_z, w32, w64, sym, ◌∙◌, subst, arith}
+use Rattle.std.proofs.Common.{◌≡◌, ℤ, true, false, to_z, of_z, w32, w64, sym, ◌∙◌, subst, arith}
 use Rattle.std.proofs.lemmas.Int.{ints}
 use Rattle.ntx_ship.specs.Placed.{may_stand}
 use Rattle.ntx_ship.proofs.Marks.{rule_stands, rule_refused, is_above, exact, small, kept}

@@ -1,5 +1,5 @@
 -- No bits are lost.
-use Rattle.std.proofs.Common.{◌≡◌, ℤ, ◌+ℤ◌, to_z, of_z, w32, w64, ◌∙◌, arith}
+use Rattle.std.proofs.Common.{◌≡◌, ◌+ℤ◌, to_z, of_z, w32, ◌∙◌, arith}
 use Rattle.std.proofs.lemmas.Int.{ints}
 use Rattle.ntx_ship.proofs.Marks.{exact, small, kept}
 use Rattle.ntx_ship.proofs.page.page_of.Goals as goal

@@ -1,5 +1,5 @@
 -- Lists are placed node by node, and boxes by their lists.
-use Rattle.std.proofs.Common.{◌≡◌, ℕ, ◌+◌, ◌-◌, ◌≤◌, ◌^◌, List, get_or, Ok, subst, sym, ap, ◌∙◌, arith}
+use Rattle.std.proofs.Common.{◌-◌, ◌≤◌, List, get_or, Ok, subst, ◌∙◌, arith}
 use Rattle.std.proofs.lemmas.Result.{err_from_is_err_and}
 use Rattle.ntx_nodes.specs.Heap.{Heap}
 use Rattle.ntx_ship.specs.declared.station.Station.{Station}

@@ -1,5 +1,5 @@
 -- A rule without width or height is no mark.
-use Rattle.std.proofs.Common.{◌≡◌, ◌≤◌, ◌^◌, ℤ, pos, true, to_z, of_z, w64, subst, arith}
+use Rattle.std.proofs.Common.{◌≡◌, ℤ, pos, true, to_z, of_z, w64, subst, arith}
 use Rattle.std.specs.Prelude.{int_le}
 use Rattle.std.proofs.lemmas.Int.{ints}
 use Rattle.ntx_ship.proofs.Adds.{no_width, no_height, at_most_none}

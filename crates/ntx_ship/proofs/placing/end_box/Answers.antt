@@ -1,11 +1,11 @@
 -- A box ends as the list in it did.
-use Rattle.std.proofs.Common.{List, ◌∷◌, [], ◌++◌, subst}
+use Rattle.std.proofs.Common.{◌∷◌, [], ◌++◌, subst}
 use Rattle.std.specs.Prelude.{Result}
 use Rattle.ntx_num.specs.declared.answer.Fail.{Fail}
 use Rattle.ntx_nodes.specs.declared.trouble.Trouble.{Trouble}
 use Rattle.ntx_ship.specs.declared.piece.Piece.TheVariants.{Push}
 use Rattle.ntx_ship.specs.Adding.{Adds}
-use Rattle.ntx_ship.proofs.Adds.{box_closed, box_refused}
+use Rattle.ntx_ship.proofs.Adds.{box_refused}
 use Rattle.ntx_ship.proofs.placing.end_box.Goals as goal
 
 pub returns-in-Err : goal.returns-in-Err

@@ -1,5 +1,5 @@
 -- The items and the names that were found are those of one list.
-use Rattle.std.proofs.Common.{◌≡◌, ℕ, pos, List, length, Ok, Err, subst, sym, ap, ◌∙◌}
+use Rattle.std.proofs.Common.{◌≡◌, ℕ, pos, List, length, Ok, subst, sym, ap, ◌∙◌}
 use Rattle.std.specs.List.{All}
 use Rattle.std.proofs.lemmas.Result.{err_from_is_err_and}
 use Rattle.ntx_num.specs.Answer.{Answers, result_map}

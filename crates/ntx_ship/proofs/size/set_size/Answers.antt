@@ -1,7 +1,6 @@
 -- Only glue changes its size.
-use Rattle.std.proofs.Common.{◌≡◌, ◌+◌, ◌≤◌, ◌^◌, to_z, of_z, w64, sym, ◌∙◌, arith}
+use Rattle.std.proofs.Common.{◌+◌, ◌≤◌, ◌^◌, sym, ◌∙◌, arith}
 use Rattle.std.specs.Int.RustNames.{unsigned_abs}
-use Rattle.std.proofs.lemmas.Int.{ints}
 use Rattle.ntx_item.specs.Items.{absolute_width, max_total}
 use Rattle.ntx_pack.proofs.OutputLemmas.{other_sizes}
 use Rattle.ntx_ship.specs.Placed.{own_size}

@@ -1,5 +1,5 @@
 -- One node after another.
-use Rattle.std.proofs.Common.{◌≡◌, ℕ, ◌+◌, ◌≤◌, ◌<◌, ◌^◌, ℤ, ◌+ℤ◌, List, length, get_or, Ok, Err, to_z, of_z, w64, subst, sym, ap, ◌∙◌, arith}
+use Rattle.std.proofs.Common.{◌≡◌, ◌+◌, ◌≤◌, ◌<◌, ◌^◌, ℤ, ◌+ℤ◌, length, get_or, to_z, of_z, w64, subst, sym, ap, ◌∙◌, arith}
 use Rattle.std.specs.List.{All}
 use Rattle.std.proofs.lemmas.List.Elements.{All-push, All-get_or}
 use Rattle.ntx_item.proofs.ItemsLemmas.{parts_are_in_range}
