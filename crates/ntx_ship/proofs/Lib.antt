@@ -1,0 +1,16 @@
+-- where the nodes of a list stand, one after another
+pub mod Rows
+-- how far they stand from one another
+pub mod Reaches
+-- boxes between push and pop
+pub mod Groups
+-- what is put at the end of pieces
+pub mod Adds
+-- the pieces of a page can be drawn
+pub mod Drawables
+-- the numbers by which nodes are placed
+pub mod Ranges
+-- marks
+pub mod Marks
+-- the steps by which a list is placed
+pub mod Steps
