@@ -1,10 +1,18 @@
-//! Which variables names are, and where a name is one too many.
+//! Which variables the names of small trees are, and where a name is one too many. A name here is one letter.
 
-use crate::{Scope, Variable};
-use ntx_syntax::{LocalName, Name};
+mod limit;
+mod show;
+mod variables;
+
+use crate::code::{Function, StatKind};
+use crate::resolver::Resolver;
+use crate::scope::Scope;
+use ntx_num::Fail;
+use ntx_syntax as tree;
+use ntx_syntax::{FunctionBody, LocalName, Name, SyntaxFault};
+use show::Shown;
 use sqlite_items::Items;
 use std::alloc::{AllocError, Global};
-use std::test;
 
 /// A name of one letter.
 fn name(alloc: Global, letter: u8) -> Result<Name, AllocError> {
@@ -12,37 +20,40 @@ fn name(alloc: Global, letter: u8) -> Result<Name, AllocError> {
 }
 
 /// Names that are declared, each on a line of its own.
-fn locals(alloc: Global, letters: &[u8]) -> Result<Vec<LocalName>, AllocError> {
-    let mut names = Vec::new(alloc);
+fn locals(alloc: Global, letters: &[u8]) -> Result<Items<LocalName>, AllocError> {
+    let mut names = Items::new(alloc);
     let mut line = 0;
     for letter in letters {
+        line += 1;
         names.push(LocalName {
             name: name(alloc, *letter)?,
             line,
         })?;
-        line = 7;
     }
     Ok(names)
 }
 
-#[test]
-fn the_last_declaration_decides(rt: HostRuntime) -> Result<(), test::Fail> {
-    let alloc = rt.alloc();
-    let names = locals(alloc, b"ababc")?;
-    assert!(rt; names.len() == 5);
-    let mut scope = Scope::outermost(alloc);
-    scope.declare(&names[..3])?;
-    assert!(rt; scope.variable(&name(alloc, b'a')?) == Variable::Local(2));
-    assert!(rt; scope.variable(&name(alloc, b'b')?) == Variable::Local(1));
-    assert!(rt; scope.variable(&name(alloc, b'c')?) == Variable::Global);
-    let mut inside = scope.inside()?;
-    inside.declare(&names[3..])?;
-    assert!(rt; inside.variable(&name(alloc, b'a')?) == Variable::Upvalue(2));
-    assert!(rt; inside.variable(&name(alloc, b'b')?) == Variable::Local(0));
-    assert!(rt; inside.variable(&name(alloc, b'c')?) == Variable::Local(1));
-    assert!(rt; inside.variable(&name(alloc, b'd')?) == Variable::Global);
-    let mut copy = inside.copy()?;
-    copy.declare_one(&names[0])?;
-    assert!(rt; copy.variable(&name(alloc, b'a')?) == Variable::Local(2));
-    Ok(())
+/// A block that returns the values of these names.
+fn returning(alloc: Global, letters: &[u8]) -> Result<tree::Block, AllocError> {
+    let mut values = Items::new(alloc);
+    for letter in letters {
+        values.push(tree::Exp::Prefix(tree::Prefix {
+            head: tree::Head::Name(name(alloc, *letter)?),
+            suffixes: Items::new(alloc),
+        }))?;
+    }
+    Ok(tree::Block {
+        stats: Items::new(alloc),
+        last: Some(tree::Return { line: 1, values }),
+    })
+}
+
+/// The trees here have no functions.
+fn no_bodies(
+    _alloc: Global,
+    _functions: &mut Items<Function>,
+    _scope: &Scope<'_>,
+    _body: &FunctionBody,
+) -> Result<u64, Fail<SyntaxFault>> {
+    Err(Fail::NoMemory)
 }
