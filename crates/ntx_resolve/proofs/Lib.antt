@@ -4,6 +4,9 @@ pub mod Allowing
 pub mod Lists
 pub mod Excess
 pub mod StatExcess
-pub mod Arms
 pub mod KindExcess
+pub mod Arms
+pub mod Leaving
+pub mod Extending
 pub mod Stats
+pub mod Functions

@@ -1,151 +1,164 @@
-//! Conditions and loops.
+//! Loops.
 
-ghost use Rattle.std.specs.Prelude.{◌≡◌, ◌<◌, ◌≤◌, ◌+◌, ◌∷◌, [], length, None, Some};
+ghost use Rattle.std.specs.Prelude.{◌≡◌, ◌<◌, ◌+◌, ◌∷◌, [], length, None, Some};
 ghost use denote.Param.Weighed.{most};
 ghost use Rattle.ntx_syntax.specs.declared.tree.Block.{size-Block};
 ghost use Rattle.ntx_syntax.specs.declared.tree.Exp.{size-Exp};
-ghost use Rattle.ntx_syntax.specs.declared.tree.IfArm.{size-IfArm};
 ghost use Rattle.ntx_syntax.specs.declared.tree.StatKind.TheVariants as stat;
 ghost use Rattle.ntx_resolve.specs.HasCode as code;
-ghost use Rattle.ntx_resolve.specs.Limit as limit;
+ghost use Rattle.ntx_resolve.specs.Limit as bounds;
 ghost use Rattle.ntx_resolve.specs.Scopes as scopes;
-ghost use Rattle.ntx_resolve.specs.inner.Bodies.{Bodies};
+ghost use Rattle.ntx_resolve.specs.inner.Blocks.{Blocks};
 ghost use Rattle.ntx_resolve.specs.inner.Closed.{IsClosed};
 ghost use Rattle.ntx_resolve.specs.inner.Resolves.{Resolves};
 
-use crate::code::{Function, IfArm, StatKind};
+use crate::code::{Block, StatKind};
 use crate::names::{copied_local, copied_locals};
 use crate::resolver::Resolver;
-use crate::scope::Scope;
+use crate::state::State;
 use ntx_num::Fail;
 use ntx_syntax as tree;
-use ntx_syntax::{FunctionBody, LocalName, SyntaxFault};
-use sqlite_items::{Boxed, Items};
+use ntx_syntax::{LocalName, SyntaxFault};
+use sqlite_items::Boxed;
 use std::alloc::Global;
+use std::slice;
 
-impl<
-    'a,
-    F: Fn(Global, &mut Items<Function>, &Scope<'_>, &FunctionBody) -> Result<u64, Fail<SyntaxFault>>,
-> Resolver<'a, F> {
-    /// The arms of an `if`.
-    #[cycle(blocks)]
-    pub fn arms(
+impl<'a, B: Fn(Global, &mut State, &tree::Block) -> Result<Block, Fail<SyntaxFault>>>
+    Resolver<'a, B>
+{
+    /// `while exp do block end`
+    pub fn while_loop(
         &self,
-        functions: &mut Items<Function>,
-        scope: &Scope<'a>,
-        arms: &'a [tree::IfArm],
-    ) -> Result<Items<IfArm>, Fail<SyntaxFault>>
-        requires bodies { Bodies (size-Block self.now.within.now) (F.pre self.now.body) (F.post self.now.body) }
-        requires small { most size-IfArm arms.now < size-Block self.now.within.now }
-        ensures { Resolves (limit.excess_of_arms arms.now (scopes.locals scope.now)) (λ all c. code.IsArms all scope.now arms.now c) functions.old result functions.new }
+        state: &mut State,
+        condition: &tree::Exp,
+        block: &tree::Block,
+    ) -> Result<StatKind, Fail<SyntaxFault>>
+        requires blocks { Blocks (size-Block self.now.within.now) (B.pre self.now.block) (B.post self.now.block) }
+        requires small_condition { size-Exp condition.now < size-Block self.now.within.now }
+        requires small { size-Block block.now < size-Block self.now.within.now }
+        ensures { Resolves (bounds.or_else (bounds.excess_of_exp condition.now) (bounds.excess_of_block block.now (scopes.locals state.old.scope))) (λ s all c. code.IsKind all s (stat.While condition.now block.now) c s) state.old result state.new }
     {
-        let mut codes = Items::new(self.alloc);
-        for arm in arms {
-            let condition = self.exp(functions, scope, &arm.condition)?;
-            let mut inner = scope.copy()?;
-            let block = self.block_in(functions, &mut inner, &arm.block)?;
-            codes.push(IfArm { condition, block })?;
-        }
-        Ok(codes)
+        let condition = self.boxed_exp(state, condition)?;
+        let block = self.boxed_block(state, block)?;
+        Ok(StatKind::While(condition, block))
     }
 
-    /// `repeat block until exp`. The condition is in the scope of the names of the block.
-    #[cycle(blocks)]
+    /// `repeat block until exp`. The names of the block are in scope in the condition.
     pub fn repeat_loop(
         &self,
-        functions: &mut Items<Function>,
-        scope: &Scope<'a>,
-        block: &'a tree::Block,
+        state: &mut State,
+        block: &tree::Block,
         condition: &tree::Exp,
     ) -> Result<StatKind, Fail<SyntaxFault>>
-        requires bodies { Bodies (size-Block self.now.within.now) (F.pre self.now.body) (F.post self.now.body) }
+        requires blocks { Blocks (size-Block self.now.within.now) (B.pre self.now.block) (B.post self.now.block) }
         requires small { size-Block block.now < size-Block self.now.within.now }
         requires small_condition { size-Exp condition.now < size-Block self.now.within.now }
-        ensures { Resolves (limit.or_else (limit.excess_of_block block.now (scopes.locals scope.now)) (limit.excess_of_exp condition.now)) (λ all c. code.IsKind all scope.now (stat.Repeat block.now condition.now) c scope.now) functions.old result functions.new }
+        ensures { Resolves (bounds.or_else (bounds.excess_of_block block.now (scopes.locals state.old.scope)) (bounds.excess_of_exp condition.now)) (λ s all c. code.IsKind all s (stat.Repeat block.now condition.now) c s) state.old result state.new }
     {
-        let mut inner = scope.copy()?;
-        let block = self.block_in(functions, &mut inner, block)?;
-        let condition = self.boxed_exp(functions, &inner, condition)?;
-        Ok(StatKind::Repeat(Boxed::new(self.alloc, block)?, condition))
+        let mark = state.scope.mark();
+        let code = self.block(state, block)?;
+        let condition = self.boxed_exp(state, condition)?;
+        state.scope.leave(mark);
+        Ok(StatKind::Repeat(Boxed::new(self.alloc, code)?, condition))
+    }
+
+    /// The block of a loop that declares these names. Their scope ends with it.
+    fn loop_block(
+        &self,
+        state: &mut State,
+        names: &[LocalName],
+        block: &tree::Block,
+    ) -> Result<Boxed<Block>, Fail<SyntaxFault>>
+        requires blocks { Blocks (size-Block self.now.within.now) (B.pre self.now.block) (B.post self.now.block) }
+        requires small { size-Block block.now < size-Block self.now.within.now }
+        ensures { Resolves (bounds.excess_of_block block.now ((scopes.locals state.old.scope) + length names.now)) (λ s all c. IsClosed all (scopes.declare s names.now) block.now c) state.old result state.new }
+    {
+        let mark = state.scope.mark();
+        state.scope.declare(self.alloc, names)?;
+        let code = self.block(state, block)?;
+        state.scope.leave(mark);
+        Ok(Boxed::new(self.alloc, code)?)
+    }
+
+    /// The block of a loop that declares this name.
+    fn counted_block(
+        &self,
+        state: &mut State,
+        name: &LocalName,
+        block: &tree::Block,
+    ) -> Result<Boxed<Block>, Fail<SyntaxFault>>
+        requires blocks { Blocks (size-Block self.now.within.now) (B.pre self.now.block) (B.post self.now.block) }
+        requires small { size-Block block.now < size-Block self.now.within.now }
+        ensures { Resolves (bounds.excess_of_block block.now ((scopes.locals state.old.scope) + 1)) (λ s all c. IsClosed all (scopes.declare s (name.now ∷ [])) block.now c) state.old result state.new }
+    {
+        self.loop_block(state, slice::from_ref(name), block)
     }
 
     /// `for Name = exp , exp do block end`
-    #[cycle(blocks)]
     pub fn numeric_for(
         &self,
-        functions: &mut Items<Function>,
-        scope: &Scope<'a>,
-        name: &'a LocalName,
+        state: &mut State,
+        name: &LocalName,
         from: &tree::Exp,
         limit: &tree::Exp,
-        block: &'a tree::Block,
+        block: &tree::Block,
     ) -> Result<StatKind, Fail<SyntaxFault>>
-        requires bodies { Bodies (size-Block self.now.within.now) (F.pre self.now.body) (F.post self.now.body) }
+        requires blocks { Blocks (size-Block self.now.within.now) (B.pre self.now.block) (B.post self.now.block) }
         requires small_from { size-Exp from.now < size-Block self.now.within.now }
         requires small_limit { size-Exp limit.now < size-Block self.now.within.now }
         requires small { size-Block block.now < size-Block self.now.within.now }
-        ensures { Resolves (limit.or_else (limit.excess_of_names (scopes.locals scope.now) (name.now ∷ [])) (limit.or_else (limit.excess_of_exp from.now) (limit.or_else (limit.excess_of_exp limit.now) (limit.excess_of_block block.now ((scopes.locals scope.now) + 1))))) (λ all c. code.IsKind all scope.now (stat.NumericFor name.now from.now limit.now None block.now) c scope.now) functions.old result functions.new }
+        ensures { Resolves (bounds.or_else (bounds.excess_of_names (scopes.locals state.old.scope) (name.now ∷ [])) (bounds.or_else (bounds.excess_of_exp from.now) (bounds.or_else (bounds.excess_of_exp limit.now) (bounds.excess_of_block block.now ((scopes.locals state.old.scope) + 1))))) (λ s all c. code.IsKind all s (stat.NumericFor name.now from.now limit.now None block.now) c s) state.old result state.new }
     {
-        scope.has_room_for_one(name)?;
-        let from = self.boxed_exp(functions, scope, from)?;
-        let limit = self.boxed_exp(functions, scope, limit)?;
-        let mut inner = scope.copy()?;
-        inner.declare_one(name)?;
-        let block = self.boxed_block(functions, &inner, block)?;
+        state.scope.has_room_for_one(name)?;
+        let from = self.boxed_exp(state, from)?;
+        let limit = self.boxed_exp(state, limit)?;
+        let block = self.counted_block(state, name, block)?;
         let name = Boxed::new(self.alloc, copied_local(self.alloc, name)?)?;
         Ok(StatKind::NumericFor(name, from, limit, None, block))
     }
 
     /// `for Name = exp , exp , exp do block end`
-    #[cycle(blocks)]
     pub fn stepped_for(
         &self,
-        functions: &mut Items<Function>,
-        scope: &Scope<'a>,
-        name: &'a LocalName,
+        state: &mut State,
+        name: &LocalName,
         from: &tree::Exp,
         limit: &tree::Exp,
         step: &tree::Exp,
-        block: &'a tree::Block,
+        block: &tree::Block,
     ) -> Result<StatKind, Fail<SyntaxFault>>
-        requires bodies { Bodies (size-Block self.now.within.now) (F.pre self.now.body) (F.post self.now.body) }
+        requires blocks { Blocks (size-Block self.now.within.now) (B.pre self.now.block) (B.post self.now.block) }
         requires small_from { size-Exp from.now < size-Block self.now.within.now }
         requires small_limit { size-Exp limit.now < size-Block self.now.within.now }
         requires small_step { size-Exp step.now < size-Block self.now.within.now }
         requires small { size-Block block.now < size-Block self.now.within.now }
-        ensures { Resolves (limit.or_else (limit.excess_of_names (scopes.locals scope.now) (name.now ∷ [])) (limit.or_else (limit.excess_of_exp from.now) (limit.or_else (limit.excess_of_exp limit.now) (limit.or_else (limit.excess_of_exp step.now) (limit.excess_of_block block.now ((scopes.locals scope.now) + 1)))))) (λ all c. code.IsKind all scope.now (stat.NumericFor name.now from.now limit.now (Some step.now) block.now) c scope.now) functions.old result functions.new }
+        ensures { Resolves (bounds.or_else (bounds.excess_of_names (scopes.locals state.old.scope) (name.now ∷ [])) (bounds.or_else (bounds.excess_of_exp from.now) (bounds.or_else (bounds.excess_of_exp limit.now) (bounds.or_else (bounds.excess_of_exp step.now) (bounds.excess_of_block block.now ((scopes.locals state.old.scope) + 1)))))) (λ s all c. code.IsKind all s (stat.NumericFor name.now from.now limit.now (Some step.now) block.now) c s) state.old result state.new }
     {
-        scope.has_room_for_one(name)?;
-        let from = self.boxed_exp(functions, scope, from)?;
-        let limit = self.boxed_exp(functions, scope, limit)?;
-        let step = self.boxed_exp(functions, scope, step)?;
-        let mut inner = scope.copy()?;
-        inner.declare_one(name)?;
-        let block = self.boxed_block(functions, &inner, block)?;
+        state.scope.has_room_for_one(name)?;
+        let from = self.boxed_exp(state, from)?;
+        let limit = self.boxed_exp(state, limit)?;
+        let step = self.boxed_exp(state, step)?;
+        let block = self.counted_block(state, name, block)?;
         let name = Boxed::new(self.alloc, copied_local(self.alloc, name)?)?;
         Ok(StatKind::NumericFor(name, from, limit, Some(step), block))
     }
 
     /// `for namelist in explist do block end`
-    #[cycle(blocks)]
     pub fn generic_for(
         &self,
-        functions: &mut Items<Function>,
-        scope: &Scope<'a>,
-        names: &'a [LocalName],
+        state: &mut State,
+        names: &[LocalName],
         values: &[tree::Exp],
-        block: &'a tree::Block,
+        block: &tree::Block,
     ) -> Result<StatKind, Fail<SyntaxFault>>
-        requires bodies { Bodies (size-Block self.now.within.now) (F.pre self.now.body) (F.post self.now.body) }
-        requires small { size-Block block.now < size-Block self.now.within.now }
+        requires blocks { Blocks (size-Block self.now.within.now) (B.pre self.now.block) (B.post self.now.block) }
         requires small_values { most size-Exp values.now < size-Block self.now.within.now }
-        ensures { Resolves (limit.or_else (limit.excess_of_names (scopes.locals scope.now) names.now) (limit.or_else (limit.excess_of_exps values.now) (limit.excess_of_block block.now ((scopes.locals scope.now) + length names.now)))) (λ all c. code.IsKind all scope.now (stat.GenericFor names.now values.now block.now) c scope.now) functions.old result functions.new }
+        requires small { size-Block block.now < size-Block self.now.within.now }
+        ensures { Resolves (bounds.or_else (bounds.excess_of_names (scopes.locals state.old.scope) names.now) (bounds.or_else (bounds.excess_of_exps values.now) (bounds.excess_of_block block.now ((scopes.locals state.old.scope) + length names.now)))) (λ s all c. code.IsKind all s (stat.GenericFor names.now values.now block.now) c s) state.old result state.new }
     {
-        scope.has_room_for(names)?;
-        let values = self.exps(functions, scope, values)?;
-        let mut inner = scope.copy()?;
-        inner.declare(names)?;
-        let block = self.boxed_block(functions, &inner, block)?;
+        state.scope.has_room_for(names)?;
+        let values = self.exps(state, values)?;
+        let block = self.loop_block(state, names, block)?;
         Ok(StatKind::GenericFor(copied_locals(self.alloc, names)?, values, block))
     }
 }

@@ -4,39 +4,33 @@ ghost use Rattle.std.specs.Prelude.{◌≡◌};
 ghost use Rattle.ntx_resolve.specs.HasCode as code;
 ghost use Rattle.ntx_resolve.specs.Limit as limit;
 ghost use Rattle.ntx_resolve.specs.Resolved.{Resolved};
-ghost use Rattle.ntx_resolve.specs.inner.Resolves.{Resolves};
+ghost use Rattle.ntx_resolve.specs.Scopes as scopes;
+ghost use Rattle.ntx_resolve.specs.inner.Resolves.{Leaves};
 
-use crate::code::{Code, Function};
-use crate::names::copied_locals;
+use crate::code::{Block, Code};
 use crate::resolver::Resolver;
 use crate::scope::Scope;
+use crate::state::State;
 use ntx_num::Fail;
-use ntx_syntax::{Chunk, FunctionBody, SyntaxFault};
+use ntx_syntax as tree;
+use ntx_syntax::{Chunk, SyntaxFault};
 use sqlite_items::Items;
 use std::alloc::Global;
 
-/// A function that is made in this scope.
-fn function(
+/// The code of a block. Its names stay in scope.
+fn block_of(
     alloc: Global,
-    functions: &mut Items<Function>,
-    scope: &Scope<'_>,
-    body: &FunctionBody,
-) -> Result<u64, Fail<SyntaxFault>>
-    ensures { Resolves (limit.excess_of_body body.now) (λ all k. code.IsFunction all scope.now body.now k) functions.old result functions.new }
+    state: &mut State,
+    block: &tree::Block,
+) -> Result<Block, Fail<SyntaxFault>>
+    ensures { Leaves (limit.excess_of_block block.now (scopes.locals state.old.scope)) (λ s all c t. code.IsBlock all s block.now c t) state.old result state.new }
 {
-    let mut inner = scope.inside()?;
-    inner.has_room_for(body.parameters.as_slice())?;
-    inner.declare(body.parameters.as_slice())?;
-    let resolver = Resolver {
+    Resolver {
         alloc,
-        within: &body.block,
-        body: function,
-    };
-    let block = resolver.block_in(functions, &mut inner, &body.block)?;
-    let parameters = copied_locals(alloc, body.parameters.as_slice())?;
-    let number = functions.len() as u64;
-    functions.push(Function { parameters, block })?;
-    Ok(number)
+        within: block,
+        block: block_of,
+    }
+    .resolve(state)
 }
 
 /// The code of a script (Lua 5.3 Reference Manual, section 3.5): its tree, in which each use of a name says which variable it
@@ -49,13 +43,13 @@ fn function(
 pub fn resolve(alloc: Global, chunk: &Chunk) -> Result<Code, Fail<SyntaxFault>>
     ensures { Resolved chunk.now result }
 {
-    let mut functions = Items::new(alloc);
-    let mut scope = Scope::outermost(alloc);
-    let resolver = Resolver {
-        alloc,
-        within: &chunk.block,
-        body: function,
+    let mut state = State {
+        functions: Items::new(alloc),
+        scope: Scope::outermost(alloc),
     };
-    let block = resolver.block_in(&mut functions, &mut scope, &chunk.block)?;
-    Ok(Code { functions, block })
+    let block = block_of(alloc, &mut state, &chunk.block)?;
+    Ok(Code {
+        functions: state.functions,
+        block,
+    })
 }

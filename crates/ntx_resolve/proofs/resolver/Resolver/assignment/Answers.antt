@@ -21,4 +21,4 @@ pub returns-in_err-values : goal.returns-in_err-values
 returns-in_err-values g c = ok c.in_ok-vars.ensures (last_err_by _ c.from_residual-in_err-values.ensures.1 c.in_err-values.ensures)
 
 pub returns : goal.returns
-returns g c = ok c.in_ok-vars.ensures (last c.in_ok-values.ensures (λ all more values vars. code.assign vars values))
+returns g c = ok c.in_ok-vars.ensures (last c.in_ok-values.ensures (λ s all values vars. code.assign vars values))

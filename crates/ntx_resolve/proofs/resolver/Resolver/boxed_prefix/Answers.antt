@@ -21,4 +21,4 @@ pub returns-in_err-new : goal.returns-in_err-new
 returns-in_err-new g c = no_memory_by _ c.from_residual-in_err-new.ensures.1
 
 pub returns : goal.returns
-returns g c = last c.in_ok-code.ensures (λ all more is. subst (λ z. code.IsPrefix all c.args.scope.now c.args.prefix.now z) (sym c.in_ok-new.ensures) is)
+returns g c = last c.in_ok-code.ensures (λ s all is. subst (λ z. code.IsPrefix all s c.args.prefix.now z) (sym c.in_ok-new.ensures) is)

@@ -24,4 +24,4 @@ pub returns-in_err-call : goal.returns-in_err-call
 returns-in_err-call g c = no_memory_by _ c.from_residual-in_err-call.ensures.1
 
 pub returns : goal.returns
-returns g c = said (stat-excess.call c.args.call.now ∙ ap (λ z. limit.or_else (limit.excess_of_prefix c.args.call.now.function) (limit.excess_of_exps z)) (sym c.as_slice.ensures)) (ok c.in_ok-function.ensures (last c.in_ok-arguments.ensures (λ all more arguments function. subst (λ z. code.IsKind all c.args.scope.now (stat.Call c.args.call.now) (code-stat.Call z) c.args.scope.now) (sym c.in_ok-call.ensures) (code.call function (subst (λ z. code.IsExps all c.args.scope.now z c.in_ok-arguments.arguments) c.as_slice.ensures arguments)))))
+returns g c = said (stat-excess.call c.args.call.now ∙ ap (λ z. limit.or_else (limit.excess_of_prefix c.args.call.now.function) (limit.excess_of_exps z)) (sym c.as_slice.ensures)) (ok c.in_ok-function.ensures (last c.in_ok-arguments.ensures (λ s all arguments function. subst (λ z. code.IsKind all s (stat.Call c.args.call.now) (code-stat.Call z) s) (sym c.in_ok-call.ensures) (code.call function (subst (λ z. code.IsExps all s z c.in_ok-arguments.arguments) c.as_slice.ensures arguments)))))

@@ -21,4 +21,4 @@ pub returns-in_err-suffixes : goal.returns-in_err-suffixes
 returns-in_err-suffixes g c = said (excess.prefix c.args.prefix.now ∙ ap (λ z. limit.or_else (limit.excess_of_head c.args.prefix.now.head) (limit.excess_of_suffixes z)) (sym c.as_slice.ensures)) (ok c.in_ok-head.ensures (last_err_by _ c.from_residual-in_err-suffixes.ensures.1 c.in_err-suffixes.ensures))
 
 pub returns : goal.returns
-returns g c = said (excess.prefix c.args.prefix.now ∙ ap (λ z. limit.or_else (limit.excess_of_head c.args.prefix.now.head) (limit.excess_of_suffixes z)) (sym c.as_slice.ensures)) (ok c.in_ok-head.ensures (last c.in_ok-suffixes.ensures (λ all more suffixes head. code.prefix head (subst (λ z. code.IsSuffixes all c.args.scope.now z c.in_ok-suffixes.suffixes) c.as_slice.ensures suffixes))))
+returns g c = said (excess.prefix c.args.prefix.now ∙ ap (λ z. limit.or_else (limit.excess_of_head c.args.prefix.now.head) (limit.excess_of_suffixes z)) (sym c.as_slice.ensures)) (ok c.in_ok-head.ensures (last c.in_ok-suffixes.ensures (λ s all suffixes head. code.prefix head (subst (λ z. code.IsSuffixes all s z c.in_ok-suffixes.suffixes) c.as_slice.ensures suffixes))))

@@ -15,16 +15,16 @@ use Rattle.ntx_resolve.proofs.Resolving.{said, ok, err_by, last, last_err, last_
 use Rattle.ntx_resolve.proofs.resolver.Resolver.vars.Goals as goal
 
 pub loop-var-init : goal.loop-var-init
-loop-var-init g c = begun limit.excess_of_var (λ all xs cs. code.IsVars all c.args.scope.now xs cs) c.args.vars.now _ c.new-codes.ensures
+loop-var-init g c = begun limit.excess_of_var (λ s all xs cs. code.IsVars all s xs cs) c.args.vars.now _ c.new-codes.ensures
 
 pub returns-in_err-var : goal.returns-in_err-var
-returns-in_err-var g c = failed_at limit.excess_of_var (λ all xs cs. code.IsVars all c.args.scope.now xs cs) (λ all x y. code.IsVar all c.args.scope.now x y) c.args.vars.now c.loop-var.var-index c.var-item.result c.loop-var.codes _ c.var-item.is c.loop-var-test.true c.loop-var.invariant c.from_residual.ensures.1 c.in_err-var.ensures
+returns-in_err-var g c = failed_at limit.excess_of_var (λ s all xs cs. code.IsVars all s xs cs) (λ s all x y. code.IsVar all s x y) c.args.vars.now c.loop-var.var-index c.var-item.result c.loop-var.codes _ c.var-item.is c.loop-var-test.true c.loop-var.invariant c.from_residual.ensures.1 c.in_err-var.ensures
 
 pub returns-in_err-push : goal.returns-in_err-push
 returns-in_err-push g c = no_memory_by _ c.from_residual-in_err-push.ensures.1
 
 pub loop-var-preserved : goal.loop-var-preserved
-loop-var-preserved g c = gone_on_at limit.excess_of_var (λ all xs cs. code.IsVars all c.args.scope.now xs cs) (λ all x y. code.IsVar all c.args.scope.now x y) c.args.vars.now c.loop-var.var-index c.var-item.result c.loop-var.codes c.push.new.self (λ all left x xs is are. code.next_var is are) c.var-item.is c.loop-var-test.true c.loop-var.invariant c.in_ok-var.ensures c.in_ok-push.ensures.ok
+loop-var-preserved g c = gone_on_at limit.excess_of_var (λ s all xs cs. code.IsVars all s xs cs) (λ s all x y. code.IsVar all s x y) c.args.vars.now c.loop-var.var-index c.var-item.result c.loop-var.codes c.push.new.self (λ s all left x xs is are. code.next_var is are) c.var-item.is c.loop-var-test.true c.loop-var.invariant c.in_ok-var.ensures c.in_ok-push.ensures.ok
 
 pub returns : goal.returns
-returns g c = ended_at limit.excess_of_var (λ all xs cs. code.IsVars all c.args.scope.now xs cs) c.args.vars.now c.loop-var.var-index c.loop-var.codes (λ all. code.no_vars) c.loop-var-test.false c.loop-var.invariant
+returns g c = ended_at limit.excess_of_var (λ s all xs cs. code.IsVars all s xs cs) c.args.vars.now c.loop-var.var-index c.loop-var.codes (λ s all. code.no_vars) c.loop-var-test.false c.loop-var.invariant
