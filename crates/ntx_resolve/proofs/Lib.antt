@@ -10,3 +10,5 @@ pub mod Leaving
 pub mod Extending
 pub mod Stats
 pub mod Functions
+pub mod Scripts
+pub mod IfExcess

@@ -57,9 +57,9 @@ impl<'a, B: Fn(Global, &mut State, &tree::Block) -> Result<Block, Fail<SyntaxFau
     {
         let mark = state.scope.mark();
         let code = self.block(state, block)?;
-        let condition = self.boxed_exp(state, condition)?;
+        let until = self.boxed_exp(state, condition)?;
         state.scope.leave(mark);
-        Ok(StatKind::Repeat(Boxed::new(self.alloc, code)?, condition))
+        Ok(StatKind::Repeat(Boxed::new(self.alloc, code)?, until))
     }
 
     /// The block of a loop that declares these names. Their scope ends with it.

@@ -15,7 +15,7 @@ use Rattle.ntx_resolve.proofs.Extending.{err_here, first_err_here, longer_after,
 use Rattle.ntx_resolve.proofs.resolver.Resolver.body.Goals as goal
 
 pub returns-in_err-has_room_for : goal.returns-in_err-has_room_for
-returns-in_err-has_room_for g c = said (kinds.body c.args.body.now ∙ ap (λ x. limit.or_else x (limit.excess_of_block (tree-body.out-FunctionBody c.args.body.now).block (length ((tree-body.out-FunctionBody c.args.body.now).parameters)))) (sym (room c.args.state.now.scope c.enter.new.self c.as_slice-names.result.now ((tree-body.out-FunctionBody c.args.body.now).parameters) c.enter.ensures c.as_slice-names.ensures))) (not_allowed (limit.excess_of_names (scopes.locals c.enter.new.self) c.as_slice-names.result.now) (limit.excess_of_block (tree-body.out-FunctionBody c.args.body.now).block (length ((tree-body.out-FunctionBody c.args.body.now).parameters))) c.in_err-has_room_for.field-0 _ c.from_residual.ensures.1 c.in_err-has_room_for.ensures.allows)
+returns-in_err-has_room_for g c = said (kinds.body c.args.body.now ∙ ap (λ x. limit.or_else x (limit.excess_of_block (tree-body.out-FunctionBody c.args.body.now).block (length ((tree-body.out-FunctionBody c.args.body.now).parameters)))) (sym (room c.args.state.now.scope c.enter.new.self c.as_slice-names.result.now ((tree-body.out-FunctionBody c.args.body.now).parameters) c.enter.ensures c.as_slice-names.ensures))) (not_allowed (limit.excess_of_names (scopes.locals c.enter.new.self) c.as_slice-names.result.now) (limit.excess_of_block (tree-body.out-FunctionBody c.args.body.now).block (length ((tree-body.out-FunctionBody c.args.body.now).parameters))) _ _ c.from_residual.ensures.1 c.in_err-has_room_for.ensures.allows)
 
 pub returns-in_err-declare : goal.returns-in_err-declare
 returns-in_err-declare g c = no_memory_by _ c.from_residual-in_err-declare.ensures.1

@@ -17,14 +17,14 @@ use Rattle.ntx_resolve.proofs.resolver.Resolver.repeat_loop.Goals as goal
 pub returns-in_err-code : goal.returns-in_err-code
 returns-in_err-code g c = first_err_here _ _ c.from_residual.ensures.1 c.in_err-code.ensures
 
-pub returns-in_err-condition : goal.returns-in_err-condition
-returns-in_err-condition g c = repeated_err _ c.from_residual-in_err-condition.ensures.1 c.in_ok-code.ensures c.in_err-condition.ensures
+pub returns-in_err-until : goal.returns-in_err-until
+returns-in_err-until g c = repeated_err _ c.from_residual-in_err-until.ensures.1 c.in_ok-code.ensures c.in_err-until.ensures
 
 pub leave-requires-clause-declared : goal.leave-requires-clause-declared
-leave-requires-clause-declared g c = let l = longer_after c.in_ok-code.ensures in let s = ap (λ t. length t.names) (stayed c.in_ok-condition.ensures) in omega (arith, l, s)
+leave-requires-clause-declared g c = let l = longer_after c.in_ok-code.ensures in let s = ap (λ t. length t.names) (stayed c.in_ok-until.ensures) in omega (arith, l, s)
 
 pub returns-in_err-new : goal.returns-in_err-new
 returns-in_err-new g c = no_memory_by _ c.from_residual-in_err-new.ensures.1
 
 pub returns : goal.returns
-returns g c = repeated _ c.in_ok-code.ensures c.in_ok-condition.ensures refl _ _ c.mark-mark.ensures.names c.mark-mark.ensures.from c.leave.ensures (λ s t all block condition. subst (λ z. code.IsKind all s (stat.Repeat c.args.block.now c.args.condition.now) (code-stat.Repeat z c.in_ok-condition.condition) s) (sym c.in_ok-new.ensures) (code.repeat block condition))
+returns g c = repeated _ c.in_ok-code.ensures c.in_ok-until.ensures refl _ _ c.mark-mark.ensures.names c.mark-mark.ensures.from c.leave.ensures (λ s t all block condition. subst (λ z. code.IsKind all s (stat.Repeat c.args.block.now c.args.condition.now) (code-stat.Repeat z c.in_ok-until.until) s) (sym c.in_ok-new.ensures) (code.repeat block condition))
