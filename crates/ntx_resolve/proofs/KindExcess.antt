@@ -6,14 +6,15 @@ use Rattle.ntx_syntax.specs.declared.tree.LocalName.{LocalName}
 use Rattle.ntx_syntax.specs.declared.tree.Exp.{Exp}
 use Rattle.ntx_syntax.specs.declared.tree.Var.{Var}
 use Rattle.ntx_syntax.specs.declared.tree.Call.{Call}
-use Rattle.ntx_syntax.specs.declared.tree.Block.{Block, out-Block}
+use Rattle.ntx_syntax.specs.declared.tree.Block.{Block, out-Block, roll-Block}
+use Rattle.ntx_syntax.specs.declared.tree.Exp.TheViews.{roll-out-Block}
 use Rattle.ntx_syntax.specs.declared.tree.IfArm.{IfArm, out-IfArm}
 use Rattle.ntx_syntax.specs.declared.tree.Stat.{Stat}
 use Rattle.ntx_syntax.specs.declared.tree.Return.{Return}
 use Rattle.ntx_syntax.specs.declared.tree.StatKind.{StatKind}
 use Rattle.ntx_syntax.specs.declared.tree.StatKind.TheVariants as stat
 use Rattle.ntx_syntax.specs.declared.tree.Exp.TheOpen.{StatKind-F}
-use Rattle.ntx_syntax.specs.declared.tree.Exp.TheFolds.{fold-roll-StatKind, fold_out-Block, fold_out-Stat, fold_out-Return, fold_out-IfArm, fold_out-FunctionBody}
+use Rattle.ntx_syntax.specs.declared.tree.Exp.TheFolds.{fold-roll-StatKind, fold-roll-Block, fold_out-Stat, fold_out-Return, fold_out-IfArm, fold_out-FunctionBody}
 use Rattle.ntx_resolve.specs.Limit.{Inner, Outer, Declaring, or_else, first, first_of, in_else, exp_layer, field_layer, head_layer, kind_layer, suffix_layer, var_layer, block_layer, call_layer, body_layer, arm_layer, operation_layer, prefix_layer, return_layer, stat_layer, excess_of_exp, excess_of_exps, excess_of_vars, excess_of_call, excess_of_body, excess_of_block, excess_of_arm, excess_of_return, excess_of_names, excess_of_stats, excess_of_last, of_kind, of_stat}
 
 pub empty : of_kind (stat.Empty) ≡ record { excess = λ n. None; declares = 0 }
@@ -44,13 +45,21 @@ pub repeat : (b : Block) (e : Exp) → of_kind (stat.Repeat b e) ≡ record { ex
 repeat b e = ap of_kind (sym (stat.rolls-Repeat b e)) ∙ fold-roll-StatKind Inner Inner Inner Declaring Inner Inner Outer Inner Inner Outer Inner Inner Inner Declaring
     exp_layer field_layer head_layer kind_layer suffix_layer var_layer block_layer call_layer body_layer arm_layer operation_layer prefix_layer return_layer stat_layer (StatKind-F.Repeat b e)
 
-pub if_stat : (arms : List IfArm) (other : Option Block) → of_kind (stat.If arms other) ≡ record { excess = λ n. or_else (first (map (λ a. a n) (map excess_of_arm arms))) (in_else (option_map excess_of_block other) n); declares = 0 }
-if_stat arms other = ap of_kind (sym (stat.rolls-If arms other)) ∙ fold-roll-StatKind Inner Inner Inner Declaring Inner Inner Outer Inner Inner Outer Inner Inner Inner Declaring
-    exp_layer field_layer head_layer kind_layer suffix_layer var_layer block_layer call_layer body_layer arm_layer operation_layer prefix_layer return_layer stat_layer (StatKind-F.If arms other)
+pub if_none : (arms : List IfArm) → of_kind (stat.If arms None) ≡ record { excess = λ n. or_else (first (map (λ a. a n) (map excess_of_arm arms))) None; declares = 0 }
+if_none arms = ap of_kind (sym (stat.rolls-If arms None)) ∙ fold-roll-StatKind Inner Inner Inner Declaring Inner Inner Outer Inner Inner Outer Inner Inner Inner Declaring
+    exp_layer field_layer head_layer kind_layer suffix_layer var_layer block_layer call_layer body_layer arm_layer operation_layer prefix_layer return_layer stat_layer (StatKind-F.If arms None)
 
-pub numeric_for : (name : LocalName) (from : Exp) (limit : Exp) (step : Option Exp) (b : Block) → of_kind (stat.NumericFor name from limit step b) ≡ record { excess = λ n. or_else (excess_of_names n (name ∷ [])) (or_else (excess_of_exp from) (or_else (excess_of_exp limit) (or_else (first_of (option_map excess_of_exp step)) (excess_of_block b (n + 1))))); declares = 0 }
-numeric_for name from limit step b = ap of_kind (sym (stat.rolls-NumericFor name from limit step b)) ∙ fold-roll-StatKind Inner Inner Inner Declaring Inner Inner Outer Inner Inner Outer Inner Inner Inner Declaring
-    exp_layer field_layer head_layer kind_layer suffix_layer var_layer block_layer call_layer body_layer arm_layer operation_layer prefix_layer return_layer stat_layer (StatKind-F.NumericFor name from limit step b)
+pub if_some : (arms : List IfArm) (b : Block) → of_kind (stat.If arms (Some b)) ≡ record { excess = λ n. or_else (first (map (λ a. a n) (map excess_of_arm arms))) (excess_of_block b n); declares = 0 }
+if_some arms b = ap of_kind (sym (stat.rolls-If arms (Some b))) ∙ fold-roll-StatKind Inner Inner Inner Declaring Inner Inner Outer Inner Inner Outer Inner Inner Inner Declaring
+    exp_layer field_layer head_layer kind_layer suffix_layer var_layer block_layer call_layer body_layer arm_layer operation_layer prefix_layer return_layer stat_layer (StatKind-F.If arms (Some b))
+
+pub counted_for : (name : LocalName) (from : Exp) (limit : Exp) (b : Block) → of_kind (stat.NumericFor name from limit None b) ≡ record { excess = λ n. or_else (excess_of_names n (name ∷ [])) (or_else (excess_of_exp from) (or_else (excess_of_exp limit) (excess_of_block b (n + 1)))); declares = 0 }
+counted_for name from limit b = ap of_kind (sym (stat.rolls-NumericFor name from limit None b)) ∙ fold-roll-StatKind Inner Inner Inner Declaring Inner Inner Outer Inner Inner Outer Inner Inner Inner Declaring
+    exp_layer field_layer head_layer kind_layer suffix_layer var_layer block_layer call_layer body_layer arm_layer operation_layer prefix_layer return_layer stat_layer (StatKind-F.NumericFor name from limit None b)
+
+pub stepped_for : (name : LocalName) (from : Exp) (limit : Exp) (step : Exp) (b : Block) → of_kind (stat.NumericFor name from limit (Some step) b) ≡ record { excess = λ n. or_else (excess_of_names n (name ∷ [])) (or_else (excess_of_exp from) (or_else (excess_of_exp limit) (or_else (excess_of_exp step) (excess_of_block b (n + 1))))); declares = 0 }
+stepped_for name from limit step b = ap of_kind (sym (stat.rolls-NumericFor name from limit (Some step) b)) ∙ fold-roll-StatKind Inner Inner Inner Declaring Inner Inner Outer Inner Inner Outer Inner Inner Inner Declaring
+    exp_layer field_layer head_layer kind_layer suffix_layer var_layer block_layer call_layer body_layer arm_layer operation_layer prefix_layer return_layer stat_layer (StatKind-F.NumericFor name from limit (Some step) b)
 
 pub generic_for : (names : List LocalName) (values : List Exp) (b : Block) → of_kind (stat.GenericFor names values b) ≡ record { excess = λ n. or_else (excess_of_names n names) (or_else (excess_of_exps values) (excess_of_block b (n + length names))); declares = 0 }
 generic_for names values b = ap of_kind (sym (stat.rolls-GenericFor names values b)) ∙ fold-roll-StatKind Inner Inner Inner Declaring Inner Inner Outer Inner Inner Outer Inner Inner Inner Declaring
@@ -68,8 +77,8 @@ pub local : (names : List LocalName) (values : List Exp) → of_kind (stat.Local
 local names values = ap of_kind (sym (stat.rolls-Local names values)) ∙ fold-roll-StatKind Inner Inner Inner Declaring Inner Inner Outer Inner Inner Outer Inner Inner Inner Declaring
     exp_layer field_layer head_layer kind_layer suffix_layer var_layer block_layer call_layer body_layer arm_layer operation_layer prefix_layer return_layer stat_layer (StatKind-F.Local names values)
 
-pub stat : (t : Stat) → of_stat t ≡ of_kind t.kind
-stat t = fold_out-Stat Inner Inner Inner Declaring Inner Inner Outer Inner Inner Outer Inner Inner Inner Declaring
+pub statement : (t : Stat) → of_stat t ≡ of_kind t.kind
+statement t = fold_out-Stat Inner Inner Inner Declaring Inner Inner Outer Inner Inner Outer Inner Inner Inner Declaring
     exp_layer field_layer head_layer kind_layer suffix_layer var_layer block_layer call_layer body_layer arm_layer operation_layer prefix_layer return_layer stat_layer t
 
 pub return_values : (r : Return) → excess_of_return r ≡ excess_of_exps r.values
@@ -84,13 +93,14 @@ pub body : (b : FunctionBody) → excess_of_body b ≡ or_else (excess_of_names 
 body b = fold_out-FunctionBody Inner Inner Inner Declaring Inner Inner Outer Inner Inner Outer Inner Inner Inner Declaring
     exp_layer field_layer head_layer kind_layer suffix_layer var_layer block_layer call_layer body_layer arm_layer operation_layer prefix_layer return_layer stat_layer b
 
-pub last_same : (o : Option Return) → first_of (option_map excess_of_return o) ≡ excess_of_last o
-last_same None = refl
-last_same (Some r) = refl
+rolled_block : (ss : List Stat) (last : Option Return) (n : ℕ) → excess_of_block (roll-Block (record { stats = ss; last = last })) n ≡ or_else (excess_of_stats n ss) (excess_of_last last)
+rolled_block ss None n = ap (λ f. f n) (fold-roll-Block Inner Inner Inner Declaring Inner Inner Outer Inner Inner Outer Inner Inner Inner Declaring
+    exp_layer field_layer head_layer kind_layer suffix_layer var_layer block_layer call_layer body_layer arm_layer operation_layer prefix_layer return_layer stat_layer (record { stats = ss; last = None }))
+rolled_block ss (Some r) n = ap (λ f. f n) (fold-roll-Block Inner Inner Inner Declaring Inner Inner Outer Inner Inner Outer Inner Inner Inner Declaring
+    exp_layer field_layer head_layer kind_layer suffix_layer var_layer block_layer call_layer body_layer arm_layer operation_layer prefix_layer return_layer stat_layer (record { stats = ss; last = Some r }))
 
 pub block : (b : Block) (n : ℕ) → excess_of_block b n ≡ or_else (excess_of_stats n (out-Block b).stats) (excess_of_last (out-Block b).last)
-block b n = ap (λ f. f n) (fold_out-Block Inner Inner Inner Declaring Inner Inner Outer Inner Inner Outer Inner Inner Inner Declaring
-    exp_layer field_layer head_layer kind_layer suffix_layer var_layer block_layer call_layer body_layer arm_layer operation_layer prefix_layer return_layer stat_layer b) ∙ ap (or_else (excess_of_stats n (out-Block b).stats)) (last_same (out-Block b).last)
+block b n = ap (λ z. excess_of_block z n) (sym (roll-out-Block b)) ∙ rolled_block (out-Block b).stats (out-Block b).last n
 
 pub or_none : (o : Option ℕ) → or_else o None ≡ o
 or_none None = refl

@@ -72,9 +72,9 @@ declared_first {is = is} {are = are} {a = a} {b = b} {old = old} {new = new} nam
     (λ all more. subst (λ t. are old.scope all b t) (sym (stay ∙ scope)) (make all (subst (λ s. is s all a) scope (holds all more))))
 
 -- How many local variables are in scope after names are declared.
-pub counted : {k : tree-kind.StatKind} {d : Declaring} (s : Scope) (names : List LocalName) → s.from ≤ length s.names → of_kind k ≡ d → d.declares ≡ length names
+pub counted : (k : tree-kind.StatKind) {d : Declaring} (s : Scope) (names : List LocalName) → s.from ≤ length s.names → of_kind k ≡ d → d.declares ≡ length names
     → locals (declare s names) ≡ locals s + (of_kind k).declares
-counted s names within is more =
+counted k s names within is more =
     let e = ap (λ d. d.declares) is ∙ more in
     let l = length-append s.names (map (λ n. n.name) names) in
     let m = length-map names (λ n. n.name) in

@@ -12,3 +12,4 @@ pub mod Stats
 pub mod Functions
 pub mod Scripts
 pub mod IfExcess
+pub mod Rolls

@@ -85,7 +85,8 @@ widen more out_of_memory = out_of_memory
 pub ok_in : {A B : Type 0} {l : Option ℕ} (m : Scope → Option ℕ) {is : Scope → List Function → A → Type 0} {are : Scope → List Function → B → Type 0} {a : A} {old middle new : State}
     {r : Result B (Fail SyntaxFault)} → Resolves l is old (Ok a) middle → Resolves (m middle.scope) (λ s all b. is s all a → are s all b) middle r new
     → Resolves (or_else l (m old.scope)) are old r new
-ok_in m (went none grows stay holds) h = ok (went none grows stay holds) (said (ap m (sym stay)) h)
+ok_in {A = A} m {is = is} {are = are} {a = a} {old = old} {middle = middle} (went none grows stay holds) h =
+    ok {A = A} {is = is} {are = are} {a = a} {old = old} {middle = middle} (went none grows stay holds) (said (ap m (sym stay)) h)
 
 pub stayed : {A : Type 0} {l : Option ℕ} {is : Scope → List Function → A → Type 0} {a : A} {old new : State} → Resolves l is old (Ok a) new → new.scope ≡ old.scope
 stayed (went none grows stay holds) = stay

@@ -21,8 +21,8 @@ use Rattle.ntx_resolve.proofs.Lists.{After}
 
 -- What the statements that are left are resolved to, after these codes, is what all of them are resolved to.
 abbrev pub RestStats : List tree-stat.Stat → List tree-stat.Stat → List Stat → State → State → Type 0
-RestStats xs left codes now old = (r : Result (List Stat) (Fail SyntaxFault)) (new : State)
-    → Leaves (excess_of_stats (locals now.scope) left) (λ s all cs t. After codes (λ more. IsStats all s left more t) cs) now r new
+RestStats xs ts codes now old = (r : Result (List Stat) (Fail SyntaxFault)) (new : State)
+    → Leaves (excess_of_stats (locals now.scope) ts) (λ s all cs t. After codes (λ more. IsStats all s ts more t) cs) now r new
     → Leaves (excess_of_stats (locals old.scope) xs) (λ s all cs t. IsStats all s xs cs t) old r new
 
 after_none : {xs : List tree-stat.Stat} (codes : List Stat) (s : Scope) (all : List Function) (cs : List Stat) (t : Scope) → codes ≡ []
@@ -35,7 +35,7 @@ begun xs codes none r new h = widen_there (λ s all cs t. after_none codes s all
 at_place : (xs : List tree-stat.Stat) (n : ℕ) (x : tree-stat.Stat) (codes : List Stat) {now old : State} → x ≡ get_or xs n x → n < length xs
     → RestStats xs (drop n xs) codes now old → RestStats xs (x ∷ drop (n + 1) xs) codes now old
 at_place xs n x codes {now} {old} is within rest =
-    subst (λ left. RestStats xs left codes now old) (drop_more xs n x within ∙ ap (λ z. z ∷ drop (n + 1) xs) (sym is)) rest
+    subst (λ ts. RestStats xs ts codes now old) (drop_more xs n x within ∙ ap (λ z. z ∷ drop (n + 1) xs) (sym is)) rest
 
 pub failed_at : (xs : List tree-stat.Stat) (n : ℕ) (x : tree-stat.Stat) (codes : List Stat) {now old new newer : State} {e : Fail SyntaxFault}
     (r : Result (List Stat) (Fail SyntaxFault)) → x ≡ get_or xs n x → n < length xs → RestStats xs (drop n xs) codes now old → IsErrAnd r (λ y. y ≡ e)
@@ -44,9 +44,9 @@ pub failed_at : (xs : List tree-stat.Stat) (n : ℕ) (x : tree-stat.Stat) (codes
 failed_at xs n x codes {now = now} r is within rest by h =
     at_place xs n x codes is within rest r _ (err_by_there (excess_of_stats (locals now.scope + (of_stat x).declares) (drop (n + 1) xs)) r by h)
 
-after_next : {left : List tree-stat.Stat} {x : tree-stat.Stat} {c : Stat} {s between end : Scope} (codes codes2 : List Stat) → codes2 ≡ codes ++ c ∷ []
-    → (all : List Function) (cs : List Stat) → IsStat all s x c between → After codes2 (λ more. IsStats all between left more end) cs
-    → After codes (λ more. IsStats all s (x ∷ left) more end) cs
+after_next : {ts : List tree-stat.Stat} {x : tree-stat.Stat} {c : Stat} {s between end : Scope} (codes codes2 : List Stat) → codes2 ≡ codes ++ c ∷ []
+    → (all : List Function) (cs : List Stat) → IsStat all s x c between → After codes2 (λ more. IsStats all between ts more end) cs
+    → After codes (λ more. IsStats all s (x ∷ ts) more end) cs
 after_next {c = c} codes codes2 longer all cs (line, count, is) (more, same, are) =
     (c ∷ more, same ∙ ap (λ z. z ++ more) longer ∙ append_assoc codes (c ∷ []) more, next_stat line is are)
 
@@ -72,7 +72,7 @@ gone_on_at xs n x c codes codes2 is inside rest part longer r new h =
 pub ended_at : (xs : List tree-stat.Stat) (n : ℕ) (codes : List Stat) {now old : State} → length xs ≤ n → RestStats xs (drop n xs) codes now old
     → Leaves (excess_of_stats (locals old.scope) xs) (λ s all cs t. IsStats all s xs cs t) old (Ok codes) now
 ended_at xs n codes {now} {old} past rest =
-    subst (λ left. RestStats xs left codes now old) (drop_all n xs past) rest _ _
+    subst (λ ts. RestStats xs ts codes now old) (drop_all n xs past) rest _ _
     (left refl (stays now.functions) (λ all more. ([], sym (append-nil codes), no_stats)))
 
 -- ---- what a statement is
@@ -81,15 +81,15 @@ pub in_kind : {e e2 : tree-kind.StatKind} {old new : State} {r : Result StatKind
     → Leaves ((of_kind e2).excess (locals old.scope)) (λ s all c t. IsCounted all s e2 c t) old r new → Leaves ((of_kind e).excess (locals old.scope)) (λ s all c t. IsCounted all s e c t) old r new
 in_kind {old = old} {new = new} {r = r} is h = subst (λ e. Leaves ((of_kind e).excess (locals old.scope)) (λ s all c t. IsCounted all s e c t) old r new) (sym is) h
 
-counts_none : {k : tree-kind.StatKind} {d : Declaring} (s : Scope) → of_kind k ≡ d → d.declares ≡ 0 → locals s ≡ locals s + (of_kind k).declares
-counts_none s is none = let e = ap (λ d. d.declares) is ∙ none in omega (arith, e)
+counts_none : (k : tree-kind.StatKind) {d : Declaring} (s : Scope) → of_kind k ≡ d → d.declares ≡ 0 → locals s ≡ locals s + (of_kind k).declares
+counts_none k s is none = let e = ap (λ d. d.declares) is ∙ none in omega (arith, e)
 
 -- A statement that declares no name.
 pub plain : (k : tree-kind.StatKind) {d : Declaring} {old new : State} {r : Result StatKind (Fail SyntaxFault)} → of_kind k ≡ d → d.declares ≡ 0
     → Resolves (d.excess (locals old.scope)) (λ s all c. IsKind all s k c s) old r new
     → Leaves ((of_kind k).excess (locals old.scope)) (λ s all c t. IsCounted all s k c t) old r new
 plain k {old = old} is none h =
-    said_there (ap (λ d. d.excess (locals old.scope)) is) (kept h (λ s all c is_kind. (counts_none s is none, is_kind)))
+    said_there (ap (λ d. d.excess (locals old.scope)) is) (kept h (λ s all c is_kind. (counts_none k s is none, is_kind)))
 
 -- A statement that declares names.
 pub names : (k : tree-kind.StatKind) {d : Declaring} {old new : State} {r : Result StatKind (Fail SyntaxFault)} → of_kind k ≡ d

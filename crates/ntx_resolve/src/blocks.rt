@@ -18,7 +18,7 @@ use crate::resolver::Resolver;
 use crate::state::State;
 use ntx_num::Fail;
 use ntx_syntax as tree;
-use ntx_syntax::SyntaxFault;
+use ntx_syntax::{StatKind as Kind, SyntaxFault};
 use sqlite_items::Items;
 use std::alloc::Global;
 
@@ -94,53 +94,53 @@ impl<'a, B: Fn(Global, &mut State, &tree::Block) -> Result<Block, Fail<SyntaxFau
     fn kind(
         &self,
         state: &mut State,
-        kind: &tree::StatKind,
+        kind: &Kind,
     ) -> Result<StatKind, Fail<SyntaxFault>>
         requires blocks { Blocks (size-Block self.now.within.now) (B.pre self.now.block) (B.post self.now.block) }
         requires small { size-StatKind kind.now < size-Block self.now.within.now }
         ensures { Leaves ((limit.of_kind kind.now).excess (scopes.locals state.old.scope)) (λ s all c t. IsCounted all s kind.now c t) state.old result state.new }
     {
         match kind {
-            tree::StatKind::Empty => Ok(StatKind::Empty),
-            tree::StatKind::Break => Ok(StatKind::Break),
-            tree::StatKind::Assign(vars, values) => {
+            Kind::Empty => Ok(StatKind::Empty),
+            Kind::Break => Ok(StatKind::Break),
+            Kind::Assign(vars, values) => {
                 self.assignment(state, vars.as_slice(), values.as_slice())
             }
-            tree::StatKind::Call(call) => self.call(state, call.get()),
-            tree::StatKind::Do(block) => self.do_block(state, block.get()),
-            tree::StatKind::While(condition, block) => {
-                self.while_loop(state, condition.get(), block.get())
+            Kind::Call(call) => self.call(state, call.get()),
+            Kind::Do(block) => self.do_block(state, block.get()),
+            Kind::While(condition, block) => self.while_loop(state, condition.get(), block.get()),
+            Kind::Repeat(block, condition) => self.repeat_loop(state, block.get(), condition.get()),
+            Kind::If(arms, other) => {
+                let arms = arms.as_slice();
+                match other {
+                    None => self.if_stat(state, arms),
+                    Some(other) => {
+                        let other = other.get();
+                        self.if_else(state, arms, other)
+                    }
+                }
             }
-            tree::StatKind::Repeat(block, condition) => {
-                self.repeat_loop(state, block.get(), condition.get())
+            Kind::NumericFor(name, from, limit, step, block) => {
+                let name = name.get();
+                let from = from.get();
+                let limit = limit.get();
+                let block = block.get();
+                match step {
+                    None => self.numeric_for(state, name, from, limit, block),
+                    Some(step) => {
+                        let step = step.get();
+                        self.stepped_for(state, name, from, limit, step, block)
+                    }
+                }
             }
-            tree::StatKind::If(arms, None) => self.if_stat(state, arms.as_slice()),
-            tree::StatKind::If(arms, Some(other)) => {
-                self.if_else(state, arms.as_slice(), other.get())
-            }
-            tree::StatKind::NumericFor(name, from, limit, None, block) => {
-                self.numeric_for(state, name.get(), from.get(), limit.get(), block.get())
-            }
-            tree::StatKind::NumericFor(name, from, limit, Some(step), block) => self.stepped_for(
-                state,
-                name.get(),
-                from.get(),
-                limit.get(),
-                step.get(),
-                block.get(),
-            ),
-            tree::StatKind::GenericFor(names, values, block) => {
+            Kind::GenericFor(names, values, block) => {
                 self.generic_for(state, names.as_slice(), values.as_slice(), block.get())
             }
-            tree::StatKind::Function(name, path, body) => {
+            Kind::Function(name, path, body) => {
                 self.function_stat(state, name, path.as_slice(), body.get())
             }
-            tree::StatKind::LocalFunction(name, body) => {
-                self.local_function(state, name, body.get())
-            }
-            tree::StatKind::Local(names, values) => {
-                self.local(state, names.as_slice(), values.as_slice())
-            }
+            Kind::LocalFunction(name, body) => self.local_function(state, name, body.get()),
+            Kind::Local(names, values) => self.local(state, names.as_slice(), values.as_slice()),
         }
     }
 }

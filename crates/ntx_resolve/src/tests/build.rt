@@ -77,6 +77,16 @@ pub fn one(alloc: Global, kind: StatKind) -> Result<Items<Stat>, AllocError> {
     Ok(stats)
 }
 
+/// Two statements.
+pub fn two(alloc: Global, first: StatKind, second: StatKind) -> Result<Items<Stat>, AllocError> {
+    let mut stats = one(alloc, first)?;
+    stats.push(Stat {
+        line: 1,
+        kind: second,
+    })?;
+    Ok(stats)
+}
+
 /// `local` with these names and the values of those.
 pub fn local(alloc: Global, declared: &[u8], values: &[u8]) -> Result<StatKind, AllocError> {
     Ok(StatKind::Local(names(alloc, declared)?, exps(alloc, values)?))

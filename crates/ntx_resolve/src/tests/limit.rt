@@ -1,10 +1,10 @@
 //! Where a name is one too many.
 
-use super::build::{block, body, chunk, counting, do_block, function, local, one, returning};
+use super::build::{block, body, chunk, counting, do_block, function, local, one, returning, two};
 use crate::resolve;
 use ntx_num::Fail;
 use ntx_syntax::{Chunk, SyntaxWhy};
-use sqlite_items::Items;
+use std::alloc::{AllocError, Global};
 use std::process::Abort;
 use std::test;
 
@@ -20,52 +20,65 @@ fn refuses(rt: &(impl Abort + AllocGlobal), chunk: &Chunk, line: u64) {
     }
 }
 
+/// `local` with these names, each in a line of its own
+fn declaring(alloc: Global, names: &[u8]) -> Result<Chunk, AllocError> {
+    chunk(alloc, one(alloc, local(alloc, names, b"")?)?, b"")
+}
+
+/// `local` with these names, and a loop that declares one in line 7. What it counts with has no name.
+fn before_a_loop(alloc: Global, names: &[u8]) -> Result<Chunk, AllocError> {
+    let older = local(alloc, names, b"")?;
+    let turn = counting(alloc, b'i', returning(alloc, b"i")?)?;
+    chunk(alloc, two(alloc, older, turn)?, b"")
+}
+
 #[test]
 fn one_function(rt: HostRuntime) -> Result<(), test::Fail> {
-    let a = rt.alloc();
-    refuses(&rt, &chunk(a, one(a, local(a, &[b'a'; 200], b"")?)?, b"")?, 0);
-    refuses(&rt, &chunk(a, one(a, local(a, &[b'a'; 201], b"")?)?, b"")?, 201);
-    // 199 names, and then a loop, whose own values have no names
-    let mut stats = one(a, local(a, &[b'a'; 199], b"")?)?;
-    stats.append(one(a, counting(a, b'i', returning(a, b"i")?)?)?)?;
-    refuses(&rt, &chunk(a, stats, b"")?, 0);
-    let mut stats = one(a, local(a, &[b'a'; 200], b"")?)?;
-    stats.append(one(a, counting(a, b'i', returning(a, b"i")?)?)?)?;
-    refuses(&rt, &chunk(a, stats, b"")?, 7);
+    refuses(&rt, &declaring(rt.alloc(), &[b'a'; 200])?, 0);
+    refuses(&rt, &declaring(rt.alloc(), &[b'a'; 201])?, 201);
+    refuses(&rt, &before_a_loop(rt.alloc(), &[b'a'; 199])?, 0);
+    refuses(&rt, &before_a_loop(rt.alloc(), &[b'a'; 200])?, 7);
     Ok(())
+}
+
+/// `do local` with the first names `end`, and `local` with the others
+fn after_a_block(alloc: Global, first: &[u8], names: &[u8]) -> Result<Chunk, AllocError> {
+    let inner = block(alloc, one(alloc, local(alloc, first, b"")?)?, b"")?;
+    let inner = do_block(alloc, inner)?;
+    chunk(alloc, two(alloc, inner, local(alloc, names, b"")?)?, b"")
+}
+
+/// `local` with the first names, and `do local` with the others `end`
+fn in_a_block(alloc: Global, first: &[u8], names: &[u8]) -> Result<Chunk, AllocError> {
+    let inner = block(alloc, one(alloc, local(alloc, names, b"")?)?, b"")?;
+    let inner = do_block(alloc, inner)?;
+    chunk(alloc, two(alloc, local(alloc, first, b"")?, inner)?, b"")
 }
 
 #[test]
 fn blocks_that_end(rt: HostRuntime) -> Result<(), test::Fail> {
-    let a = rt.alloc();
-    // do local (200 names) end; local (200 names)
-    let inner = block(a, one(a, local(a, &[b'a'; 200], b"")?)?, b"")?;
-    let mut stats = one(a, do_block(a, inner)?)?;
-    stats.append(one(a, local(a, &[b'b'; 200], b"")?)?)?;
-    refuses(&rt, &chunk(a, stats, b"")?, 0);
-    // local (198 names); do local a, a, a end
-    let inner = block(a, one(a, local(a, b"aaa", b"")?)?, b"")?;
-    let mut stats = one(a, local(a, &[b'a'; 198], b"")?)?;
-    stats.append(one(a, do_block(a, inner)?)?)?;
-    refuses(&rt, &chunk(a, stats, b"")?, 3);
+    refuses(&rt, &after_a_block(rt.alloc(), &[b'a'; 200], &[b'b'; 200])?, 0);
+    refuses(&rt, &in_a_block(rt.alloc(), &[b'a'; 198], b"bc")?, 0);
+    refuses(&rt, &in_a_block(rt.alloc(), &[b'a'; 198], b"bcd")?, 3);
     Ok(())
+}
+
+/// `local` with the first names, and a function with these parameters that declares the others
+fn in_a_function(
+    alloc: Global,
+    first: &[u8],
+    parameters: &[u8],
+    names: &[u8],
+) -> Result<Chunk, AllocError> {
+    let inner = block(alloc, one(alloc, local(alloc, names, b"")?)?, b"")?;
+    let made = function(alloc, b'f', body(alloc, parameters, inner)?)?;
+    chunk(alloc, two(alloc, local(alloc, first, b"")?, made)?, b"")
 }
 
 #[test]
 fn functions_count_their_own(rt: HostRuntime) -> Result<(), test::Fail> {
-    let a = rt.alloc();
-    // local (200 names); function f(200 names) end
-    let made = function(a, b'f', body(a, &[b'p'; 200], returning(a, b"")?)?)?;
-    let mut stats = one(a, local(a, &[b'a'; 200], b"")?)?;
-    stats.append(one(a, made)?)?;
-    refuses(&rt, &chunk(a, stats, b"")?, 0);
-    // function f(201 names) end
-    let made = function(a, b'f', body(a, &[b'p'; 201], returning(a, b"")?)?)?;
-    refuses(&rt, &chunk(a, one(a, made)?, b"")?, 201);
-    // function f(199 names) local a, b end
-    let inner = block(a, one(a, local(a, b"ab", b"")?)?, b"")?;
-    let made = function(a, b'f', body(a, &[b'p'; 199], inner)?)?;
-    refuses(&rt, &chunk(a, one(a, made)?, b"")?, 2);
-    refuses(&rt, &chunk(a, Items::new(a), b"")?, 0);
+    refuses(&rt, &in_a_function(rt.alloc(), &[b'a'; 200], &[b'p'; 200], b"")?, 0);
+    refuses(&rt, &in_a_function(rt.alloc(), b"", &[b'p'; 201], b"")?, 201);
+    refuses(&rt, &in_a_function(rt.alloc(), b"", &[b'p'; 199], b"ab")?, 2);
     Ok(())
 }

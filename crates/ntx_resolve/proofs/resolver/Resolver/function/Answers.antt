@@ -22,4 +22,4 @@ pub returns-in_err-push : goal.returns-in_err-push
 returns-in_err-push g c = no_memory_by _ c.from_residual-in_err-push.ensures.1
 
 pub returns : goal.returns
-returns g c = pushed _ c.in_ok-function.ensures c.in_ok-push.ensures.ok refl c.len.ensures
+returns g c = pushed _ c.in_ok-function.ensures c.in_ok-push.ensures.ok refl c.len-number.ensures

@@ -15,7 +15,7 @@ use Rattle.ntx_resolve.proofs.Extending.{err_here, first_err_here, longer_after,
 use Rattle.ntx_resolve.proofs.resolver.Resolver.generic_for.Goals as goal
 
 pub returns-in_err-has_room_for : goal.returns-in_err-has_room_for
-returns-in_err-has_room_for g c = not_allowed (limit.excess_of_names (scopes.locals c.args.state.now.scope) c.args.names.now) (limit.or_else (limit.excess_of_exps c.args.values.now) (limit.excess_of_block c.args.block.now (scopes.locals c.args.state.now.scope + length c.args.names.now))) c.in_err-has_room_for.field-0 _ c.from_residual.ensures.1 c.in_err-has_room_for.ensures.allows
+returns-in_err-has_room_for g c = not_allowed (limit.excess_of_names (scopes.locals c.args.state.now.scope) c.args.names.now) (limit.or_else (limit.excess_of_exps c.args.values.now) (limit.excess_of_block c.args.block.now (scopes.locals c.args.state.now.scope + length c.args.names.now))) _ _ c.from_residual.ensures.1 c.in_err-has_room_for.ensures.allows
 
 pub returns-in_err-values : goal.returns-in_err-values
 returns-in_err-values g c = allowed c.in_ok-has_room_for.ensures.allows (err_by _ _ c.from_residual-in_err-values.ensures.1 c.in_err-values.ensures)

@@ -12,7 +12,7 @@ use Rattle.ntx_resolve.proofs.KindExcess as kinds
 use Rattle.ntx_resolve.proofs.Allowing.{allowed, not_allowed}
 use Rattle.ntx_resolve.proofs.Resolving.{said, ok, ok_in, stayed, err_by, last, last_here, last_err, last_err_by, no_memory_by, done}
 use Rattle.ntx_resolve.proofs.Extending.{err_here, first_err_here, longer_after, longer_from, closed, enclosed, repeated, repeated_err, locals-entered, locals-declared, room}
-use Rattle.ntx_resolve.proofs.IfExcess.{if_none, if_some}
+use Rattle.ntx_resolve.proofs.IfExcess.{with_none, with_else}
 use Rattle.ntx_resolve.proofs.Stats.{in_kind, plain, names}
 use Rattle.ntx_resolve.proofs.resolver.Resolver.kind.Goals as goal
 
@@ -37,17 +37,17 @@ returns-in-While g c = in_kind (c.in-While.is ∙ ap (λ z. stat.While z (c.in-W
 pub returns-in-Repeat : goal.returns-in-Repeat
 returns-in-Repeat g c = in_kind (c.in-Repeat.is ∙ ap (λ z. stat.Repeat z (c.in-Repeat.condition)) (sym c.get-in-Repeat.ensures) ∙ ap (λ z. stat.Repeat (c.get-in-Repeat.result.now) z) (sym c.get-in-Repeat-2.ensures)) (plain (stat.Repeat (c.get-in-Repeat.result.now) (c.get-in-Repeat-2.result.now)) (kinds.repeat (c.get-in-Repeat.result.now) (c.get-in-Repeat-2.result.now)) refl c.repeat_loop.ensures)
 
-pub returns-in-If-default-None : goal.returns-in-If-default-None
-returns-in-If-default-None g c = in_kind (c.in-If-default-None.is ∙ ap (λ z. stat.If z (c.in-If-default-None.field-1)) (sym c.as_slice-in-If-default-None.ensures) ∙ ap (λ z. stat.If (c.as_slice-in-If-default-None.result.now) z) (c.in-If-default-None.field-1-is)) (plain (stat.If (c.as_slice-in-If-default-None.result.now) None) (kinds.if_stat (c.as_slice-in-If-default-None.result.now) None) refl (said (if_none (scopes.locals c.args.state.now.scope) (c.as_slice-in-If-default-None.result.now)) c.if_stat.ensures))
+pub returns-in-None : goal.returns-in-None
+returns-in-None g c = in_kind (c.in-If.is ∙ ap (λ z. stat.If z c.in-If.other) (sym c.as_slice-arms.ensures) ∙ ap (stat.If c.as_slice-arms.result.now) c.in-None.is) (plain (stat.If c.as_slice-arms.result.now None) (kinds.if_none c.as_slice-arms.result.now) refl (said (with_none (scopes.locals c.args.state.now.scope) c.as_slice-arms.result.now) c.if_stat.ensures))
 
-pub returns-in-If-default-Some : goal.returns-in-If-default-Some
-returns-in-If-default-Some g c = in_kind (c.in-If-default-Some.is ∙ ap (λ z. stat.If z (c.in-If-default-Some.field-1)) (sym c.as_slice-in-If-default-Some.ensures) ∙ ap (λ z. stat.If (c.as_slice-in-If-default-Some.result.now) z) (c.in-If-default-Some.field-1-is ∙ ap Some (sym c.get-in-If-default-Some.ensures))) (plain (stat.If (c.as_slice-in-If-default-Some.result.now) (Some c.get-in-If-default-Some.result.now)) (kinds.if_stat (c.as_slice-in-If-default-Some.result.now) (Some c.get-in-If-default-Some.result.now)) refl (said (if_some (scopes.locals c.args.state.now.scope) (c.as_slice-in-If-default-Some.result.now) c.get-in-If-default-Some.result.now) c.if_else.ensures))
+pub returns-in-Some : goal.returns-in-Some
+returns-in-Some g c = in_kind (c.in-If.is ∙ ap (λ z. stat.If z c.in-If.other) (sym c.as_slice-arms.ensures) ∙ ap (stat.If c.as_slice-arms.result.now) (c.in-Some.is ∙ ap Some (sym c.get-other.ensures))) (plain (stat.If c.as_slice-arms.result.now (Some c.get-other.result.now)) (kinds.if_some c.as_slice-arms.result.now c.get-other.result.now) refl (said (with_else (scopes.locals c.args.state.now.scope) c.as_slice-arms.result.now c.get-other.result.now) c.if_else.ensures))
 
-pub returns-in-NumericFor-default-default-default-None-default : goal.returns-in-NumericFor-default-default-default-None-default
-returns-in-NumericFor-default-default-default-None-default g c = in_kind (c.in-NumericFor-default-default-default-None-default.is ∙ ap (λ z. stat.NumericFor z (c.in-NumericFor-default-default-default-None-default.from) (c.in-NumericFor-default-default-default-None-default.limit) (c.in-NumericFor-default-default-default-None-default.field-3) (c.in-NumericFor-default-default-default-None-default.block)) (sym c.get-in-NumericFor-default-default-default-None-default.ensures) ∙ ap (λ z. stat.NumericFor (c.get-in-NumericFor-default-default-default-None-default.result.now) z (c.in-NumericFor-default-default-default-None-default.limit) (c.in-NumericFor-default-default-default-None-default.field-3) (c.in-NumericFor-default-default-default-None-default.block)) (sym c.get-in-NumericFor-default-default-default-None-default-2.ensures) ∙ ap (λ z. stat.NumericFor (c.get-in-NumericFor-default-default-default-None-default.result.now) (c.get-in-NumericFor-default-default-default-None-default-2.result.now) z (c.in-NumericFor-default-default-default-None-default.field-3) (c.in-NumericFor-default-default-default-None-default.block)) (sym c.get-in-NumericFor-default-default-default-None-default-3.ensures) ∙ ap (λ z. stat.NumericFor (c.get-in-NumericFor-default-default-default-None-default.result.now) (c.get-in-NumericFor-default-default-default-None-default-2.result.now) (c.get-in-NumericFor-default-default-default-None-default-3.result.now) z (c.in-NumericFor-default-default-default-None-default.block)) (c.in-NumericFor-default-default-default-None-default.field-3-is) ∙ ap (λ z. stat.NumericFor (c.get-in-NumericFor-default-default-default-None-default.result.now) (c.get-in-NumericFor-default-default-default-None-default-2.result.now) (c.get-in-NumericFor-default-default-default-None-default-3.result.now) (None) z) (sym c.get-in-NumericFor-default-default-default-None-default-4.ensures)) (plain (stat.NumericFor (c.get-in-NumericFor-default-default-default-None-default.result.now) (c.get-in-NumericFor-default-default-default-None-default-2.result.now) (c.get-in-NumericFor-default-default-default-None-default-3.result.now) (None) (c.get-in-NumericFor-default-default-default-None-default-4.result.now)) (kinds.numeric_for (c.get-in-NumericFor-default-default-default-None-default.result.now) (c.get-in-NumericFor-default-default-default-None-default-2.result.now) (c.get-in-NumericFor-default-default-default-None-default-3.result.now) (None) (c.get-in-NumericFor-default-default-default-None-default-4.result.now)) refl c.numeric_for.ensures)
+pub returns-in-None-in-NumericFor : goal.returns-in-None-in-NumericFor
+returns-in-None-in-NumericFor g c = in_kind (c.in-NumericFor.is ∙ ap (λ z. stat.NumericFor z (c.in-NumericFor.from) (c.in-NumericFor.limit) (c.in-NumericFor.step) (c.in-NumericFor.block)) (sym c.get-name.ensures) ∙ ap (λ z. stat.NumericFor (c.get-name.result.now) z (c.in-NumericFor.limit) (c.in-NumericFor.step) (c.in-NumericFor.block)) (sym c.get-from.ensures) ∙ ap (λ z. stat.NumericFor (c.get-name.result.now) (c.get-from.result.now) z (c.in-NumericFor.step) (c.in-NumericFor.block)) (sym c.get-limit.ensures) ∙ ap (λ z. stat.NumericFor (c.get-name.result.now) (c.get-from.result.now) (c.get-limit.result.now) (c.in-NumericFor.step) z) (sym c.get-block.ensures) ∙ ap (λ z. stat.NumericFor (c.get-name.result.now) (c.get-from.result.now) (c.get-limit.result.now) z (c.get-block.result.now)) (c.in-None-in-NumericFor.is)) (plain (stat.NumericFor c.get-name.result.now c.get-from.result.now c.get-limit.result.now None c.get-block.result.now) (kinds.counted_for c.get-name.result.now c.get-from.result.now c.get-limit.result.now c.get-block.result.now) refl c.numeric_for.ensures)
 
-pub returns-in-NumericFor-default-default-default-Some-default : goal.returns-in-NumericFor-default-default-default-Some-default
-returns-in-NumericFor-default-default-default-Some-default g c = in_kind (c.in-NumericFor-default-default-default-Some-default.is ∙ ap (λ z. stat.NumericFor z (c.in-NumericFor-default-default-default-Some-default.from) (c.in-NumericFor-default-default-default-Some-default.limit) (c.in-NumericFor-default-default-default-Some-default.field-3) (c.in-NumericFor-default-default-default-Some-default.block)) (sym c.get-in-NumericFor-default-default-default-Some-default.ensures) ∙ ap (λ z. stat.NumericFor (c.get-in-NumericFor-default-default-default-Some-default.result.now) z (c.in-NumericFor-default-default-default-Some-default.limit) (c.in-NumericFor-default-default-default-Some-default.field-3) (c.in-NumericFor-default-default-default-Some-default.block)) (sym c.get-in-NumericFor-default-default-default-Some-default-2.ensures) ∙ ap (λ z. stat.NumericFor (c.get-in-NumericFor-default-default-default-Some-default.result.now) (c.get-in-NumericFor-default-default-default-Some-default-2.result.now) z (c.in-NumericFor-default-default-default-Some-default.field-3) (c.in-NumericFor-default-default-default-Some-default.block)) (sym c.get-in-NumericFor-default-default-default-Some-default-3.ensures) ∙ ap (λ z. stat.NumericFor (c.get-in-NumericFor-default-default-default-Some-default.result.now) (c.get-in-NumericFor-default-default-default-Some-default-2.result.now) (c.get-in-NumericFor-default-default-default-Some-default-3.result.now) z (c.in-NumericFor-default-default-default-Some-default.block)) (c.in-NumericFor-default-default-default-Some-default.field-3-is ∙ ap Some (sym c.get-in-NumericFor-default-default-default-Some-default-4.ensures)) ∙ ap (λ z. stat.NumericFor (c.get-in-NumericFor-default-default-default-Some-default.result.now) (c.get-in-NumericFor-default-default-default-Some-default-2.result.now) (c.get-in-NumericFor-default-default-default-Some-default-3.result.now) (Some c.get-in-NumericFor-default-default-default-Some-default-4.result.now) z) (sym c.get-in-NumericFor-default-default-default-Some-default-5.ensures)) (plain (stat.NumericFor (c.get-in-NumericFor-default-default-default-Some-default.result.now) (c.get-in-NumericFor-default-default-default-Some-default-2.result.now) (c.get-in-NumericFor-default-default-default-Some-default-3.result.now) (Some c.get-in-NumericFor-default-default-default-Some-default-4.result.now) (c.get-in-NumericFor-default-default-default-Some-default-5.result.now)) (kinds.numeric_for (c.get-in-NumericFor-default-default-default-Some-default.result.now) (c.get-in-NumericFor-default-default-default-Some-default-2.result.now) (c.get-in-NumericFor-default-default-default-Some-default-3.result.now) (Some c.get-in-NumericFor-default-default-default-Some-default-4.result.now) (c.get-in-NumericFor-default-default-default-Some-default-5.result.now)) refl c.stepped_for.ensures)
+pub returns-in-Some-in-NumericFor : goal.returns-in-Some-in-NumericFor
+returns-in-Some-in-NumericFor g c = in_kind (c.in-NumericFor.is ∙ ap (λ z. stat.NumericFor z (c.in-NumericFor.from) (c.in-NumericFor.limit) (c.in-NumericFor.step) (c.in-NumericFor.block)) (sym c.get-name.ensures) ∙ ap (λ z. stat.NumericFor (c.get-name.result.now) z (c.in-NumericFor.limit) (c.in-NumericFor.step) (c.in-NumericFor.block)) (sym c.get-from.ensures) ∙ ap (λ z. stat.NumericFor (c.get-name.result.now) (c.get-from.result.now) z (c.in-NumericFor.step) (c.in-NumericFor.block)) (sym c.get-limit.ensures) ∙ ap (λ z. stat.NumericFor (c.get-name.result.now) (c.get-from.result.now) (c.get-limit.result.now) (c.in-NumericFor.step) z) (sym c.get-block.ensures) ∙ ap (λ z. stat.NumericFor (c.get-name.result.now) (c.get-from.result.now) (c.get-limit.result.now) z (c.get-block.result.now)) (c.in-Some-in-NumericFor.is ∙ ap Some (sym c.get-step.ensures))) (plain (stat.NumericFor c.get-name.result.now c.get-from.result.now c.get-limit.result.now (Some c.get-step.result.now) c.get-block.result.now) (kinds.stepped_for c.get-name.result.now c.get-from.result.now c.get-limit.result.now c.get-step.result.now c.get-block.result.now) refl c.stepped_for.ensures)
 
 pub returns-in-GenericFor : goal.returns-in-GenericFor
 returns-in-GenericFor g c = in_kind (c.in-GenericFor.is ∙ ap (λ z. stat.GenericFor z (c.in-GenericFor.values) (c.in-GenericFor.block)) (sym c.as_slice-in-GenericFor.ensures) ∙ ap (λ z. stat.GenericFor (c.as_slice-in-GenericFor.result.now) z (c.in-GenericFor.block)) (sym c.as_slice-in-GenericFor-2.ensures) ∙ ap (λ z. stat.GenericFor (c.as_slice-in-GenericFor.result.now) (c.as_slice-in-GenericFor-2.result.now) z) (sym c.get-in-GenericFor.ensures)) (plain (stat.GenericFor (c.as_slice-in-GenericFor.result.now) (c.as_slice-in-GenericFor-2.result.now) (c.get-in-GenericFor.result.now)) (kinds.generic_for (c.as_slice-in-GenericFor.result.now) (c.as_slice-in-GenericFor-2.result.now) (c.get-in-GenericFor.result.now)) refl c.generic_for.ensures)

@@ -17,7 +17,7 @@ use Rattle.ntx_resolve.proofs.KindExcess as kinds
 use Rattle.ntx_resolve.proofs.resolver.Resolver.local.Goals as goal
 
 pub returns-in_err-has_room_for : goal.returns-in_err-has_room_for
-returns-in_err-has_room_for g c = not_allowed_there (limit.excess_of_names (scopes.locals c.args.state.now.scope) c.args.names.now) (limit.excess_of_exps c.args.values.now) c.in_err-has_room_for.field-0 _ c.from_residual.ensures.1 c.in_err-has_room_for.ensures.allows
+returns-in_err-has_room_for g c = not_allowed_there (limit.excess_of_names (scopes.locals c.args.state.now.scope) c.args.names.now) (limit.excess_of_exps c.args.values.now) _ _ c.from_residual.ensures.1 c.in_err-has_room_for.ensures.allows
 
 pub returns-in_err-values : goal.returns-in_err-values
 returns-in_err-values g c = allowed_there c.in_ok-has_room_for.ensures.allows (err_there _ c.from_residual-in_err-values.ensures.1 c.in_err-values.ensures)
@@ -30,6 +30,6 @@ returns-in_err-copied_locals g c = no_memory_there _ c.from_residual-in_err-copi
 
 pub returns : goal.returns
 returns g c = allowed_there c.in_ok-has_room_for.ensures.allows (declared _ c.args.names.now c.in_ok-values.ensures refl c.in_ok-declare.ensures
-    (λ all is. (counted c.args.state.now.scope c.args.names.now c.in_ok-has_room_for.ensures.within (kinds.local c.args.names.now c.args.values.now) refl,
+    (λ all is. (counted (stat.Local c.args.names.now c.args.values.now) c.args.state.now.scope c.args.names.now c.in_ok-has_room_for.ensures.within (kinds.local c.args.names.now c.args.values.now) refl,
     subst (λ z. code.IsKind all c.args.state.now.scope (stat.Local c.args.names.now c.args.values.now) (code-stat.Local z c.in_ok-values.values) (scopes.declare c.args.state.now.scope c.args.names.now)) (sym c.in_ok-copied_locals.ensures)
     (code.local is))))

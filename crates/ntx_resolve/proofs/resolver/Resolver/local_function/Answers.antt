@@ -17,7 +17,7 @@ use Rattle.ntx_resolve.proofs.KindExcess as kinds
 use Rattle.ntx_resolve.proofs.resolver.Resolver.local_function.Goals as goal
 
 pub returns-in_err-has_room_for_one : goal.returns-in_err-has_room_for_one
-returns-in_err-has_room_for_one g c = not_allowed_there (limit.excess_of_names (scopes.locals c.args.state.now.scope) (c.args.name.now ∷ [])) (limit.excess_of_body c.args.body.now) c.in_err-has_room_for_one.field-0 _ c.from_residual.ensures.1 c.in_err-has_room_for_one.ensures.allows
+returns-in_err-has_room_for_one g c = not_allowed_there (limit.excess_of_names (scopes.locals c.args.state.now.scope) (c.args.name.now ∷ [])) (limit.excess_of_body c.args.body.now) _ _ c.from_residual.ensures.1 c.in_err-has_room_for_one.ensures.allows
 
 pub returns-in_err-declare_one : goal.returns-in_err-declare_one
 returns-in_err-declare_one g c = no_memory_there _ c.from_residual-in_err-declare_one.ensures.1
@@ -30,6 +30,6 @@ returns-in_err-copied_local g c = no_memory_there _ c.from_residual-in_err-copie
 
 pub returns : goal.returns
 returns g c = allowed_there c.in_ok-has_room_for_one.ensures.allows (declared_first (c.args.name.now ∷ []) refl c.in_ok-declare_one.ensures c.in_ok-number.ensures
-    (λ all is. (counted c.args.state.now.scope (c.args.name.now ∷ []) c.in_ok-has_room_for_one.ensures.within (kinds.local_function c.args.name.now c.args.body.now) refl,
+    (λ all is. (counted (stat.LocalFunction c.args.name.now c.args.body.now) c.args.state.now.scope (c.args.name.now ∷ []) c.in_ok-has_room_for_one.ensures.within (kinds.local_function c.args.name.now c.args.body.now) refl,
     subst (λ z. code.IsKind all c.args.state.now.scope (stat.LocalFunction c.args.name.now c.args.body.now) (code-stat.LocalFunction z c.in_ok-number.number) (scopes.declare c.args.state.now.scope (c.args.name.now ∷ []))) (sym c.in_ok-copied_local.ensures)
     (code.local_function is))))

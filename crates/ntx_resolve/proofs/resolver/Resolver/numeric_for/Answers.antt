@@ -15,7 +15,7 @@ use Rattle.ntx_resolve.proofs.Extending.{err_here, first_err_here, longer_after,
 use Rattle.ntx_resolve.proofs.resolver.Resolver.numeric_for.Goals as goal
 
 pub returns-in_err-has_room_for_one : goal.returns-in_err-has_room_for_one
-returns-in_err-has_room_for_one g c = not_allowed (limit.excess_of_names (scopes.locals c.args.state.now.scope) (c.args.name.now ∷ [])) (limit.or_else (limit.excess_of_exp c.args.from.now) (limit.or_else (limit.excess_of_exp c.args.limit.now) (limit.excess_of_block c.args.block.now (scopes.locals c.args.state.now.scope + 1)))) c.in_err-has_room_for_one.field-0 _ c.from_residual.ensures.1 c.in_err-has_room_for_one.ensures.allows
+returns-in_err-has_room_for_one g c = not_allowed (limit.excess_of_names (scopes.locals c.args.state.now.scope) (c.args.name.now ∷ [])) (limit.or_else (limit.excess_of_exp c.args.from.now) (limit.or_else (limit.excess_of_exp c.args.limit.now) (limit.excess_of_block c.args.block.now (scopes.locals c.args.state.now.scope + 1)))) _ _ c.from_residual.ensures.1 c.in_err-has_room_for_one.ensures.allows
 
 pub returns-in_err-from : goal.returns-in_err-from
 returns-in_err-from g c = allowed c.in_ok-has_room_for_one.ensures.allows (err_by _ _ c.from_residual-in_err-from.ensures.1 c.in_err-from.ensures)

@@ -16,7 +16,7 @@ use Rattle.ntx_resolve.proofs.Leaving.{said_there, no_memory_there, err_by_there
 use Rattle.ntx_resolve.proofs.resolver.Resolver.stat.Goals as goal
 
 pub returns-in_err-kind : goal.returns-in_err-kind
-returns-in_err-kind g c = said_there (ap (λ d. d.excess (scopes.locals c.args.state.now.scope)) (kinds.stat c.args.stat.now)) (last_err_there _ c.from_residual.ensures.1 c.in_err-kind.ensures)
+returns-in_err-kind g c = said_there (ap (λ d. d.excess (scopes.locals c.args.state.now.scope)) (kinds.statement c.args.stat.now)) (last_err_there _ c.from_residual.ensures.1 c.in_err-kind.ensures)
 
 pub returns : goal.returns
-returns g c = said_there (ap (λ d. d.excess (scopes.locals c.args.state.now.scope)) (kinds.stat c.args.stat.now)) (last_there c.in_ok-kind.ensures (λ s t all is. (refl, is.0 ∙ ap (λ d. scopes.locals s + d.declares) (sym (kinds.stat c.args.stat.now)), is.1)))
+returns g c = said_there (ap (λ d. d.excess (scopes.locals c.args.state.now.scope)) (kinds.statement c.args.stat.now)) (last_there c.in_ok-kind.ensures (λ s t all is. (refl, is.0 ∙ ap (λ d. scopes.locals s + d.declares) (sym (kinds.statement c.args.stat.now)), is.1)))
