@@ -19,8 +19,8 @@ block_made {all = all} {s = s} {t = t} {b = b} {cs = cs} {last = last} stats ret
     let e = sym (out-roll-Block (record { stats = cs; last = last })) in
     block (subst (λ r. IsStats all s (tree-block.out-Block b).stats r.stats t) e stats) (subst (λ r. IsReturn all t (tree-block.out-Block b).last r.last) e returned)
 
-pub arm_made : {all : List Function} {s : Scope} {a : tree-arm.IfArm} {e : Exp} {c : Block} → IsExp all s (tree-arm.out-IfArm a).condition e
+pub arm_made : {all : List Function} {s : Scope} (a : tree-arm.IfArm) {e : Exp} {c : Block} → IsExp all s (tree-arm.out-IfArm a).condition e
     → IsClosed all s (tree-arm.out-IfArm a).block c → IsArm all s a (roll-IfArm (record { condition = e; block = c }))
-arm_made {all = all} {s = s} {a = a} {e = e} {c = c} condition closed =
+arm_made {all = all} {s = s} a {e = e} {c = c} condition closed =
     let is = sym (out-roll-IfArm (record { condition = e; block = c })) in
     (subst (λ r. IsExp all s (tree-arm.out-IfArm a).condition r.condition) is condition, subst (λ r. IsClosed all s (tree-arm.out-IfArm a).block r.block) is closed)

@@ -25,4 +25,4 @@ pub returns-in_err-block : goal.returns-in_err-block
 returns-in_err-block g c = said (kinds.arm c.args.arm.now (scopes.locals c.args.state.now.scope)) (ok_in (λ s. limit.excess_of_block (tree-arm.out-IfArm c.args.arm.now).block (scopes.locals s)) c.in_ok-condition.ensures (err_here _ c.from_residual-in_err-block.ensures.1 c.in_err-block.ensures))
 
 pub returns : goal.returns
-returns g c = said (kinds.arm c.args.arm.now (scopes.locals c.args.state.now.scope)) (ok_in (λ s. limit.excess_of_block (tree-arm.out-IfArm c.args.arm.now).block (scopes.locals s)) c.in_ok-condition.ensures (last (closed _ c.in_ok-block.ensures refl _ _ c.mark-mark.ensures.names c.mark-mark.ensures.from c.leave.ensures) (λ s all block condition. arm_made condition block)))
+returns g c = said (kinds.arm c.args.arm.now (scopes.locals c.args.state.now.scope)) (ok_in (λ s. limit.excess_of_block (tree-arm.out-IfArm c.args.arm.now).block (scopes.locals s)) c.in_ok-condition.ensures (last (closed _ c.in_ok-block.ensures refl _ _ c.mark-mark.ensures.names c.mark-mark.ensures.from c.leave.ensures) (λ s all block condition. arm_made c.args.arm.now condition block)))

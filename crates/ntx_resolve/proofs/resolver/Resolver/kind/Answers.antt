@@ -43,11 +43,11 @@ returns-in-None g c = in_kind (c.in-If.is ∙ ap (λ z. stat.If z c.in-If.other)
 pub returns-in-Some : goal.returns-in-Some
 returns-in-Some g c = in_kind (c.in-If.is ∙ ap (λ z. stat.If z c.in-If.other) (sym c.as_slice-arms.ensures) ∙ ap (stat.If c.as_slice-arms.result.now) (c.in-Some.is ∙ ap Some (sym c.get-other.ensures))) (plain (stat.If c.as_slice-arms.result.now (Some c.get-other.result.now)) (kinds.if_some c.as_slice-arms.result.now c.get-other.result.now) refl (said (with_else (scopes.locals c.args.state.now.scope) c.as_slice-arms.result.now c.get-other.result.now) c.if_else.ensures))
 
-pub returns-in-None-in-NumericFor : goal.returns-in-None-in-NumericFor
-returns-in-None-in-NumericFor g c = in_kind (c.in-NumericFor.is ∙ ap (λ z. stat.NumericFor z (c.in-NumericFor.from) (c.in-NumericFor.limit) (c.in-NumericFor.step) (c.in-NumericFor.block)) (sym c.get-name.ensures) ∙ ap (λ z. stat.NumericFor (c.get-name.result.now) z (c.in-NumericFor.limit) (c.in-NumericFor.step) (c.in-NumericFor.block)) (sym c.get-from.ensures) ∙ ap (λ z. stat.NumericFor (c.get-name.result.now) (c.get-from.result.now) z (c.in-NumericFor.step) (c.in-NumericFor.block)) (sym c.get-limit.ensures) ∙ ap (λ z. stat.NumericFor (c.get-name.result.now) (c.get-from.result.now) (c.get-limit.result.now) (c.in-NumericFor.step) z) (sym c.get-block.ensures) ∙ ap (λ z. stat.NumericFor (c.get-name.result.now) (c.get-from.result.now) (c.get-limit.result.now) z (c.get-block.result.now)) (c.in-None-in-NumericFor.is)) (plain (stat.NumericFor c.get-name.result.now c.get-from.result.now c.get-limit.result.now None c.get-block.result.now) (kinds.counted_for c.get-name.result.now c.get-from.result.now c.get-limit.result.now c.get-block.result.now) refl c.numeric_for.ensures)
+pub returns-in-None-step : goal.returns-in-None-step
+returns-in-None-step g c = in_kind (c.in-NumericFor.is ∙ ap (λ z. stat.NumericFor z (c.in-NumericFor.from) (c.in-NumericFor.limit) (c.in-NumericFor.step) (c.in-NumericFor.block)) (sym c.get-name.ensures) ∙ ap (λ z. stat.NumericFor (c.get-name.result.now) z (c.in-NumericFor.limit) (c.in-NumericFor.step) (c.in-NumericFor.block)) (sym c.get-from.ensures) ∙ ap (λ z. stat.NumericFor (c.get-name.result.now) (c.get-from.result.now) z (c.in-NumericFor.step) (c.in-NumericFor.block)) (sym c.get-limit.ensures) ∙ ap (λ z. stat.NumericFor (c.get-name.result.now) (c.get-from.result.now) (c.get-limit.result.now) (c.in-NumericFor.step) z) (sym c.get-block.ensures) ∙ ap (λ z. stat.NumericFor (c.get-name.result.now) (c.get-from.result.now) (c.get-limit.result.now) z (c.get-block.result.now)) (c.in-None-step.is)) (plain (stat.NumericFor c.get-name.result.now c.get-from.result.now c.get-limit.result.now None c.get-block.result.now) (kinds.counted_for c.get-name.result.now c.get-from.result.now c.get-limit.result.now c.get-block.result.now) refl c.numeric_for.ensures)
 
-pub returns-in-Some-in-NumericFor : goal.returns-in-Some-in-NumericFor
-returns-in-Some-in-NumericFor g c = in_kind (c.in-NumericFor.is ∙ ap (λ z. stat.NumericFor z (c.in-NumericFor.from) (c.in-NumericFor.limit) (c.in-NumericFor.step) (c.in-NumericFor.block)) (sym c.get-name.ensures) ∙ ap (λ z. stat.NumericFor (c.get-name.result.now) z (c.in-NumericFor.limit) (c.in-NumericFor.step) (c.in-NumericFor.block)) (sym c.get-from.ensures) ∙ ap (λ z. stat.NumericFor (c.get-name.result.now) (c.get-from.result.now) z (c.in-NumericFor.step) (c.in-NumericFor.block)) (sym c.get-limit.ensures) ∙ ap (λ z. stat.NumericFor (c.get-name.result.now) (c.get-from.result.now) (c.get-limit.result.now) (c.in-NumericFor.step) z) (sym c.get-block.ensures) ∙ ap (λ z. stat.NumericFor (c.get-name.result.now) (c.get-from.result.now) (c.get-limit.result.now) z (c.get-block.result.now)) (c.in-Some-in-NumericFor.is ∙ ap Some (sym c.get-step.ensures))) (plain (stat.NumericFor c.get-name.result.now c.get-from.result.now c.get-limit.result.now (Some c.get-step.result.now) c.get-block.result.now) (kinds.stepped_for c.get-name.result.now c.get-from.result.now c.get-limit.result.now c.get-step.result.now c.get-block.result.now) refl c.stepped_for.ensures)
+pub returns-in-Some-step : goal.returns-in-Some-step
+returns-in-Some-step g c = in_kind (c.in-NumericFor.is ∙ ap (λ z. stat.NumericFor z (c.in-NumericFor.from) (c.in-NumericFor.limit) (c.in-NumericFor.step) (c.in-NumericFor.block)) (sym c.get-name.ensures) ∙ ap (λ z. stat.NumericFor (c.get-name.result.now) z (c.in-NumericFor.limit) (c.in-NumericFor.step) (c.in-NumericFor.block)) (sym c.get-from.ensures) ∙ ap (λ z. stat.NumericFor (c.get-name.result.now) (c.get-from.result.now) z (c.in-NumericFor.step) (c.in-NumericFor.block)) (sym c.get-limit.ensures) ∙ ap (λ z. stat.NumericFor (c.get-name.result.now) (c.get-from.result.now) (c.get-limit.result.now) (c.in-NumericFor.step) z) (sym c.get-block.ensures) ∙ ap (λ z. stat.NumericFor (c.get-name.result.now) (c.get-from.result.now) (c.get-limit.result.now) z (c.get-block.result.now)) (c.in-Some-step.is ∙ ap Some (sym c.get-step.ensures))) (plain (stat.NumericFor c.get-name.result.now c.get-from.result.now c.get-limit.result.now (Some c.get-step.result.now) c.get-block.result.now) (kinds.stepped_for c.get-name.result.now c.get-from.result.now c.get-limit.result.now c.get-step.result.now c.get-block.result.now) refl c.stepped_for.ensures)
 
 pub returns-in-GenericFor : goal.returns-in-GenericFor
 returns-in-GenericFor g c = in_kind (c.in-GenericFor.is ∙ ap (λ z. stat.GenericFor z (c.in-GenericFor.values) (c.in-GenericFor.block)) (sym c.as_slice-in-GenericFor.ensures) ∙ ap (λ z. stat.GenericFor (c.as_slice-in-GenericFor.result.now) z (c.in-GenericFor.block)) (sym c.as_slice-in-GenericFor-2.ensures) ∙ ap (λ z. stat.GenericFor (c.as_slice-in-GenericFor.result.now) (c.as_slice-in-GenericFor-2.result.now) z) (sym c.get-in-GenericFor.ensures)) (plain (stat.GenericFor (c.as_slice-in-GenericFor.result.now) (c.as_slice-in-GenericFor-2.result.now) (c.get-in-GenericFor.result.now)) (kinds.generic_for (c.as_slice-in-GenericFor.result.now) (c.as_slice-in-GenericFor-2.result.now) (c.get-in-GenericFor.result.now)) refl c.generic_for.ensures)
