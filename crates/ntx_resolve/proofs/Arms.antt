@@ -43,4 +43,3 @@ IsOperation all s o c = (c.operator ≡ o.operator) × IsExp all s o.operand c.o
 pub in_var : {e e2 : tree-var.Var} {old new : State} {r : Result Var (Fail SyntaxFault)} → e ≡ e2
     → Resolves (excess_of_var e2) (λ s all c. IsVar all s e2 c) old r new → Resolves (excess_of_var e) (λ s all c. IsVar all s e c) old r new
 in_var {old = old} {new = new} {r = r} is h = subst (λ e. Resolves (excess_of_var e) (λ s all c. IsVar all s e c) old r new) (sym is) h
-

@@ -28,5 +28,5 @@ pushed {f = f} {k = k} {old = old} {middle = middle} new (went none grows stay h
     let more : Grows middle.functions new.functions = (f ∷ [], same) in
     went none (longer old.functions middle.functions new.functions grows more) (scope ∙ stay)
     (λ all further.
-        let is = holds all (longer middle.functions new.functions all more further) in
-        function (ap (slice_get all) at ∙ stands_at middle.functions f all (subst (λ fs. Grows fs all) same further)) is.0 is.1.1)
+    let is = holds all (longer middle.functions new.functions all more further) in
+    function (ap (slice_get all) at ∙ stands_at middle.functions f all (subst (λ fs. Grows fs all) same further)) is.0 is.1.1)

@@ -18,9 +18,10 @@ use Rattle.ntx_resolve.proofs.Resolving.{stays}
 pub accepted : {chunk : Chunk} {c : Block} {new : State} (start : State) → start.scope ≡ outermost
     → Leaves (excess_of_block chunk.block (locals start.scope)) (λ s all c t. IsBlock all s chunk.block c t) start (Ok c) new
     → Resolved chunk (Ok (record { functions = new.functions; block = c }))
-accepted {chunk = chunk} {c = c} {new = new} start first (left none grows holds) =
-    (ap (λ s. excess_of_block chunk.block (locals s)) (sym first) ∙ none,
-    record { after = new.scope; is = subst (λ s. IsBlock new.functions s chunk.block c new.scope) first (holds new.functions (stays new.functions)) })
+accepted {chunk = chunk} {c = c} {new = new} start first (left none grows holds) = (
+  ap (λ s. excess_of_block chunk.block (locals s)) (sym first) ∙ none,
+  record { after = new.scope; is = subst (λ s. IsBlock new.functions s chunk.block c new.scope) first (holds new.functions (stays new.functions)) },
+)
 
 refused_with : {chunk : Chunk} {e : Fail SyntaxFault} {new : State} (start : State) → start.scope ≡ outermost
     → Leaves (excess_of_block chunk.block (locals start.scope)) (λ s all c t. IsBlock all s chunk.block c t) start (Err e) new → Resolved chunk (Err e)

@@ -23,16 +23,12 @@ use ntx_syntax::SyntaxFault;
 use sqlite_items::{Boxed, Items};
 use std::alloc::Global;
 
-impl<
+impl<'a, B: Fn(Global, &mut State, &tree::Block) -> Result<Block, Fail<SyntaxFault>>> Resolver<
     'a,
-    B: Fn(Global, &mut State, &tree::Block) -> Result<Block, Fail<SyntaxFault>>,
-> Resolver<'a, B> {
+    B,
+> {
     /// What is assigned to.
-    fn vars(
-        &self,
-        state: &mut State,
-        vars: &[tree::Var],
-    ) -> Result<Items<Var>, Fail<SyntaxFault>>
+    fn vars(&self, state: &mut State, vars: &[tree::Var]) -> Result<Items<Var>, Fail<SyntaxFault>>
         requires blocks { Blocks (size-Block self.now.within.now) (B.pre self.now.block) (B.post self.now.block) }
         requires small { most size-Var vars.now < size-Block self.now.within.now }
         ensures { Resolves (limit.excess_of_vars vars.now) (λ s all c. code.IsVars all s vars.now c) state.old result state.new }
@@ -45,11 +41,7 @@ impl<
     }
 
     /// A variable that is assigned to.
-    fn var(
-        &self,
-        state: &mut State,
-        var: &tree::Var,
-    ) -> Result<Var, Fail<SyntaxFault>>
+    fn var(&self, state: &mut State, var: &tree::Var) -> Result<Var, Fail<SyntaxFault>>
         requires blocks { Blocks (size-Block self.now.within.now) (B.pre self.now.block) (B.post self.now.block) }
         requires small { size-Var var.now < size-Block self.now.within.now }
         ensures { Resolves (limit.excess_of_var var.now) (λ s all c. code.IsVar all s var.now c) state.old result state.new }
@@ -89,11 +81,7 @@ impl<
     }
 
     /// `call`
-    pub fn call(
-        &self,
-        state: &mut State,
-        call: &tree::Call,
-    ) -> Result<StatKind, Fail<SyntaxFault>>
+    pub fn call(&self, state: &mut State, call: &tree::Call) -> Result<StatKind, Fail<SyntaxFault>>
         requires blocks { Blocks (size-Block self.now.within.now) (B.pre self.now.block) (B.post self.now.block) }
         requires small { size-Call call.now < size-Block self.now.within.now }
         ensures { Resolves (limit.excess_of_call call.now) (λ s all c. code.IsKind all s (stat.Call call.now) c s) state.old result state.new }

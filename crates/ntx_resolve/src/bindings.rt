@@ -22,10 +22,10 @@ use ntx_syntax as tree;
 use ntx_syntax::{FunctionBody, LocalName, Name, SyntaxFault};
 use std::alloc::Global;
 
-impl<
+impl<'a, B: Fn(Global, &mut State, &tree::Block) -> Result<Block, Fail<SyntaxFault>>> Resolver<
     'a,
-    B: Fn(Global, &mut State, &tree::Block) -> Result<Block, Fail<SyntaxFault>>,
-> Resolver<'a, B> {
+    B,
+> {
     /// `function Name {. Name} body`
     pub fn function_stat(
         &self,

@@ -22,9 +22,10 @@ use ntx_syntax::{StatKind as Kind, SyntaxFault};
 use sqlite_items::Items;
 use std::alloc::Global;
 
-impl<'a, B: Fn(Global, &mut State, &tree::Block) -> Result<Block, Fail<SyntaxFault>>>
-    Resolver<'a, B>
-{
+impl<'a, B: Fn(Global, &mut State, &tree::Block) -> Result<Block, Fail<SyntaxFault>>> Resolver<
+    'a,
+    B,
+> {
     /// The block in which all that is resolved lies. Its names stay in scope.
     pub fn resolve(&self, state: &mut State) -> Result<Block, Fail<SyntaxFault>>
         requires blocks { Blocks (size-Block self.now.within.now) (B.pre self.now.block) (B.post self.now.block) }
@@ -91,11 +92,7 @@ impl<'a, B: Fn(Global, &mut State, &tree::Block) -> Result<Block, Fail<SyntaxFau
     }
 
     /// What a statement is.
-    fn kind(
-        &self,
-        state: &mut State,
-        kind: &Kind,
-    ) -> Result<StatKind, Fail<SyntaxFault>>
+    fn kind(&self, state: &mut State, kind: &Kind) -> Result<StatKind, Fail<SyntaxFault>>
         requires blocks { Blocks (size-Block self.now.within.now) (B.pre self.now.block) (B.post self.now.block) }
         requires small { size-StatKind kind.now < size-Block self.now.within.now }
         ensures { Leaves ((limit.of_kind kind.now).excess (scopes.locals state.old.scope)) (λ s all c t. IsCounted all s kind.now c t) state.old result state.new }

@@ -21,9 +21,10 @@ use ntx_syntax::SyntaxFault;
 use sqlite_items::Items;
 use std::alloc::Global;
 
-impl<'a, B: Fn(Global, &mut State, &tree::Block) -> Result<Block, Fail<SyntaxFault>>>
-    Resolver<'a, B>
-{
+impl<'a, B: Fn(Global, &mut State, &tree::Block) -> Result<Block, Fail<SyntaxFault>>> Resolver<
+    'a,
+    B,
+> {
     /// `do block end`
     pub fn do_block(
         &self,
@@ -39,11 +40,7 @@ impl<'a, B: Fn(Global, &mut State, &tree::Block) -> Result<Block, Fail<SyntaxFau
     }
 
     /// `exp then block`
-    fn arm(
-        &self,
-        state: &mut State,
-        arm: &tree::IfArm,
-    ) -> Result<IfArm, Fail<SyntaxFault>>
+    fn arm(&self, state: &mut State, arm: &tree::IfArm) -> Result<IfArm, Fail<SyntaxFault>>
         requires blocks { Blocks (size-Block self.now.within.now) (B.pre self.now.block) (B.post self.now.block) }
         requires small { size-IfArm arm.now < size-Block self.now.within.now }
         ensures { Resolves (limit.excess_of_arm arm.now (scopes.locals state.old.scope)) (λ s all c. IsArm all s arm.now c) state.old result state.new }

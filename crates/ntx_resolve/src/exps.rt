@@ -21,17 +21,13 @@ use ntx_syntax::SyntaxFault;
 use sqlite_items::{Boxed, Items};
 use std::alloc::Global;
 
-impl<
+impl<'a, B: Fn(Global, &mut State, &tree::Block) -> Result<Block, Fail<SyntaxFault>>> Resolver<
     'a,
-    B: Fn(Global, &mut State, &tree::Block) -> Result<Block, Fail<SyntaxFault>>,
-> Resolver<'a, B> {
+    B,
+> {
     /// An expression.
     #[cycle(exps)]
-    pub fn exp(
-        &self,
-        state: &mut State,
-        exp: &tree::Exp,
-    ) -> Result<Exp, Fail<SyntaxFault>>
+    pub fn exp(&self, state: &mut State, exp: &tree::Exp) -> Result<Exp, Fail<SyntaxFault>>
         requires blocks { Blocks (size-Block self.now.within.now) (B.pre self.now.block) (B.post self.now.block) }
         requires small { size-Exp exp.now < size-Block self.now.within.now }
         ensures { Resolves (limit.excess_of_exp exp.now) (λ s all c. code.IsExp all s exp.now c) state.old result state.new }

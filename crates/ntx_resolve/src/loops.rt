@@ -23,9 +23,10 @@ use sqlite_items::Boxed;
 use std::alloc::Global;
 use std::slice;
 
-impl<'a, B: Fn(Global, &mut State, &tree::Block) -> Result<Block, Fail<SyntaxFault>>>
-    Resolver<'a, B>
-{
+impl<'a, B: Fn(Global, &mut State, &tree::Block) -> Result<Block, Fail<SyntaxFault>>> Resolver<
+    'a,
+    B,
+> {
     /// `while exp do block end`
     pub fn while_loop(
         &self,

@@ -22,17 +22,13 @@ use ntx_syntax::SyntaxFault;
 use sqlite_items::{Boxed, Items};
 use std::alloc::Global;
 
-impl<
+impl<'a, B: Fn(Global, &mut State, &tree::Block) -> Result<Block, Fail<SyntaxFault>>> Resolver<
     'a,
-    B: Fn(Global, &mut State, &tree::Block) -> Result<Block, Fail<SyntaxFault>>,
-> Resolver<'a, B> {
+    B,
+> {
     /// What a prefix begins with.
     #[cycle(exps)]
-    pub fn head(
-        &self,
-        state: &mut State,
-        head: &tree::Head,
-    ) -> Result<Head, Fail<SyntaxFault>>
+    pub fn head(&self, state: &mut State, head: &tree::Head) -> Result<Head, Fail<SyntaxFault>>
         requires blocks { Blocks (size-Block self.now.within.now) (B.pre self.now.block) (B.post self.now.block) }
         requires small { size-Head head.now < size-Block self.now.within.now }
         ensures { Resolves (limit.excess_of_head head.now) (λ s all c. code.IsHead all s head.now c) state.old result state.new }
@@ -69,11 +65,7 @@ impl<
 
     /// An index, a field or the arguments of a call.
     #[cycle(exps)]
-    fn suffix(
-        &self,
-        state: &mut State,
-        suffix: &tree::Suffix,
-    ) -> Result<Suffix, Fail<SyntaxFault>>
+    fn suffix(&self, state: &mut State, suffix: &tree::Suffix) -> Result<Suffix, Fail<SyntaxFault>>
         requires blocks { Blocks (size-Block self.now.within.now) (B.pre self.now.block) (B.post self.now.block) }
         requires small { size-Suffix suffix.now < size-Block self.now.within.now }
         ensures { Resolves (limit.excess_of_suffix suffix.now) (λ s all c. code.IsSuffix all s suffix.now c) state.old result state.new }

@@ -30,15 +30,12 @@ pub struct Resolver<'a, B> {
     pub block: B,
 }
 
-impl<'a, B: Fn(Global, &mut State, &tree::Block) -> Result<Block, Fail<SyntaxFault>>>
-    Resolver<'a, B>
-{
+impl<'a, B: Fn(Global, &mut State, &tree::Block) -> Result<Block, Fail<SyntaxFault>>> Resolver<
+    'a,
+    B,
+> {
     /// A block. Its names stay in scope.
-    pub fn block(
-        &self,
-        state: &mut State,
-        block: &tree::Block,
-    ) -> Result<Block, Fail<SyntaxFault>>
+    pub fn block(&self, state: &mut State, block: &tree::Block) -> Result<Block, Fail<SyntaxFault>>
         requires blocks { Blocks (size-Block self.now.within.now) (B.pre self.now.block) (B.post self.now.block) }
         requires small { size-Block block.now < size-Block self.now.within.now }
         ensures { Leaves (limit.excess_of_block block.now (scopes.locals state.old.scope)) (λ s all c t. code.IsBlock all s block.now c t) state.old result state.new }
@@ -63,11 +60,7 @@ impl<'a, B: Fn(Global, &mut State, &tree::Block) -> Result<Block, Fail<SyntaxFau
     }
 
     /// A function with this body.
-    fn body(
-        &self,
-        state: &mut State,
-        body: &FunctionBody,
-    ) -> Result<Function, Fail<SyntaxFault>>
+    fn body(&self, state: &mut State, body: &FunctionBody) -> Result<Function, Fail<SyntaxFault>>
         requires blocks { Blocks (size-Block self.now.within.now) (B.pre self.now.block) (B.post self.now.block) }
         requires small { size-FunctionBody body.now < size-Block self.now.within.now }
         ensures { Resolves (limit.excess_of_body body.now) (λ s all f. HasBody all s body.now f) state.old result state.new }
@@ -84,11 +77,7 @@ impl<'a, B: Fn(Global, &mut State, &tree::Block) -> Result<Block, Fail<SyntaxFau
     }
 
     /// The number of a function that is made in this scope.
-    pub fn function(
-        &self,
-        state: &mut State,
-        body: &FunctionBody,
-    ) -> Result<u64, Fail<SyntaxFault>>
+    pub fn function(&self, state: &mut State, body: &FunctionBody) -> Result<u64, Fail<SyntaxFault>>
         requires blocks { Blocks (size-Block self.now.within.now) (B.pre self.now.block) (B.post self.now.block) }
         requires small { size-FunctionBody body.now < size-Block self.now.within.now }
         ensures { Resolves (limit.excess_of_body body.now) (λ s all k. code.IsFunction all s body.now k) state.old result state.new }

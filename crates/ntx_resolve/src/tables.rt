@@ -20,10 +20,10 @@ use ntx_syntax::SyntaxFault;
 use sqlite_items::Items;
 use std::alloc::Global;
 
-impl<
+impl<'a, B: Fn(Global, &mut State, &tree::Block) -> Result<Block, Fail<SyntaxFault>>> Resolver<
     'a,
-    B: Fn(Global, &mut State, &tree::Block) -> Result<Block, Fail<SyntaxFault>>,
-> Resolver<'a, B> {
+    B,
+> {
     /// The fields of a table.
     #[cycle(exps)]
     pub fn fields(
@@ -44,11 +44,7 @@ impl<
 
     /// A field of a table.
     #[cycle(exps)]
-    fn field(
-        &self,
-        state: &mut State,
-        field: &tree::Field,
-    ) -> Result<Field, Fail<SyntaxFault>>
+    fn field(&self, state: &mut State, field: &tree::Field) -> Result<Field, Fail<SyntaxFault>>
         requires blocks { Blocks (size-Block self.now.within.now) (B.pre self.now.block) (B.post self.now.block) }
         requires small { size-Field field.now < size-Block self.now.within.now }
         ensures { Resolves (limit.excess_of_field field.now) (λ s all c. code.IsField all s field.now c) state.old result state.new }

@@ -57,7 +57,11 @@ fn in_a_block(alloc: Global, first: &[u8], names: &[u8]) -> Result<Chunk, AllocE
 
 #[test]
 fn blocks_that_end(rt: HostRuntime) -> Result<(), test::Fail> {
-    refuses(&rt, &after_a_block(rt.alloc(), &[b'a'; 200], &[b'b'; 200])?, 0);
+    refuses(
+        &rt,
+        &after_a_block(rt.alloc(), &[b'a'; 200], &[b'b'; 200])?,
+        0,
+    );
     refuses(&rt, &in_a_block(rt.alloc(), &[b'a'; 198], b"bc")?, 0);
     refuses(&rt, &in_a_block(rt.alloc(), &[b'a'; 198], b"bcd")?, 3);
     Ok(())
@@ -77,8 +81,20 @@ fn in_a_function(
 
 #[test]
 fn functions_count_their_own(rt: HostRuntime) -> Result<(), test::Fail> {
-    refuses(&rt, &in_a_function(rt.alloc(), &[b'a'; 200], &[b'p'; 200], b"")?, 0);
-    refuses(&rt, &in_a_function(rt.alloc(), b"", &[b'p'; 201], b"")?, 201);
-    refuses(&rt, &in_a_function(rt.alloc(), b"", &[b'p'; 199], b"ab")?, 2);
+    refuses(
+        &rt,
+        &in_a_function(rt.alloc(), &[b'a'; 200], &[b'p'; 200], b"")?,
+        0,
+    );
+    refuses(
+        &rt,
+        &in_a_function(rt.alloc(), b"", &[b'p'; 201], b"")?,
+        201,
+    );
+    refuses(
+        &rt,
+        &in_a_function(rt.alloc(), b"", &[b'p'; 199], b"ab")?,
+        2,
+    );
     Ok(())
 }

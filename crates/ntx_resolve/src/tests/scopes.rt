@@ -138,6 +138,10 @@ fn three_functions(alloc: Global) -> Result<Chunk, AllocError> {
 
 #[test]
 fn upvalues(rt: HostRuntime) -> Result<(), test::Fail> {
-    shows(&rt, &three_functions(rt.alloc())?, b"L0L1U0U2U4L0GU5L0L1L0L1");
+    shows(
+        &rt,
+        &three_functions(rt.alloc())?,
+        b"L0L1U0U2U4L0GU5L0L1L0L1",
+    );
     Ok(())
 }

@@ -30,6 +30,8 @@ returns-in_err-copied_locals g c = no_memory_there _ c.from_residual-in_err-copi
 
 pub returns : goal.returns
 returns g c = allowed_there c.in_ok-has_room_for.ensures.allows (declared _ c.args.names.now c.in_ok-values.ensures refl c.in_ok-declare.ensures
-    (λ all is. (counted (stat.Local c.args.names.now c.args.values.now) c.args.state.now.scope c.args.names.now c.in_ok-has_room_for.ensures.within (kinds.local c.args.names.now c.args.values.now) refl,
-    subst (λ z. code.IsKind all c.args.state.now.scope (stat.Local c.args.names.now c.args.values.now) (code-stat.Local z c.in_ok-values.values) (scopes.declare c.args.state.now.scope c.args.names.now)) (sym c.in_ok-copied_locals.ensures)
-    (code.local is))))
+    (λ all is. (
+      counted (stat.Local c.args.names.now c.args.values.now) c.args.state.now.scope c.args.names.now c.in_ok-has_room_for.ensures.within (kinds.local c.args.names.now c.args.values.now) refl,
+      subst (λ z. code.IsKind all c.args.state.now.scope (stat.Local c.args.names.now c.args.values.now) (code-stat.Local z c.in_ok-values.values) (scopes.declare c.args.state.now.scope c.args.names.now)) (sym c.in_ok-copied_locals.ensures)
+          (code.local is),
+    )))

@@ -30,6 +30,8 @@ returns-in_err-copied_local g c = no_memory_there _ c.from_residual-in_err-copie
 
 pub returns : goal.returns
 returns g c = allowed_there c.in_ok-has_room_for_one.ensures.allows (declared_first (c.args.name.now ∷ []) refl c.in_ok-declare_one.ensures c.in_ok-number.ensures
-    (λ all is. (counted (stat.LocalFunction c.args.name.now c.args.body.now) c.args.state.now.scope (c.args.name.now ∷ []) c.in_ok-has_room_for_one.ensures.within (kinds.local_function c.args.name.now c.args.body.now) refl,
-    subst (λ z. code.IsKind all c.args.state.now.scope (stat.LocalFunction c.args.name.now c.args.body.now) (code-stat.LocalFunction z c.in_ok-number.number) (scopes.declare c.args.state.now.scope (c.args.name.now ∷ []))) (sym c.in_ok-copied_local.ensures)
-    (code.local_function is))))
+    (λ all is. (
+      counted (stat.LocalFunction c.args.name.now c.args.body.now) c.args.state.now.scope (c.args.name.now ∷ []) c.in_ok-has_room_for_one.ensures.within (kinds.local_function c.args.name.now c.args.body.now) refl,
+      subst (λ z. code.IsKind all c.args.state.now.scope (stat.LocalFunction c.args.name.now c.args.body.now) (code-stat.LocalFunction z c.in_ok-number.number) (scopes.declare c.args.state.now.scope (c.args.name.now ∷ []))) (sym c.in_ok-copied_local.ensures)
+          (code.local_function is),
+    )))
