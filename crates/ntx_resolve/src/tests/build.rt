@@ -11,6 +11,15 @@ pub fn name(alloc: Global, letter: u8) -> Result<Name, AllocError> {
     Items::from_slice(alloc, &[letter])
 }
 
+/// The same letter, so many times.
+pub fn many(alloc: Global, letter: u8, count: u64) -> Result<Vec<u8>, AllocError> {
+    let mut letters = Vec::new(alloc);
+    for _ in 0..count {
+        letters.push(letter)?;
+    }
+    Ok(letters)
+}
+
 /// A name that is declared in this line.
 pub fn local_name(alloc: Global, letter: u8, line: u64) -> Result<LocalName, AllocError> {
     Ok(LocalName {
