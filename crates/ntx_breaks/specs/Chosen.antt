@@ -1,11 +1,11 @@
 -- The breaks that are chosen ("TeX: The Program", sections 863, 864 and 873 to 875).
 --     found_in params items pass        the states of a whole pass, and whether the artificial rule gave a line, and one beyond the threshold
---     chosen items states               the state at the end with the least total, the first of equal ones
+--     chosen end states                 the state at the end with the least total, the first of equal ones
 --     chain_of states state             where the lines that lead to a state end
 --     answer_of params items pass       what a pass comes to, if it has a state at the end
 --     breaks_of params items            what the first pass that has one comes to
 use Rattle.std.specs.Prelude.{ℕ, zero, suc, ◌+◌, nat_eq, ℤ, int_lt, Bool, false, ◌&&◌, ◌||◌, not, if◌then◌else◌, Option, Some, None, List, [], ◌∷◌, ◌++◌, length, take, slice_index, slice_index_or}
-use Rattle.std.specs.List.{filter, fold, list_all}
+use Rattle.std.specs.List.{filter, fold, list_any}
 use Rattle.ntx_item.specs.declared.item.Item.{Item}
 use Rattle.ntx_item.specs.Settings.{Settings}
 use Rattle.ntx_legal.specs.Places.{places_of}
@@ -26,12 +26,15 @@ pub record Found : Type 0 where
   pub artificial : Bool
   pub last_resort : Bool
 
+abbrev pub is_last_resort : Pass → Bool → List Way → Bool
+is_last_resort pass rescued ways = rescued && not (list_any (is_wanted pass) (last_way ways))
+
 -- the states with those that these lines make at a place
 abbrev pub found_with : Settings → List Item → Pass → ℕ → List Way → Bool → Found → Found
 found_with params items pass to ways rescued found = record {
   states = add_states params (candidates_at params items pass to rescued ways) found.states;
   artificial = found.artificial || rescued;
-  last_resort = found.last_resort || rescued && not (list_all (is_wanted pass) (last_way ways));
+  last_resort = found.last_resort || is_last_resort pass rescued ways;
 }
 
 abbrev pub found_at : Settings → List Item → Pass → List ℕ → ℕ → Found → Found
@@ -54,8 +57,8 @@ abbrev pub first_lesser : Option State → State → Option State
 first_lesser None state = Some state
 first_lesser (Some best) state = if int_lt state.total best.total then Some state else Some best
 
-abbrev pub chosen : List Item → List State → Option State
-chosen items states = fold first_lesser None (filter (λ (s : State). nat_eq s.place (length items + 1)) states)
+abbrev pub chosen : ℕ → List State → Option State
+chosen end states = fold first_lesser None (filter (λ (s : State). nat_eq s.place end) states)
 
 -- in at most so many steps back
 abbrev pub chain_back : List State → ℕ → State → List ℕ
@@ -96,7 +99,7 @@ answer_with pass found (Some state) = Some (record {
 })
 
 abbrev pub answer_of : Settings → List Item → Pass → Option Answer
-answer_of params items pass = let found = found_in params items pass in answer_with pass found (chosen items found.states)
+answer_of params items pass = let found = found_in params items pass in answer_with pass found (chosen (length items + 1) found.states)
 
 abbrev pub or_else : Option Answer → Option Answer → Option Answer
 or_else None later = later

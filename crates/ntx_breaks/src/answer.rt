@@ -1,8 +1,19 @@
 //! The breaks that are chosen ("TeX: The Program", sections 863, 864 and 873 to 875).
 
+ghost use Rattle.std.specs.Prelude.{◌≡◌, length, slice_index_or};
+ghost use Rattle.std.specs.Option.{option_map};
+ghost use Rattle.ntx_num.specs.Answer.{Gives, result_map};
+ghost use Rattle.ntx_item.specs.Items.{AreItemsInRange};
+ghost use Rattle.ntx_legal.specs.Totals.{AreTotalsOf};
+ghost use Rattle.ntx_breaks.specs.States.{start_state};
+ghost use Rattle.ntx_breaks.specs.Chosen.{breaks_seen};
+ghost use Rattle.ntx_breaks.specs.Chosen as choice;
+ghost use Rattle.ntx_breaks.specs.inner.Bounds.{IsPassInRange};
+ghost use Rattle.ntx_breaks.specs.inner.Search.{found_seen};
+
 use crate::pass::Pass;
-use crate::search::found_in;
-use crate::state::State;
+use crate::search::{Search, found_in};
+use crate::state::{START, State};
 use ntx_item::{Item, Param, Params};
 use ntx_legal::{LineTotals, places};
 use ntx_num::NoMemory;
@@ -24,15 +35,19 @@ pub struct Breaks {
 }
 
 /// The one with the lesser total, the earlier one of equal ones.
-fn first_lesser(best: Option<State>, state: State) -> Option<State> {
+fn first_lesser(best: Option<State>, state: State) -> Option<State>
+    ensures { result ≡ choice.first_lesser best state }
+{
     match best {
         Some(best) if best.total <= state.total => Some(best),
         _ => Some(state),
     }
 }
 
-/// The state at the end with the least total, the first of equal ones.
-fn chosen(states: &[State], end: u64) -> Option<State> {
+/// The state at a place with the least total, the first of equal ones.
+fn chosen(states: &[State], end: u64) -> Option<State>
+    ensures { result ≡ choice.chosen end states.now }
+{
     let mut best = None;
     for state in states {
         if state.place == end {
@@ -42,15 +57,54 @@ fn chosen(states: &[State], end: u64) -> Option<State> {
     best
 }
 
-/// Where the lines that lead to a state end, the last one first.
-fn chain_back(alloc: Global, states: &[State], last: State) -> Result<Vec<u64>, NoMemory> {
+/// The state with a number, or the start if there is none.
+fn state_at(states: &[State], number: u64) -> State
+    ensures { result ≡ slice_index_or states.now number start_state }
+{
+    let number = number as usize;
+    if number < states.len() {
+        states[number]
+    } else {
+        START
+    }
+}
+
+/// Where the lines that lead to a state end.
+fn chain_of(alloc: Global, states: &[State], last: State) -> Result<Vec<u64>, NoMemory>
+    ensures { Gives (result_map (λ places. places.items) result) (choice.chain_of states.now last) }
+{
     let mut state = last;
     let mut places = Vec::new(alloc);
-    while state.place != 0 {
+    let mut steps = states.len();
+    while steps > 0 && state.place != 0 {
         places.push(state.place)?;
-        state = states[state.before as usize];
+        state = state_at(states, state.before);
+        steps -= 1;
     }
+    places.reverse();
     Ok(places)
+}
+
+/// What a pass with these states comes to, if one of them is at the end.
+fn answer_with(
+    alloc: Global,
+    pass: Pass,
+    found: &Search,
+    end: u64,
+) -> Result<Option<Breaks>, NoMemory>
+    ensures { Gives (result_map (option_map breaks_seen) result) (choice.answer_with pass (found_seen found.now) (choice.chosen end found.now.states.items)) }
+{
+    let Some(state) = chosen(&found.states, end) else {
+        return Ok(None);
+    };
+    let places = chain_of(alloc, &found.states, state)?;
+    Ok(Some(Breaks {
+        places,
+        pass: pass.number,
+        demerits: state.total,
+        artificial: found.artificial,
+        last_resort: found.last_resort,
+    }))
 }
 
 /// What a pass comes to, if it has a state at the end.
@@ -60,38 +114,37 @@ fn answer_of(
     params: &Params,
     totals: &LineTotals,
     pass: Pass,
-) -> Result<Option<Breaks>, NoMemory> {
+) -> Result<Option<Breaks>, NoMemory>
+    requires in_range { AreItemsInRange items.now }
+    requires totals { AreTotalsOf items.now totals.now }
+    requires pass { IsPassInRange pass }
+    ensures { Gives (result_map (option_map breaks_seen) result) (choice.answer_of params.now items.now pass) }
+{
     let places = places(alloc, items, params, pass.discs)?;
     let found = found_in(alloc, items, params, totals, pass, &places)?;
-    match chosen(&found.states, items.len() as u64 + 1) {
-        None => Ok(None),
-        Some(state) => {
-            let mut places = chain_back(alloc, &found.states, state)?;
-            places.reverse();
-            Ok(Some(Breaks {
-                places,
-                pass: pass.number,
-                demerits: state.total,
-                artificial: found.artificial,
-                last_resort: found.last_resort,
-            }))
-        },
-    }
+    answer_with(alloc, pass, &found, items.len() as u64 + 1)
 }
 
-/// What the passes but the final one come to.
-fn early_answer(
+/// What the first pass comes to, if there is one and it has a state at the end.
+fn first_answer(
     alloc: Global,
     items: &[Item],
     params: &Params,
     totals: &LineTotals,
 ) -> Result<Option<Breaks>, NoMemory> {
-    if params.get(Param::Pretolerance) >= 0 {
-        let first = answer_of(alloc, items, params, totals, Pass::first(params))?;
-        if first.is_some() {
-            return Ok(first);
-        }
+    if params.get(Param::Pretolerance) < 0 {
+        return Ok(None);
     }
+    answer_of(alloc, items, params, totals, Pass::first(params))
+}
+
+/// What the second pass comes to, or the third one if the second has no state at the end.
+fn later_answer(
+    alloc: Global,
+    items: &[Item],
+    params: &Params,
+    totals: &LineTotals,
+) -> Result<Option<Breaks>, NoMemory> {
     let second = answer_of(alloc, items, params, totals, Pass::second(params))?;
     if second.is_some() || params.get(Param::Emergencystretch) <= 0 {
         return Ok(second);
@@ -102,7 +155,10 @@ fn early_answer(
 /// The breaks of a paragraph with the least demerits.
 pub fn break_items(alloc: Global, items: &[Item], params: &Params) -> Result<Breaks, NoMemory> {
     let totals = LineTotals::new(alloc, items)?;
-    match early_answer(alloc, items, params, &totals)? {
+    if let Some(breaks) = first_answer(alloc, items, params, &totals)? {
+        return Ok(breaks);
+    }
+    match later_answer(alloc, items, params, &totals)? {
         Some(breaks) => Ok(breaks),
         None => Ok(Breaks {
             places: Vec::new(alloc),

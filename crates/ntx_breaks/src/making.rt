@@ -1,13 +1,14 @@
 //! How states are made at a place ("TeX: The Program", sections 835 to 855).
 
-ghost use Rattle.std.specs.Prelude.{◌≡◌, ◌<◌, ◌≤◌, ◌<ℤ◌, ℤ, pos, length, unsigned_abs, OnOk, ◌^◌};
-ghost use Rattle.std.specs.List.{All};
+ghost use Rattle.std.specs.Prelude.{◌≡◌, ◌≤◌, ◌^◌, ◌+ℤ◌, ◌<ℤ◌, pos, unsigned_abs, map, IfOk, OnOk};
+ghost use Rattle.std.specs.List.{All, filter};
 ghost use Rattle.ntx_num.specs.Answer.{Gives, result_map};
 ghost use Rattle.ntx_item.specs.Items.{AreItemsInRange};
 ghost use Rattle.ntx_legal.specs.Places.{item_at};
 ghost use Rattle.ntx_breaks.specs.Penalties.{penalty_of};
 ghost use Rattle.ntx_breaks.specs.Making as making;
-ghost use Rattle.ntx_breaks.specs.inner.Bounds.{IsWithin, IsBefore};
+ghost use Rattle.ntx_breaks.specs.States.{is_wanted};
+ghost use Rattle.ntx_breaks.specs.inner.Bounds.{most_place, IsWay, IsMade};
 
 use crate::cost::line_cost;
 use crate::pass::Pass;
@@ -18,7 +19,10 @@ use ntx_num::NoMemory;
 use std::alloc::Global;
 
 /// The state at the end of a line that adds these demerits. It has no number yet.
-fn candidate(to: u64, way: &Way, demerits: i64) -> State {
+fn candidate(to: u64, way: &Way, demerits: i64) -> State
+    requires { unsigned_abs (way.now.from.total +ℤ demerits) ≤ 2 ^ 62 }
+    ensures { result ≡ making.candidate to way.now demerits }
+{
     State {
         number: 0,
         place: to,
@@ -29,7 +33,14 @@ fn candidate(to: u64, way: &Way, demerits: i64) -> State {
 }
 
 /// The state at the end of a line.
-fn paid(items: &[Item], params: &Params, to: u64, way: &Way) -> State {
+fn paid(items: &[Item], params: &Params, to: u64, way: &Way) -> State
+    requires in_range { AreItemsInRange items.now }
+    requires to { to ≤ most_place }
+    requires legal { penalty_of params.now (item_at items.now to) <ℤ pos 10000 }
+    requires way { IsWay to way.now }
+    ensures value { result ≡ making.paid params.now items.now to way.now }
+    ensures made { IsMade to result }
+{
     let from = way.from;
     candidate(
         to,
@@ -46,7 +57,14 @@ fn all_paid(
     pass: Pass,
     to: u64,
     ways: &[Way],
-) -> Result<Vec<State>, NoMemory> {
+) -> Result<Vec<State>, NoMemory>
+    requires in_range { AreItemsInRange items.now }
+    requires to { to ≤ most_place }
+    requires legal { penalty_of params.now (item_at items.now to) <ℤ pos 10000 }
+    requires ways { All (IsWay to) ways.now }
+    ensures value { Gives (result_map (λ candidates. candidates.items) result) (map (making.paid params.now items.now to) (filter (is_wanted pass) ways.now)) }
+    ensures made { IfOk result (λ candidates. All (IsMade to) candidates.items) }
+{
     let mut candidates = Vec::new(alloc);
     for way in ways {
         if is_wanted(pass, way) {
@@ -56,17 +74,34 @@ fn all_paid(
     Ok(candidates)
 }
 
+/// The state at the end of a line, without demerits for it.
+fn free(to: u64, way: &Way) -> State
+    requires to { to ≤ most_place }
+    requires way { IsWay to way.now }
+    ensures value { result ≡ making.free to way.now }
+    ensures made { IsMade to result }
+{
+    candidate(to, way, 0)
+}
+
 /// The state at the end of each of these lines, without demerits for it.
-fn all_free(alloc: Global, to: u64, ways: &[Way]) -> Result<Vec<State>, NoMemory> {
+fn all_free(alloc: Global, to: u64, ways: &[Way]) -> Result<Vec<State>, NoMemory>
+    requires to { to ≤ most_place }
+    requires ways { All (IsWay to) ways.now }
+    ensures value { Gives (result_map (λ candidates. candidates.items) result) (map (making.free to) ways.now) }
+    ensures made { IfOk result (λ candidates. All (IsMade to) candidates.items) }
+{
     let mut candidates = Vec::new(alloc);
     for way in ways {
-        candidates.push(candidate(to, way, 0))?;
+        candidates.push(free(to, way))?;
     }
     Ok(candidates)
 }
 
 /// The last of the lines.
-pub(crate) fn last_way<'a>(ways: &'a [Way]) -> &'a [Way] {
+pub(crate) fn last_way<'a>(ways: &'a [Way]) -> &'a [Way]
+    ensures { result.now ≡ making.last_way ways.now }
+{
     if ways.is_empty() {
         return ways;
     }
@@ -82,7 +117,14 @@ pub(crate) fn candidates_at(
     to: u64,
     rescued: bool,
     ways: &[Way],
-) -> Result<Vec<State>, NoMemory> {
+) -> Result<Vec<State>, NoMemory>
+    requires in_range { AreItemsInRange items.now }
+    requires to { to ≤ most_place }
+    requires legal { penalty_of params.now (item_at items.now to) <ℤ pos 10000 }
+    requires ways { All (IsWay to) ways.now }
+    ensures value { Gives (result_map (λ candidates. candidates.items) result) (making.candidates_at params.now items.now pass to rescued ways.now) }
+    ensures made { IfOk result (λ candidates. All (IsMade to) candidates.items) }
+{
     if rescued {
         all_free(alloc, to, last_way(ways))
     } else {
@@ -143,7 +185,10 @@ fn add_class(
 }
 
 /// The greatest total of a state that is made, if this is the least one.
-fn most_total(params: &Params, least: State) -> i64 {
+fn most_total(params: &Params, least: State) -> i64
+    requires { unsigned_abs least.total ≤ 2 ^ 60 }
+    ensures { result ≡ making.most_total params.now least }
+{
     least.total + params.get(Param::Adjdemerits).abs()
 }
 
@@ -152,7 +197,10 @@ pub(crate) fn add_states(
     params: &Params,
     candidates: &[State],
     states: &mut Vec<State>,
-) -> Result<(), NoMemory> {
+) -> Result<(), NoMemory>
+    requires { All (λ state. unsigned_abs state.total ≤ 2 ^ 60) candidates.now }
+    ensures { OnOk result (states.new.items ≡ making.add_states params.now candidates.now states.old.items) }
+{
     if let Some(least) = least_of(candidates) {
         let most = most_total(params, least);
         add_class(states, most, candidates, 0)?;

@@ -1,13 +1,13 @@
 //! The lines from states to a place ("TeX: The Program", sections 829 and 851 to 855).
 
-ghost use Rattle.std.specs.Prelude.{◌≡◌, ◌<◌, ◌≤◌, ◌+◌, ◌^◌, ◌≤ℤ◌, ◌<ℤ◌, pos, map, not, length};
+ghost use Rattle.std.specs.Prelude.{◌≡◌, ◌<◌, ◌≤◌, ◌+◌, map, not, length, IfOk};
 ghost use Rattle.std.specs.List.{All, filter, list_all, list_any};
 ghost use Rattle.ntx_num.specs.Answer.{Gives, result_map};
 ghost use Rattle.ntx_item.specs.Items.{AreItemsInRange};
 ghost use Rattle.ntx_legal.specs.Totals.{AreTotalsOf};
 ghost use Rattle.ntx_breaks.specs.States as states;
 ghost use Rattle.ntx_breaks.specs.Making as making;
-ghost use Rattle.ntx_breaks.specs.inner.Bounds.{IsBefore, IsPassInRange};
+ghost use Rattle.ntx_breaks.specs.inner.Bounds.{IsBefore, IsWay, IsPassInRange};
 
 use crate::pass::Pass;
 use crate::state::State;
@@ -55,7 +55,7 @@ fn way_to(
     requires totals { AreTotalsOf items.now totals.now }
     requires order { from.place < to }
     requires to { to ≤ length items.now + 1 }
-    requires extra { (pos 0 ≤ℤ pass.extra) × (pass.extra <ℤ pos (2 ^ 30)) }
+    requires pass { IsPassInRange pass }
     ensures { result ≡ states.way_to params.now items.now pass to from }
 {
     let line = totals.line(items, params, from.place, to, pass.extra);
@@ -77,7 +77,8 @@ pub(crate) fn ways_to(
     requires before { All (IsBefore to) live.now }
     requires to { to ≤ length items.now + 1 }
     requires pass { IsPassInRange pass }
-    ensures { Gives (result_map (λ ways. ways.items) result) (map (states.way_to params.now items.now pass to) live.now) }
+    ensures value { Gives (result_map (λ ways. ways.items) result) (map (states.way_to params.now items.now pass to) live.now) }
+    ensures in_range { IfOk result (λ ways. All (IsWay to) ways.items) }
 {
     let mut ways = Vec::new(alloc);
     for from in live {
