@@ -7,7 +7,7 @@ ghost use Rattle.ntx_item.specs.Items.{AreItemsInRange};
 ghost use Rattle.ntx_legal.specs.Totals.{AreTotalsOf};
 ghost use Rattle.ntx_breaks.specs.States as states;
 ghost use Rattle.ntx_breaks.specs.Making as making;
-ghost use Rattle.ntx_breaks.specs.inner.Bounds.{IsBefore, IsWay, IsPassInRange};
+ghost use Rattle.ntx_breaks.specs.inner.Bounds.{IsBefore, IsWay, IsLineInRange, IsPassInRange};
 
 use crate::pass::Pass;
 use crate::state::State;
@@ -56,7 +56,8 @@ fn way_to(
     requires order { from.place < to }
     requires to { to ≤ length items.now + 1 }
     requires pass { IsPassInRange pass }
-    ensures { result ≡ states.way_to params.now items.now pass to from }
+    ensures value { result ≡ states.way_to params.now items.now pass to from }
+    ensures in_range { IsLineInRange result.line }
 {
     let line = totals.line(items, params, from.place, to, pass.extra);
     Way { from, line }

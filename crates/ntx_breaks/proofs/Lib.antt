@@ -1,0 +1,6 @@
+pub mod CostLemmas
+pub mod LineLemmas
+pub mod FilterLemmas
+pub mod MakingLemmas
+pub mod SearchLemmas
+pub mod PlaceLemmas
