@@ -1,11 +1,12 @@
 -- How great the demerits of a line can be.
 use Rattle.std.proofs.Common.{◌≡◌, ℕ, suc, ◌+◌, ◌*◌, ◌<◌, ◌≤◌, ℤ, pos, negsuc, ◌+ℤ◌, ◌*ℤ◌, Bool, true, false, cond, refl, arith}
-use Rattle.std.specs.Prelude.{nat_lt, neg_ℤ, ◌<ℤ◌}
+use Rattle.std.specs.Prelude.{nat_lt, int_lt, neg_ℤ, ◌<ℤ◌}
 use Rattle.std.specs.Int.RustNames.{unsigned_abs}
 use Rattle.std.proofs.lemmas.Int.{ints, unsigned_abs-mul}
 use Rattle.std.proofs.lemmas.Bool.Decides.{nat_tests}
 use Rattle.std.proofs.lemmas.Nat.{mul-le}
 use Rattle.ntx_num.specs.Demerits.{capped_square, signed_square, demerits_of}
+use Rattle.ntx_breaks.specs.Penalties.{forcing, at_least_forcing}
 
 small_square : (n : ℕ) → n < 10000 → n * n ≤ 100000000
 small_square n lt = let le : n ≤ 10000 = omega arith in let square : n * n ≤ 10000 * 10000 = mul-le n n 10000 10000 le le in omega arith
@@ -34,3 +35,10 @@ absolute_sum a b = omega (arith, ints)
 pub demerits_bound : (linepenalty b p : ℤ) → p <ℤ pos 10000 → unsigned_abs (demerits_of linepenalty b p) ≤ 200000000
 demerits_bound linepenalty b p h =
     omega (arith, absolute_sum (capped_square (linepenalty +ℤ b)) (signed_square p), square_bound (linepenalty +ℤ b), penalty_bound p h)
+
+either : (P : ℤ → Type 0) (b : Bool) (x y : ℤ) → P x → P y → P (cond b x y)
+either P true x y p q = p
+either P false x y p q = q
+
+pub below_forbidding : (p : ℤ) → p <ℤ pos 10000 → at_least_forcing p <ℤ pos 10000
+below_forbidding p h = either (λ z. z <ℤ pos 10000) (int_lt p forcing) forcing p (omega (arith, ints)) h

@@ -10,8 +10,8 @@ ghost use Rattle.ntx_breaks.specs.States.{falls, way_to};
 ghost use Rattle.ntx_breaks.specs.Penalties.{penalty_of};
 ghost use Rattle.ntx_breaks.specs.Making as making;
 ghost use Rattle.ntx_breaks.specs.Chosen as chosen;
-ghost use Rattle.ntx_breaks.specs.inner.Bounds.{IsPassInRange, IsWay, most_place};
-ghost use Rattle.ntx_breaks.specs.inner.Search.{ArePlaces, IsSound, found_seen};
+ghost use Rattle.ntx_breaks.specs.inner.Bounds.{IsPassInRange, IsWay, IsMade, most_place};
+ghost use Rattle.ntx_breaks.specs.inner.Search.{ArePlaces, IsSound, Extends, found_seen};
 
 use crate::making::{add_states, candidates_at, last_way};
 use crate::pass::Pass;
@@ -97,6 +97,7 @@ impl Search {
         requires legal { penalty_of params.now (item_at items.now to) <ℤ pos 10000 }
         requires ways { All (IsWay to) ways.now }
         ensures seen { OnOk result (found_seen self.new ≡ chosen.found_with params.now items.now pass to ways.now (making.is_rescued pass forced ways.now) (found_seen self.old)) }
+        ensures made { OnOk result (Extends (IsMade to) self.old.states.items self.new.states.items) }
         ensures live { OnOk result (self.new.live.items ≡ map (λ way. way.from) (filter (λ way. not (falls forced way)) ways.now) ++ drop (length self.old.states.items) self.new.states.items) }
     {
         let rescued = is_rescued(pass, forced, ways);

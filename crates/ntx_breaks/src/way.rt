@@ -1,13 +1,13 @@
 //! The lines from states to a place ("TeX: The Program", sections 829 and 851 to 855).
 
-ghost use Rattle.std.specs.Prelude.{◌≡◌, ◌<◌, ◌≤◌, ◌+◌, map, not, length, IfOk};
+ghost use Rattle.std.specs.Prelude.{◌≡◌, ◌≤◌, ◌+◌, map, not, length, IfOk};
 ghost use Rattle.std.specs.List.{All, filter, list_all, list_any};
 ghost use Rattle.ntx_num.specs.Answer.{Gives, result_map};
 ghost use Rattle.ntx_item.specs.Items.{AreItemsInRange};
 ghost use Rattle.ntx_legal.specs.Totals.{AreTotalsOf};
 ghost use Rattle.ntx_breaks.specs.States as states;
 ghost use Rattle.ntx_breaks.specs.Making as making;
-ghost use Rattle.ntx_breaks.specs.inner.Bounds.{IsBefore, IsWay, IsLineInRange, IsPassInRange};
+ghost use Rattle.ntx_breaks.specs.inner.Bounds.{IsBefore, IsWay, IsPassInRange};
 
 use crate::pass::Pass;
 use crate::state::State;
@@ -53,11 +53,11 @@ fn way_to(
 ) -> Way
     requires in_range { AreItemsInRange items.now }
     requires totals { AreTotalsOf items.now totals.now }
-    requires order { from.place < to }
+    requires before { IsBefore to from }
     requires to { to ≤ length items.now + 1 }
     requires pass { IsPassInRange pass }
     ensures value { result ≡ states.way_to params.now items.now pass to from }
-    ensures in_range { IsLineInRange result.line }
+    ensures way { IsWay to result }
 {
     let line = totals.line(items, params, from.place, to, pass.extra);
     Way { from, line }

@@ -1,5 +1,5 @@
 -- What is known of a pass between two places.
-use Rattle.std.specs.Prelude.{◌≡◌, ℕ, ◌+◌, ◌<◌, ◌≤◌, pos, ◌<ℤ◌, List, length, take, slice_index_or}
+use Rattle.std.specs.Prelude.{◌≡◌, ℕ, ◌+◌, ◌<◌, ◌≤◌, pos, ◌<ℤ◌, List, ◌++◌, length, take, slice_index_or}
 use Rattle.std.specs.List.{All, AllPairs}
 use Rattle.ntx_item.specs.declared.item.Item.{Item}
 use Rattle.ntx_item.specs.Settings.{Settings}
@@ -24,6 +24,12 @@ pub record ArePlaces (params : Settings) (items : List Item) (places : List ℕ)
 
 abbrev pub found_seen : Search → Found
 found_seen s = record { states = s.states.items; artificial = s.artificial; last_resort = s.last_resort }
+
+-- a list of states with further ones behind it
+pub record Extends (P : State → Type 0) (states more : List State) : Type 0 where
+  pub made : List State
+  pub is : more ≡ states ++ made
+  pub each : All P made
 
 -- a state stands before the places that come after the first n
 pub record IsBeforeRest (places : List ℕ) (n : ℕ) (state : State) : Type 0 where
