@@ -4,3 +4,4 @@ pub mod FilterLemmas
 pub mod MakingLemmas
 pub mod SearchLemmas
 pub mod PlaceLemmas
+pub mod ChainLemmas

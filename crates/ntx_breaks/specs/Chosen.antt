@@ -3,8 +3,9 @@
 --     chosen end states                 the state at the end with the least total, the first of equal ones
 --     chain_of states state             where the lines that lead to a state end
 --     answer_of params items pass       what a pass comes to, if it has a state at the end
---     breaks_of params items            what the first pass that has one comes to
-use Rattle.std.specs.Prelude.{ℕ, zero, suc, ◌+◌, nat_eq, ℤ, int_lt, Bool, false, ◌&&◌, ◌||◌, not, if◌then◌else◌, Option, Some, None, List, [], ◌∷◌, ◌++◌, length, take, slice_index, slice_index_or}
+--     breaks_of params items            what the first pass that has one comes to; a final pass always has one
+use Rattle.std.specs.Prelude.{ℕ, zero, suc, ◌+◌, nat_eq, ℤ, pos, int_lt, Bool, false, ◌&&◌, ◌||◌, not, if◌then◌else◌, Option, Some, None, List, [], ◌∷◌, ◌++◌, length, take, slice_index, slice_index_or}
+use Rattle.std.specs.Option.{unwrap_or}
 use Rattle.std.specs.List.{filter, fold, list_any}
 use Rattle.ntx_item.specs.declared.item.Item.{Item}
 use Rattle.ntx_item.specs.Settings.{Settings}
@@ -109,5 +110,9 @@ abbrev pub first_answer : Settings → List Item → List Pass → Option Answer
 first_answer params items [] = None
 first_answer params items (pass ∷ passes) = or_else (answer_of params items pass) (first_answer params items passes)
 
-abbrev pub breaks_of : Settings → List Item → Option Answer
-breaks_of params items = first_answer params items (passes_of params)
+-- what no pass comes to
+abbrev pub no_lines : Answer
+no_lines = record { places = []; pass = 0; demerits = pos 0; artificial = false; last_resort = false }
+
+abbrev pub breaks_of : Settings → List Item → Answer
+breaks_of params items = unwrap_or (first_answer params items (passes_of params)) no_lines

@@ -19,7 +19,11 @@ second_pass params = record { number = 2; discs = true; threshold = threshold_of
 abbrev pub third_pass : Settings → Pass
 third_pass params = record { number = 3; discs = true; threshold = threshold_of params.tolerance; extra = params.emergencystretch; is_final = true }
 
+abbrev pub early_passes : Settings → List Pass
+early_passes params = if int_lt params.pretolerance (pos 0) then [] else first_pass params ∷ []
+
+abbrev pub last_passes : Settings → List Pass
+last_passes params = if int_le params.emergencystretch (pos 0) then [] else third_pass params ∷ []
+
 abbrev pub passes_of : Settings → List Pass
-passes_of params =
-    (if int_le (pos 0) params.pretolerance then first_pass params ∷ [] else []) ++ second_pass params ∷
-    (if int_lt (pos 0) params.emergencystretch then third_pass params ∷ [] else [])
+passes_of params = early_passes params ++ second_pass params ∷ last_passes params

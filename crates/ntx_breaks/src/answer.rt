@@ -5,6 +5,7 @@ ghost use Rattle.std.specs.Option.{option_map};
 ghost use Rattle.ntx_num.specs.Answer.{Gives, result_map};
 ghost use Rattle.ntx_item.specs.Items.{AreItemsInRange};
 ghost use Rattle.ntx_legal.specs.Totals.{AreTotalsOf};
+ghost use Rattle.ntx_breaks.specs.Passes.{early_passes, last_passes, passes_of};
 ghost use Rattle.ntx_breaks.specs.States.{start_state};
 ghost use Rattle.ntx_breaks.specs.Chosen.{breaks_seen};
 ghost use Rattle.ntx_breaks.specs.Chosen as choice;
@@ -32,6 +33,21 @@ pub struct Breaks {
     pub artificial: bool,
     /// Whether it gave one whose badness is above the tolerance.
     pub last_resort: bool,
+}
+
+impl Breaks {
+    /// No lines.
+    fn none(alloc: Global) -> Breaks
+        ensures { breaks_seen result ≡ choice.no_lines }
+    {
+        Breaks {
+            places: Vec::new(alloc),
+            pass: 0,
+            demerits: 0,
+            artificial: false,
+            last_resort: false,
+        }
+    }
 }
 
 /// The one with the lesser total, the earlier one of equal ones.
@@ -126,46 +142,72 @@ fn answer_of(
 }
 
 /// What the first pass comes to, if there is one and it has a state at the end.
-fn first_answer(
+fn early_answer(
     alloc: Global,
     items: &[Item],
     params: &Params,
     totals: &LineTotals,
-) -> Result<Option<Breaks>, NoMemory> {
+) -> Result<Option<Breaks>, NoMemory>
+    requires in_range { AreItemsInRange items.now }
+    requires totals { AreTotalsOf items.now totals.now }
+    ensures { Gives (result_map (option_map breaks_seen) result) (choice.first_answer params.now items.now (early_passes params.now)) }
+{
     if params.get(Param::Pretolerance) < 0 {
         return Ok(None);
     }
     answer_of(alloc, items, params, totals, Pass::first(params))
 }
 
-/// What the second pass comes to, or the third one if the second has no state at the end.
-fn later_answer(
+/// What the third pass comes to, if there is one and it has a state at the end.
+fn last_answer(
     alloc: Global,
     items: &[Item],
     params: &Params,
     totals: &LineTotals,
-) -> Result<Option<Breaks>, NoMemory> {
-    let second = answer_of(alloc, items, params, totals, Pass::second(params))?;
-    if second.is_some() || params.get(Param::Emergencystretch) <= 0 {
-        return Ok(second);
+) -> Result<Option<Breaks>, NoMemory>
+    requires in_range { AreItemsInRange items.now }
+    requires totals { AreTotalsOf items.now totals.now }
+    ensures { Gives (result_map (option_map breaks_seen) result) (choice.first_answer params.now items.now (last_passes params.now)) }
+{
+    if params.get(Param::Emergencystretch) <= 0 {
+        return Ok(None);
     }
     answer_of(alloc, items, params, totals, Pass::third(params))
 }
 
-/// The breaks of a paragraph with the least demerits.
-pub fn break_items(alloc: Global, items: &[Item], params: &Params) -> Result<Breaks, NoMemory> {
-    let totals = LineTotals::new(alloc, items)?;
-    if let Some(breaks) = first_answer(alloc, items, params, &totals)? {
-        return Ok(breaks);
+/// What the first pass with a state at the end comes to.
+fn first_answer(
+    alloc: Global,
+    items: &[Item],
+    params: &Params,
+    totals: &LineTotals,
+) -> Result<Option<Breaks>, NoMemory>
+    requires in_range { AreItemsInRange items.now }
+    requires totals { AreTotalsOf items.now totals.now }
+    ensures { Gives (result_map (option_map breaks_seen) result) (choice.first_answer params.now items.now (passes_of params.now)) }
+{
+    let first = early_answer(alloc, items, params, totals)?;
+    if first.is_some() {
+        return Ok(first);
     }
-    match later_answer(alloc, items, params, &totals)? {
+    let second = answer_of(alloc, items, params, totals, Pass::second(params))?;
+    if second.is_some() {
+        return Ok(second);
+    }
+    last_answer(alloc, items, params, totals)
+}
+
+/// The breaks of a paragraph with the least demerits ("TeX: The Program", sections 813 to 890). It refuses nothing. In order, it tries a
+/// pass without hyphens, whose lines have a badness of at most `pretolerance`, unless that is below 0; one with hyphens and `tolerance`;
+/// and one that stretches each line by `emergencystretch` as well, unless that is 0 or less. The first pass in which lines lead to the end
+/// decides.
+pub fn break_items(alloc: Global, items: &[Item], params: &Params) -> Result<Breaks, NoMemory>
+    requires { AreItemsInRange items.now }
+    ensures { Gives (result_map breaks_seen result) (choice.breaks_of params.now items.now) }
+{
+    let totals = LineTotals::new(alloc, items)?;
+    match first_answer(alloc, items, params, &totals)? {
         Some(breaks) => Ok(breaks),
-        None => Ok(Breaks {
-            places: Vec::new(alloc),
-            pass: 0,
-            demerits: 0,
-            artificial: false,
-            last_resort: false,
-        }),
+        None => Ok(Breaks::none(alloc)),
     }
 }

@@ -43,17 +43,19 @@ fn is_last_resort(pass: Pass, rescued: bool, ways: &[Way]) -> bool
     rescued && !some_wanted(pass, last_way(ways))
 }
 
-/// The states that do not fall, and those that were made.
+/// The states that do not fall, and those that were made, which are all but the first `count`.
 fn live_after(
     alloc: Global,
     forced: bool,
     ways: &[Way],
-    made: &[State],
+    states: &[State],
+    count: usize,
 ) -> Result<Vec<State>, NoMemory>
-    ensures { Gives (result_map (λ live. live.items) result) (map (λ way. way.from) (filter (λ way. not (falls forced way)) ways.now) ++ made.now) }
+    requires { count ≤ length states.now }
+    ensures { Gives (result_map (λ live. live.items) result) (map (λ way. way.from) (filter (λ way. not (falls forced way)) ways.now) ++ drop count states.now) }
 {
     let mut live = survivors(alloc, forced, ways)?;
-    live.extend_from_slice(made)?;
+    live.extend_from_slice(&states[count..])?;
     Ok(live)
 }
 
@@ -104,7 +106,7 @@ impl Search {
         let candidates = candidates_at(alloc, items, params, pass, to, rescued, ways)?;
         let count = self.states.len();
         add_states(params, &candidates, &mut self.states)?;
-        self.live = live_after(alloc, forced, ways, &self.states[count..])?;
+        self.live = live_after(alloc, forced, ways, &self.states, count)?;
         self.artificial = self.artificial || rescued;
         self.last_resort = self.last_resort || is_last_resort(pass, rescued, ways);
         Ok(())
