@@ -5,3 +5,4 @@ pub mod MakingLemmas
 pub mod SearchLemmas
 pub mod PlaceLemmas
 pub mod ChainLemmas
+pub mod PassLemmas
