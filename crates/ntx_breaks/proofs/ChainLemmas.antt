@@ -1,8 +1,7 @@
 -- The way back from a state to the start.
-use Rattle.std.proofs.Common.{◌≡◌, ℕ, zero, suc, ◌+◌, List, [], ◌∷◌, ◌++◌, Bool, true, false, cond, reverse, refl, ap, sym, ◌∙◌, append_assoc, arith}
+use Rattle.std.proofs.Common.{◌≡◌, ℕ, zero, suc, List, [], ◌∷◌, ◌++◌, true, false, cond, reverse, refl, ap, sym, ◌∙◌, append_assoc}
 use Rattle.std.specs.Prelude.{nat_eq, slice_index_or}
 use Rattle.std.proofs.lemmas.List.{reverse-append}
-use Rattle.std.proofs.lemmas.Bool.Decides.{nat_tests}
 use Rattle.ntx_breaks.specs.declared.state.State.{State}
 use Rattle.ntx_breaks.specs.States.{start_state}
 use Rattle.ntx_breaks.specs.Chosen.{chain_back}

@@ -1,5 +1,5 @@
 -- What is known of the states that are made at a place.
-use Rattle.std.proofs.Common.{◌≡◌, ℕ, ◌+◌, ◌≤◌, ◌^◌, List, [], ◌∷◌, ◌++◌, Bool, true, false, cond, Option, Some, None, length, refl, ap, sym, ◌∙◌, arith, append-nil, append_assoc}
+use Rattle.std.proofs.Common.{ℕ, ◌≤◌, ◌^◌, List, [], ◌∷◌, ◌++◌, Bool, true, false, cond, Option, Some, None, length, refl, ap, sym, ◌∙◌, arith, append-nil, append_assoc}
 use Rattle.std.specs.Prelude.{ℤ, int_lt, int_le, nat_eq, IfSome}
 use Rattle.std.specs.Int.RustNames.{unsigned_abs}
 use Rattle.std.specs.List.{All, fold}
@@ -8,7 +8,7 @@ use Rattle.ntx_item.specs.Settings.{Settings}
 use Rattle.ntx_breaks.specs.declared.state.State.{State}
 use Rattle.ntx_breaks.specs.inner.Bounds.{most_place, IsMade}
 use Rattle.ntx_breaks.specs.inner.Search.{Extends}
-use Rattle.ntx_breaks.specs.Making.{lesser, least_of, of_class, push_state, push_within, add_class, add_within, add_near, add_states, most_total}
+use Rattle.ntx_breaks.specs.Making.{lesser, least_of, of_class, push_within, add_class, add_within, add_near, add_states, most_total}
 
 nothing_more : (P : State → Type 0) (states : List State) → Extends P states states
 nothing_more P states = record { made = []; is = sym (append-nil states); each = All-nil P }

@@ -1,5 +1,5 @@
 -- What is known of the places where a line may end.
-use Rattle.std.proofs.Common.{◌≡◌, ℕ, zero, suc, ◌+◌, ◌<◌, ◌≤◌, ℤ, pos, List, [], ◌∷◌, Bool, true, false, ◌&&◌, ◌||◌, not, Option, Some, None, length, get_or, refl, ap, sym, ◌∙◌, subst, arith}
+use Rattle.std.proofs.Common.{◌≡◌, ℕ, zero, suc, ◌+◌, ◌<◌, ◌≤◌, ℤ, pos, List, [], ◌∷◌, Bool, true, false, ◌&&◌, ◌||◌, not, Option, Some, None, length, get_or, refl, ap, sym, ◌∙◌, arith}
 use Rattle.std.specs.Prelude.{nat_eq, int_lt, ◌<ℤ◌}
 use Rattle.std.specs.List.{All, AllPairs, filter, range_with_len, slice_get}
 use Rattle.std.proofs.lemmas.Int.{ints}
@@ -12,7 +12,7 @@ use Rattle.ntx_item.specs.declared.item.Item.TheVariants.{Box, Glyph, Rule, Glue
 use Rattle.ntx_item.specs.Settings.{Settings}
 use Rattle.ntx_legal.specs.Places.{item_at, forbidding, is_there_with, disc_penalty, may_break, is_legal, places_of}
 use Rattle.ntx_breaks.specs.Penalties.{penalty_of}
-use Rattle.ntx_breaks.specs.inner.Search.{IsPlace, ArePlaces}
+use Rattle.ntx_breaks.specs.inner.Search.{ArePlaces}
 
 -- ---- the penalty of a place
 

@@ -1,5 +1,5 @@
 -- One place more: what is known of a pass stays known.
-use Rattle.std.proofs.Common.{◌≡◌, ℕ, suc, ◌+◌, ◌<◌, ◌≤◌, List, [], ◌∷◌, ◌++◌, Bool, not, length, get_or, take, drop, map, Result, Ok, Err, OnOk, refl, ap, sym, ◌∙◌, subst, arith, add-one}
+use Rattle.std.proofs.Common.{◌≡◌, ℕ, ◌+◌, ◌<◌, ◌≤◌, List, [], ◌∷◌, ◌++◌, Bool, not, length, get_or, take, drop, map, Result, Ok, Err, OnOk, refl, ap, sym, ◌∙◌, subst, arith, add-one}
 use Rattle.std.specs.List.{All, AllPairs, filter}
 use Rattle.std.proofs.lemmas.List.{take_more, get_or-take, get_or_default, length-take-le, drop_at}
 use Rattle.std.proofs.lemmas.List.Elements.{All-append, All-filter, All-push, All-weaker}

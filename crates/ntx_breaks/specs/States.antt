@@ -6,7 +6,7 @@
 --     is_wanted pass way                whether the line is within the pass's threshold
 --     is_alive params items pass earlier state    whether a line from the state may end after all these places: at none of them the state falls
 --     alive_states, ways_at
-use Rattle.std.specs.Prelude.{ℕ, nat_le, ℤ, pos, int_lt, int_le, Bool, ◌||◌, not, List, map}
+use Rattle.std.specs.Prelude.{ℕ, nat_le, pos, int_lt, int_le, Bool, ◌||◌, not, List, map}
 use Rattle.std.specs.List.{filter, list_all}
 use Rattle.ntx_item.specs.declared.item.Item.{Item}
 use Rattle.ntx_item.specs.Settings.{Settings}

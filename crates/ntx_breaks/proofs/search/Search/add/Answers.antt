@@ -1,9 +1,9 @@
-use Rattle.std.proofs.Common.{◌≡◌, ◌+◌, ◌≤◌, length, ap, ◌∙◌, subst, sym, length-append, rules, arith}
+use Rattle.std.proofs.Common.{◌≡◌, ◌+◌, length, ap, ◌∙◌, subst, sym, length-append, rules, arith}
 use Rattle.std.specs.List.{All}
 use Rattle.ntx_breaks.specs.Making.{add_states}
 use Rattle.ntx_breaks.specs.inner.Bounds.{IsMade}
 use Rattle.ntx_breaks.specs.inner.Search.{Extends}
-use Rattle.ntx_breaks.proofs.MakingLemmas.{added_is, made_free, small_totals}
+use Rattle.ntx_breaks.proofs.MakingLemmas.{added_is, made_free}
 use Rattle.ntx_breaks.proofs.search.Search.add.Goals as goal
 
 pub live_after-requires : goal.live_after-requires

@@ -1,4 +1,4 @@
-use Rattle.std.proofs.Common.{◌≡◌, map, subst, sym, ap, ◌∙◌}
+use Rattle.std.proofs.Common.{map, subst, sym, ap, ◌∙◌}
 use Rattle.std.specs.Prelude.{slice_index_or}
 use Rattle.std.specs.List.{All}
 use Rattle.ntx_breaks.specs.States.{way_to}
