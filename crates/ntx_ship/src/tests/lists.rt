@@ -7,6 +7,21 @@ use ntx_pack::{hpack, vpack};
 use ntx_tfm::Font;
 use std::alloc::Global;
 
+/// A node of a list.
+#[derive(Clone, Copy)]
+pub enum Part {
+    /// A rule of this width, height and depth.
+    Rule(i64, i64, i64),
+    /// A kern.
+    Kern(i64),
+    /// Finite glue of this width, stretch and shrink.
+    Glue(i64, i64, i64),
+    /// The character 97 of font 0.
+    Letter,
+    /// A node that is there.
+    Node(u64),
+}
+
 /// Puts a value into a field.
 fn put(nodes: &mut PlainHeap, n: u64, field: Field, v: FieldValue) -> Result<(), Fail<Trouble>> {
     match nodes.set(n, field, v) {
@@ -15,109 +30,69 @@ fn put(nodes: &mut PlainHeap, n: u64, field: Field, v: FieldValue) -> Result<(),
     }
 }
 
-/// A list that grows at its end.
-#[derive(Clone, Copy)]
-pub struct List {
-    /// Its first node.
-    pub head: Option<u64>,
-    last: Option<u64>,
+/// Makes a node with these numbers.
+fn make(nodes: &mut PlainHeap, kind: Kind, fields: &[(Field, i64)]) -> Result<u64, Fail<Trouble>> {
+    let n = nodes.make(kind, 0)?;
+    for (field, value) in fields {
+        put(nodes, n, *field, FieldValue::Number(*value))?;
+    }
+    Ok(n)
 }
 
-/// A list without nodes.
-pub const EMPTY: List = List {
-    head: None,
-    last: None,
-};
-
-impl List {
-    /// Puts a node at the end.
-    pub fn push(&mut self, nodes: &mut PlainHeap, n: u64) -> Result<(), Fail<Trouble>> {
-        match self.last {
-            Some(last) => put(nodes, last, Field::Next, FieldValue::Link(Some(n)))?,
-            None => self.head = Some(n),
+/// The node of a part.
+fn node(nodes: &mut PlainHeap, part: Part) -> Result<u64, Fail<Trouble>> {
+    match part {
+        Part::Rule(w, h, d) => {
+            let fields = [(Field::Width, w), (Field::Height, h), (Field::Depth, d)];
+            make(nodes, Kind::Rule, &fields)
         }
-        self.last = Some(n);
-        Ok(())
-    }
-
-    /// Makes a node with these numbers at the end.
-    pub fn make(
-        &mut self,
-        nodes: &mut PlainHeap,
-        kind: Kind,
-        fields: &[(Field, i64)],
-    ) -> Result<u64, Fail<Trouble>> {
-        let n = nodes.make(kind, 0)?;
-        for (field, value) in fields {
-            put(nodes, n, *field, FieldValue::Number(*value))?;
+        Part::Kern(w) => make(nodes, Kind::Kern, &[(Field::Kern, w)]),
+        Part::Glue(w, stretch, shrink) => {
+            let fields = [
+                (Field::Width, w),
+                (Field::Stretch, stretch),
+                (Field::Shrink, shrink),
+            ];
+            make(nodes, Kind::Glue, &fields)
         }
-        self.push(nodes, n)?;
-        Ok(n)
+        Part::Letter => make(nodes, Kind::Glyph, &[(Field::Char, 97)]),
+        Part::Node(n) => Ok(n),
     }
+}
 
-    /// Makes a rule of this width, height and depth at the end.
-    pub fn rule(
-        &mut self,
-        nodes: &mut PlainHeap,
-        w: i64,
-        h: i64,
-        d: i64,
-    ) -> Result<(), Fail<Trouble>> {
-        let fields = [(Field::Width, w), (Field::Height, h), (Field::Depth, d)];
-        let _n = self.make(nodes, Kind::Rule, &fields)?;
-        Ok(())
+/// A list of these nodes. It is made from its end.
+fn list(nodes: &mut PlainHeap, parts: &[Part]) -> Result<Option<u64>, Fail<Trouble>> {
+    let mut next = None;
+    for part in parts.iter().rev() {
+        let n = node(nodes, *part)?;
+        put(nodes, n, Field::Next, FieldValue::Link(next))?;
+        next = Some(n);
     }
+    Ok(next)
+}
 
-    /// Makes a kern at the end.
-    pub fn kern(&mut self, nodes: &mut PlainHeap, w: i64) -> Result<(), Fail<Trouble>> {
-        let _n = self.make(nodes, Kind::Kern, &[(Field::Kern, w)])?;
-        Ok(())
-    }
+/// The nodes packed into an hlist.
+pub fn hbox(
+    alloc: Global,
+    nodes: &mut PlainHeap,
+    fonts: &[Font],
+    parts: &[Part],
+    to: PackTo,
+) -> Result<u64, Fail<Trouble>> {
+    let head = list(nodes, parts)?;
+    Ok(hpack(alloc, nodes, fonts, head, to)?.0)
+}
 
-    /// Makes finite glue of this width, stretch and shrink at the end.
-    pub fn glue(
-        &mut self,
-        nodes: &mut PlainHeap,
-        w: i64,
-        stretch: i64,
-        shrink: i64,
-    ) -> Result<(), Fail<Trouble>> {
-        let fields = [
-            (Field::Width, w),
-            (Field::Stretch, stretch),
-            (Field::Shrink, shrink),
-        ];
-        let _n = self.make(nodes, Kind::Glue, &fields)?;
-        Ok(())
-    }
-
-    /// Makes the character 97 of font 0 at the end.
-    pub fn letter(&mut self, nodes: &mut PlainHeap) -> Result<(), Fail<Trouble>> {
-        let _n = self.make(nodes, Kind::Glyph, &[(Field::Char, 97)])?;
-        Ok(())
-    }
-
-    /// Packs the list into an hlist.
-    pub fn hbox(
-        &self,
-        alloc: Global,
-        nodes: &mut PlainHeap,
-        fonts: &[Font],
-        to: PackTo,
-    ) -> Result<u64, Fail<Trouble>> {
-        Ok(hpack(alloc, nodes, fonts, self.head, to)?.0)
-    }
-
-    /// Packs the list into a vlist.
-    pub fn vbox(
-        &self,
-        alloc: Global,
-        nodes: &mut PlainHeap,
-        fonts: &[Font],
-        to: PackTo,
-    ) -> Result<u64, Fail<Trouble>> {
-        Ok(vpack(alloc, nodes, fonts, self.head, to)?.0)
-    }
+/// The nodes packed into a vlist.
+pub fn vbox(
+    alloc: Global,
+    nodes: &mut PlainHeap,
+    fonts: &[Font],
+    parts: &[Part],
+    to: PackTo,
+) -> Result<u64, Fail<Trouble>> {
+    let head = list(nodes, parts)?;
+    Ok(vpack(alloc, nodes, fonts, head, to)?.0)
 }
 
 /// Moves a box.
@@ -125,9 +100,10 @@ pub fn shift(nodes: &mut PlainHeap, n: u64, by: i64) -> Result<(), Fail<Trouble>
     put(nodes, n, Field::Shift, FieldValue::Number(by))
 }
 
-/// Makes a discretionary with a list that stands where there is no break.
-pub fn disc(nodes: &mut PlainHeap, replace: List) -> Result<u64, Fail<Trouble>> {
+/// Makes a discretionary with a letter that stands where there is no break.
+pub fn disc(nodes: &mut PlainHeap) -> Result<u64, Fail<Trouble>> {
+    let letter = node(nodes, Part::Letter)?;
     let n = nodes.make(Kind::Disc, 0)?;
-    put(nodes, n, Field::Replace, FieldValue::Link(replace.head))?;
+    put(nodes, n, Field::Replace, FieldValue::Link(Some(letter)))?;
     Ok(n)
 }
