@@ -73,7 +73,9 @@ record ExposesFirst (feed : NamedInput) (font : FontBytes) (feeds : List NamedIn
   others : ExposesFonts feeds fonts
 
 exposes_first : (feed : NamedInput) (font : FontBytes) (feeds : List NamedInput) (fonts : List FontBytes) → ExposesFonts (feed ∷ feeds) (font ∷ fonts) → ExposesFirst feed font feeds fonts
-exposes_first feed font feeds fonts exposes = record { name = cc; bytes = cc; others = cc }
+exposes_first feed font feeds fonts exposes =
+    let pair : ◌≡◌ {A = List ℕ × Option (List ℕ)} (feed.name, feed.input.left) (font.name, Some font.bytes) = cc in
+    record { name = ap (λ p. p.0) pair; bytes = ap (λ p. p.1) pair; others = cc }
 
 -- What one font more makes of the definition.
 font_read : (k : ℕ) (size : Option ℤ) (sizes : List (Option ℤ)) (feed : NamedInput) (font : FontBytes) (fonts : List FontBytes) (result : Result FontTables StopReason) → feed.name ≡ font.name → read_font k size feed.name font.bytes ≡ result → read_fonts k (size ∷ sizes) (font ∷ fonts) ≡ result_and_then result (λ tables. result_map (λ others. tables ∷ others) (read_fonts (k + 1) sizes fonts))

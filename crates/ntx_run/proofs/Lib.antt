@@ -12,6 +12,8 @@ pub mod Files
 pub mod Fitting
 -- what was read of the fonts
 pub mod FontReading
+-- one font more
+pub mod FontSteps
 -- what was read of the inputs
 pub mod Reading
 -- how a run ends, from what stands before its last line

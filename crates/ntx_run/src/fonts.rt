@@ -1,6 +1,6 @@
 //! Reading the fonts.
 
-ghost use Rattle.std.specs.Prelude.{◌≡◌, ◌+◌, ◌≤◌, ◌^◌, ◌-◌, IsTrue, length, map};
+ghost use Rattle.std.specs.Prelude.{◌≡◌, ◌+◌, ◌≤◌, ◌^◌, ◌-◌, [], ◌∷◌, ◌++◌, IsTrue, OnOk, length, map};
 ghost use Rattle.std.specs.Option.{ForSome};
 ghost use Rattle.ntx_num.specs.Answer.{result_map};
 ghost use Rattle.ntx_tfm.specs.Font.{IsSize};
@@ -11,7 +11,7 @@ ghost use Rattle.ntx_run.specs.inner.Parts.{ReadsFont, ReadsFonts, AddsFonts};
 use crate::outcome::Which;
 use crate::stop::StopReason;
 use ntx_io::{Feed, ReadWhy, read_feed};
-use ntx_num::Fail;
+use ntx_num::{Fail, NoMemory};
 use ntx_tfm::{Font, FontFault, read_font};
 use std::alloc::Global;
 
@@ -23,13 +23,13 @@ fn read_one(
     alloc: Global,
     k: u64,
     size: Option<i64>,
-    feed: &mut dyn Feed,
+    feed: &mut Box<dyn Feed>,
 ) -> Result<Font, StopReason>
     requires size { ForSome size IsSize }
     requires name { IsTrue (is_feed_name (named feed.old).name) }
     ensures { ReadsFont k size (named feed.old) (named feed.new) result }
 {
-    let bytes = match read_feed(alloc, feed, MAX_FONT) {
+    let bytes = match read_feed(alloc, feed.as_mut(), MAX_FONT) {
         Ok(bytes) => bytes,
         Err(Fail::NoMemory) => return Err(StopReason::Memory),
         Err(Fail::Is(ReadWhy::ReadFault)) => return Err(StopReason::Read(Which::Font(k))),
@@ -40,6 +40,13 @@ fn read_one(
         Err(Fail::NoMemory) => Err(StopReason::Memory),
         Err(Fail::Is(fault)) => Err(StopReason::Font(k, fault)),
     }
+}
+
+/// Adds a font after the others.
+fn add_font(fonts: &mut Vec<Font>, font: Font) -> Result<(), NoMemory>
+    ensures { OnOk result (fonts.new.items ≡ fonts.old.items ++ font ∷ []) }
+{
+    Ok(fonts.push(font)?)
 }
 
 /// Reads the fonts from the `k`-th on, and adds them to those before. There are at most 64, so this may call itself for each.
@@ -54,16 +61,12 @@ fn read_from(
     requires count { k + length feeds.old ≤ 2 ^ 64 - 1 }
     ensures { AddsFonts k sizes.now (map (λ feed. named feed) feeds.old) (map (λ feed. named feed) feeds.new) fonts.old.items fonts.new.items result }
 {
-    match (sizes, feeds) {
-        ([size, other_sizes @ ..], [feed, other_feeds @ ..]) => {
-            let font = read_one(alloc, k, *size, &mut **feed)?;
-            if fonts.push(font).is_err() {
-                return Err(StopReason::Memory);
-            }
-            read_from(alloc, k + 1, other_sizes, other_feeds, fonts)
-        }
-        _ => Ok(()),
+    if feeds.is_empty() {
+        return Ok(());
     }
+    let font = read_one(alloc, k, sizes[0], &mut feeds[0])?;
+    add_font(fonts, font)?;
+    read_from(alloc, k + 1, &sizes[1..], &mut feeds[1..], fonts)
 }
 
 /// Reads the fonts in their order, up to the first that is refused.
