@@ -1,10 +1,14 @@
 -- The words of the command line and the feeds' names: what is accepted can be read.
-use Rattle.std.proofs.Common.{◌≡◌, ℕ, ◌≤◌, ◌^◌, ◌-◌, Bool, true, false, cond, ℤ, pos, List, [], ◌∷◌, map, Option, Some, None, Result, Ok, Err, refl, ap, sym, ◌∙◌, arith}
-use Rattle.std.specs.Prelude.{IsTrue, ◌==◌, ◌&&◌, length, drop, nat_le, option_map, option_and_then, ◌≤ℤ◌}
+use Rattle.std.proofs.Common.{◌≡◌, ℕ, ◌≤◌, ◌^◌, ◌-◌, Bool, true, false, cond, ℤ, pos, List, [], ◌∷◌, map, Option, Some, None, Result, Ok, Err, refl, ap, sym, ◌∙◌, subst, rules, arith, slice_index_or}
+use Rattle.std.specs.Prelude.{IsTrue, ◌≢◌, ◌==◌, ◌&&◌, length, drop, nat_le, option_map, option_and_then, ◌≤ℤ◌}
 use Rattle.std.specs.List.{list_all}
 use Rattle.std.specs.Option.{ForSome}
 use Rattle.std.specs.Str.Parse.{digits_value}
-use Rattle.std.proofs.lemmas.Bool.{and_parts}
+use Rattle.std.proofs.lemmas.Bool.{and_parts, eqb-true}
+use Rattle.std.proofs.lemmas.List.{length-map}
+use Rattle.std.proofs.Math.Bool.{and-false}
+use borrow.Rule.Slice.PartMut.{mid_of}
+use Rattle.ntx_io.specs.Outside.{NamedInput}
 use Rattle.ntx_words.specs.declared.words.BadWords.{BadWords}
 use Rattle.ntx_words.specs.Parts.{Parts, parts_of}
 use Rattle.ntx_words.specs.Number.{is_numeral, number_in}
@@ -12,7 +16,8 @@ use Rattle.ntx_words.specs.Font.{Halves, FontWord, halves_of, max_size, font_by,
 use Rattle.ntx_words.specs.CommandLine.{CommandLine, is_count, steps_of, line_with, line_of, or_bad_words, command_line}
 use Rattle.ntx_tfm.specs.Font.{IsSize}
 use Rattle.ntx_run.specs.Run.{is_feed_name, has_feeds, fits_form, sizes_of, font_sizes}
-use Rattle.ntx_run.specs.inner.Words.{CanBeRead, FitsWith}
+use Rattle.ntx_run.specs.inner.Words.{CanBeRead, FitsWith, Fits}
+use Rattle.ntx_run.proofs.FontSteps.{all_but_first}
 
 -- ---- sizes
 
@@ -68,28 +73,66 @@ sizes_from : (found : Option Parts) (line : CommandLine) → or_bad_words (optio
 sizes_from None line e = cc
 sizes_from (Some parts) line e = (drop 4 parts.paths, sizes_if (is_count (length parts.paths)) parts line e)
 
-module _ (words names : List (List ℕ)) where
-  pub fits : (line : CommandLine) → command_line words ≡ Ok line → length line.sizes ≡ length names → list_all is_feed_name names ≡ true → FitsWith words names line.sizes
-  unfolding fits_form, font_sizes
-  fits line is count named =
+-- ---- names
+
+-- One feed more.
+pub named_more : {X : Type 0} (seen : X → NamedInput) (feeds : List X) (feed : X) (here others : Bool) → feed ≡ slice_index_or feeds 0 feed → here ≡ true → here ≡ is_feed_name (seen feed).name → 1 ≤ length feeds → others ≡ list_all is_feed_name (map (λ font. font.name) (map seen (mid_of 1 (length feeds - 1) feeds))) → others ≡ list_all is_feed_name (map (λ font. font.name) (map seen feeds))
+named_more seen [] feed here others first holds is some rest =
+    let no : ⊥ = omega arith in
+    absurd no
+named_more seen (other ∷ feeds) feed here others first holds is some rest =
+    rest
+    ∙ ap (λ xs. list_all is_feed_name (map (λ font. font.name) (map seen xs))) (all_but_first other feeds)
+    ∙ ap (λ b. b && list_all is_feed_name (map (λ font. font.name) (map seen feeds))) (sym holds ∙ is ∙ ap (λ x. is_feed_name (seen x).name) first)
+
+-- ---- what is accepted
+
+same_number : (n m : ℕ) → n ≡ m → (n == m) ≡ true
+same_number n m e = rw e (search rules)
+
+module _ {X : Type 0} (seen : X → NamedInput) (words : List (List ℕ)) (feeds : List X) where
+  abbrev names : List (List ℕ)
+  names = map (λ font. font.name) (map seen feeds)
+
+  count : length names ≡ length feeds
+  count = length-map (map seen feeds) (λ font. font.name) ∙ length-map feeds seen
+
+  pub fits : (line : CommandLine) (named : Bool) → command_line words ≡ Ok line → length line.sizes ≡ length feeds → named ≡ true → named ≡ list_all is_feed_name names → FitsWith words names line.sizes
+  unfolding fits_form font_sizes
+  fits line named is number holds named_is =
       let from = sizes_from (parts_of words) line is in
-      let read : CanBeRead (sizes_in from.0) names = can_be_read from.0 names (sym count ∙ ap length from.1) named in
+      let same : length names ≡ length line.sizes = count ∙ sym number in
+      let all : list_all is_feed_name names ≡ true = sym named_is ∙ holds in
+      let read : CanBeRead (sizes_in from.0) names = can_be_read from.0 names (same ∙ ap length from.1) all in
       record {
-        fits = ap (λ r. has_feeds r names) is ∙ both (length names) (length line.sizes) (list_all is_feed_name names) (sym count) named;
+        fits = ap (λ r. has_feeds r names) is ∙ ap (λ b. b && list_all is_feed_name names) (same_number (length names) (length line.sizes) same) ∙ all;
         sizes_are = sym (ap sizes_of is);
         can_be_read = rw from.1 read;
       }
-    where
-      both : (n m : ℕ) (b : Bool) → n ≡ m → b ≡ true → (n == m && b) ≡ true
-      both n m b same true_is = rw (same, true_is) (search rules)
 
-  pub unfit : (line : CommandLine) → command_line words ≡ Ok line → (length line.sizes == length names && list_all is_feed_name names) ≡ false → fits_form words names ≡ false
+  -- There are not as many feeds as fonts.
+  pub unfit_number : (line : CommandLine) → command_line words ≡ Ok line → length line.sizes ≢ length feeds → fits_form words names ≡ false
   unfolding fits_form
-  unfit line is fails = ap (λ r. has_feeds r names) is ∙ ap (λ b. b && list_all is_feed_name names) (turned (length names) (length line.sizes)) ∙ fails
-    where
-      turned : (n m : ℕ) → (n == m) ≡ (m == n)
-      turned n m = search rules
+  unfit_number line is other =
+      let apart : (length names == length line.sizes) ≡ false = elim (length names == length line.sizes) as (λ b. (length names == length line.sizes) ≡ b → b ≡ false) [
+        | true ↦ λ same. absurd (other (sym (eqb-true (length names) (length line.sizes) same) ∙ count))
+        | false ↦ λ same. refl
+      ] refl in
+      ap (λ r. has_feeds r names) is ∙ ap (λ b. b && list_all is_feed_name names) apart
+
+  -- A feed has no name that it may have.
+  pub unfit_name : (line : CommandLine) (named : Bool) → command_line words ≡ Ok line → named ≡ false → named ≡ list_all is_feed_name names → fits_form words names ≡ false
+  unfolding fits_form
+  unfit_name line named is fails named_is =
+      ap (λ r. has_feeds r names) is ∙ ap (λ b. (length names == length line.sizes) && b) (sym named_is ∙ fails) ∙ and-false (length names == length line.sizes)
 
   pub no_words : (refusal : BadWords) → command_line words ≡ Err refusal → fits_form words names ≡ false
   unfolding fits_form
   no_words refusal is = ap (λ r. has_feeds r names) is
+
+-- What was found of the words' fonts.
+pub fits_none : {V : Type 0} (items : V → List (Option ℤ)) (words names : List (List ℕ)) (found : Option V) → found ≡ None → Fits words names (option_map items found) → fits_form words names ≡ false
+fits_none items words names found is fit = subst (λ f. Fits words names (option_map items f)) is fit
+
+pub fits_some : {V : Type 0} (items : V → List (Option ℤ)) (words names : List (List ℕ)) (found : Option V) (v : V) → found ≡ Some v → Fits words names (option_map items found) → FitsWith words names (items v)
+fits_some items words names found v is fit = subst (λ f. Fits words names (option_map items f)) is fit

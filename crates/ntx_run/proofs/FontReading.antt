@@ -148,8 +148,7 @@ one_more k size sizes before after befores afters first others read rest [] expo
 one_more k size sizes before after befores afters first others read rest (font ∷ fonts) exposes =
     let exposed = exposes_first before font befores fonts exposes in
     let here = read.gives font.bytes exposed.bytes in
-    let there = rest.gives fonts exposed.others in
-    (
+    let there = rest.gives fonts exposed.others in (
       font_read k size sizes before font fonts (Ok first) exposed.name here.0 ∙ ap (λ r. result_map (λ others. first ∷ others) r) there.0,
       (here.1, there.1),
     )

@@ -16,7 +16,7 @@ use Rattle.ntx_run.specs.inner.Words.{CanBeRead}
 use Rattle.ntx_run.specs.inner.Parts.{ReadsFont, ReadsFonts, NoFont, AtFont, FontRead, AddsFonts}
 use Rattle.ntx_run.proofs.FontReading.{font_names}
 
-all_but_first : {X : Type 0} (x : X) (xs : List X) → mid_of 1 (length (x ∷ xs) - 1) (x ∷ xs) ≡ xs
+pub all_but_first : {X : Type 0} (x : X) (xs : List X) → mid_of 1 (length (x ∷ xs) - 1) (x ∷ xs) ≡ xs
 all_but_first x xs =
     let count : length (x ∷ xs) - 1 ≡ length xs = omega arith in
     ap (λ n. mid_of 1 n (x ∷ xs)) count ∙ take_all (length xs) xs (omega arith)

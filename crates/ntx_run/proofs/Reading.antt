@@ -31,7 +31,7 @@ same_names inputs bytes exposes =
 -- There are as many fonts as feeds that expose their bytes.
 same_number : (inputs : Inputs) (bytes : InputBytes) → Exposes inputs bytes → length inputs.fonts ≡ length bytes.fonts
 same_number inputs bytes exposes =
-    sym (length-map (λ font. font.name) inputs.fonts) ∙ ap length (same_names inputs bytes exposes) ∙ length-map (λ font. font.name) bytes.fonts
+    sym (length-map inputs.fonts (λ font. font.name)) ∙ ap length (same_names inputs bytes exposes) ∙ length-map bytes.fonts (λ font. font.name)
 
 -- ---- the order
 
@@ -193,9 +193,9 @@ module _ (sizes : List (Option ℤ)) (before after : Inputs) where
       rw parts.2 (record {
         kept = same_counts _ _ _ _ _ _ _ _ document.kept script.kept patterns.kept fonts.kept;
         gives = λ bytes e.
-          let first = document.gives bytes.document e.document in
-          let second = script.gives bytes.script e.script in
-          let third = patterns.gives bytes.patterns e.patterns in
-          let others = fonts.gives bytes.fonts e.fonts in
-          (all_fonts_read sizes before bytes e commands (Ok parts.0) first.0 second.0 third.0 others.0, (first.1, (second.1, (third.1, others.1))));
+            let first = document.gives bytes.document e.document in
+            let second = script.gives bytes.script e.script in
+            let third = patterns.gives bytes.patterns e.patterns in
+            let others = fonts.gives bytes.fonts e.fonts in
+            (all_fonts_read sizes before bytes e commands (Ok parts.0) first.0 second.0 third.0 others.0, (first.1, (second.1, (third.1, others.1))));
       })

@@ -28,6 +28,40 @@ fn report<L: Sink>(alloc: Global, why: StopReason, lines: &mut L) -> Outcome
     }
 }
 
+/// What [`run`] does, over a slice of feeds.
+fn run_over_feeds<D: Source, S: Source, P: Source, O: Sink, L: Sink>(
+    alloc: Global,
+    words: &[String],
+    doc: &mut D,
+    script: &mut S,
+    patterns: &mut P,
+    feeds: &mut [Box<dyn Feed>],
+    dvi: &mut O,
+    lines: &mut L,
+) -> Outcome
+    ensures { Runs (map string_bytes words.now)
+        (outside (D.input doc.old) (S.input script.old) (P.input patterns.old) (map (λ feed. named feed) feeds.old) (O.output dvi.old) (L.output lines.old))
+        (outside (D.input doc.new) (S.input script.new) (P.input patterns.new) (map (λ feed. named feed) feeds.new) (O.output dvi.new) (L.output lines.new))
+        result.status result.place }
+{
+    let sizes = match fitting_sizes(alloc, words, feeds) {
+        Ok(Some(sizes)) => sizes,
+        Ok(None) => return report(alloc, StopReason::Words, lines),
+        Err(_no_memory) => return report(alloc, StopReason::Memory, lines),
+    };
+    let job = match read_inputs(alloc, doc, script, patterns, sizes.as_slice(), feeds) {
+        Ok(job) => job,
+        Err(why) => return report(alloc, why, lines),
+    };
+    match typeset(alloc, job.commands.as_slice(), dvi) {
+        Ok(()) => Outcome {
+            status: Status::Done,
+            place: None,
+        },
+        Err(why) => report(alloc, why, lines),
+    }
+}
+
 /// Typesets a document: `words` are those of the command line after the program's own name, and name the document, the script, the
 /// patterns, the DVI file and the fonts. The DVI file goes to `dvi`, in one piece, and what is printed to `lines`. The feeds in `fonts` give
 /// the fonts' files, and their names are the fonts' names.
@@ -65,21 +99,6 @@ pub fn run<D: Source, S: Source, P: Source, O: Sink, L: Sink>(
         (outside (D.input doc.new) (S.input script.new) (P.input patterns.new) (map (λ feed. named feed) fonts.new.items) (O.output dvi.new) (L.output lines.new))
         result.status result.place }
 {
-    let sizes = match fitting_sizes(alloc, words, fonts.as_slice()) {
-        Ok(Some(sizes)) => sizes,
-        Ok(None) => return report(alloc, StopReason::Words, lines),
-        Err(_no_memory) => return report(alloc, StopReason::Memory, lines),
-    };
     let feeds = fonts.as_mut_slice();
-    let job = match read_inputs(alloc, doc, script, patterns, sizes.as_slice(), feeds) {
-        Ok(job) => job,
-        Err(why) => return report(alloc, why, lines),
-    };
-    match typeset(alloc, job.commands.as_slice(), dvi) {
-        Ok(()) => Outcome {
-            status: Status::Done,
-            place: None,
-        },
-        Err(why) => report(alloc, why, lines),
-    }
+    run_over_feeds(alloc, words, doc, script, patterns, feeds, dvi, lines)
 }

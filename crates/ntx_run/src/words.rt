@@ -20,20 +20,36 @@ fn is_visible(byte: u8) -> bool
     33 <= byte && byte <= 126
 }
 
+/// Whether each of these bytes is one.
+fn are_visible(bytes: &[u8]) -> bool
+    ensures { result ≡ list_all is_visible bytes.now }
+{
+    bytes.iter().all(|byte| is_visible(*byte))
+}
+
 /// Whether a feed may have this name.
 fn is_feed_name(name: &str) -> bool
     ensures { result ≡ is_feed_name name.now }
 {
-    !name.is_empty()
-        && name.len() <= MAX_NAME
-        && name.as_bytes().iter().all(|byte| is_visible(*byte))
+    let length = name.len();
+    1 <= length && length <= MAX_NAME && are_visible(name.as_bytes())
 }
 
-/// Whether each feed has such a name.
+/// Whether a feed has such a name.
+fn is_named(feed: &Box<dyn Feed>) -> bool
+    ensures { result ≡ is_feed_name (named feed.now).name }
+{
+    is_feed_name(feed.name())
+}
+
+/// Whether each feed has such a name. This calls itself for each feed, and is called for at most 64.
 fn are_named(feeds: &[Box<dyn Feed>]) -> bool
     ensures { result ≡ list_all is_feed_name (map (λ font. font.name) (map (λ feed. named feed) feeds.now)) }
 {
-    feeds.iter().all(|feed| is_feed_name(feed.name()))
+    match feeds {
+        [] => true,
+        [feed, others @ ..] => is_named(feed) && are_named(others),
+    }
 }
 
 /// The sizes of the fonts that the words name, if the words are of the form of the command line and the feeds fit them.
@@ -44,9 +60,14 @@ pub fn fitting_sizes(
 ) -> Result<Option<Vec<Option<i64>>>, NoMemory>
     ensures { IfOk result (λ sizes. Fits (map string_bytes words.now) (map (λ font. font.name) (map (λ feed. named feed) feeds.now)) (option_map (λ sizes. sizes.items) sizes)) }
 {
-    match read_words(alloc, words) {
-        Ok(line) if line.sizes.len() == feeds.len() && are_named(feeds) => Ok(Some(line.sizes)),
-        Ok(_) | Err(Fail::Is(_)) => Ok(None),
-        Err(Fail::NoMemory) => Err(NoMemory),
+    let line = match read_words(alloc, words) {
+        Ok(line) => line,
+        Err(Fail::Is(_)) => return Ok(None),
+        Err(Fail::NoMemory) => return Err(NoMemory),
+    };
+    if line.sizes.len() == feeds.len() && are_named(feeds) {
+        Ok(Some(line.sizes))
+    } else {
+        Ok(None)
     }
 }

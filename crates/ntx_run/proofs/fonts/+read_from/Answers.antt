@@ -1,4 +1,4 @@
-use Rattle.std.proofs.Common.{rules, sym, ◌∙◌}
+use Rattle.std.proofs.Common.{sym, ◌∙◌}
 use Rattle.std.proofs.lemmas.Result.{err_from_is_err_and}
 use Rattle.ntx_run.proofs.FontSteps.{no_fonts, first_name, stops_at_first, no_memory_at_first, goes_on}
 use Rattle.ntx_run.proofs.fonts.+read_from.Goals as goal
