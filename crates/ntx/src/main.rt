@@ -9,7 +9,8 @@
 //! top of the repository.
 #![tactic(auto)]
 
-ghost use Rattle.std.specs.Prelude.{◌≡◌, ◌⊎◌, ◌×◌, ℕ, List, false, map, string_bytes, IfErr, IfOk};
+ghost use Rattle.std.specs.Prelude.{◌≡◌, ◌⊎◌, ℕ, List, [], false, map, string_bytes, IfErr, IfOk};
+ghost use Rattle.ntx_io.specs.Feed.{IsFontName};
 ghost use Rattle.ntx_run.specs.Run.{fits_form};
 ghost use Rattle.ntx.specs.Number.{number_of};
 ghost use Rattle.ntx.specs.Fonts.{AreNamedAfter, font_paths};
@@ -17,7 +18,7 @@ ghost use Rattle.ntx.specs.Fonts.{AreNamedAfter, font_paths};
 #[cfg(test)]
 mod tests;
 
-use ntx_io::{Feed, FileFeed, FileSink, FileSource, MemSource, NullSink, StdoutSink};
+use ntx_io::{Feed, FileFeed, FileSink, FileSource, MemSource, NullSink, Sink, StdoutSink};
 use ntx_num::{Fail, NoMemory};
 use ntx_run::{Outcome, Status, run};
 use ntx_words::read_words;
@@ -67,20 +68,23 @@ impl<F: Drop> Standard<F> {
     }
 }
 
-/// A feed over each font's file, named after it.
-fn feeds<R: Files + Alloc<A = Global>>(
-    rt: &R,
-    paths: &[String],
-) -> Result<Vec<Box<dyn Feed>>, NoMemory>
-where
-    R::File: 'static,
-    ensures { IfOk result (λ feeds. AreNamedAfter (map string_bytes paths.now) (map (λ font. font.name) (map (λ feed. named feed) feeds.items))) }
+/// A feed over a font's file, named after it. A feed over the files of any other runtime cannot be boxed here with a proof.
+fn feed_over(rt: &HostRuntime, path: &str) -> Result<Box<dyn Feed>, NoMemory>
+    ensures { IfOk result (λ feed. IsFontName path.now (named feed).name) }
 {
     let alloc = rt.alloc();
-    let mut feeds: Vec<Box<dyn Feed>> = Vec::new(alloc);
+    let feed = FileFeed::open(rt, alloc, path)?;
+    Ok(Box::new(alloc, feed)?)
+}
+
+/// A feed over each font's file, named after it.
+fn feeds(rt: &HostRuntime, paths: &[String]) -> Result<Vec<Box<dyn Feed>>, NoMemory>
+    ensures { IfOk result (λ feeds. AreNamedAfter (map string_bytes paths.now) (map (λ font. font.name) (map (λ feed. named feed) feeds.items))) }
+{
+    let mut feeds = Vec::new(rt.alloc());
     for path in paths {
-        let feed = FileFeed::open(rt, alloc, path.as_str())?;
-        feeds.push(Box::new(alloc, feed)?)?;
+        let feed = feed_over(rt, path.as_str())?;
+        feeds.push(feed)?;
     }
     Ok(feeds)
 }
@@ -97,9 +101,7 @@ fn ended(status: Status) -> Outcome
 
 /// Typesets the document that the words name. If they name none, no file is opened. If the standard descriptors cannot be taken, no
 /// document is typeset, and the status is that of a write fault.
-fn typeset<R: Files + Print + Alloc<A = Global>>(rt: &R, words: &[String]) -> Outcome
-where
-    R::File: 'static,
+fn typeset(rt: &HostRuntime, words: &[String]) -> Outcome
     ensures refused { ((names : List (List ℕ)) → AreNamedAfter (font_paths (map string_bytes words.now)) names → fits_form (map string_bytes words.now) names ≡ false) →
         (result.status ≡ Status.Words) ⊎ ((result.status ≡ Status.WriteFault) ⊎ (result.status ≡ Status.Memory)) }
     ensures only { result.status ≡ Status.Words →
@@ -107,41 +109,48 @@ where
 {
     let alloc = rt.alloc();
     let mut lines = StdoutSink::new(rt);
-    let paths = match read_words(alloc, words) {
-        Ok(line) => line.paths,
-        Err(Fail::Is(_)) => Vec::new(alloc),
+    let line = match read_words(alloc, words) {
+        Ok(line) => line,
+        Err(Fail::Is(_)) => return refuse(alloc, words, &mut lines),
         Err(Fail::NoMemory) => return ended(Status::Memory),
     };
-    match paths.as_slice() {
-        [doc, script, patterns, dvi, fonts @ ..] => {
-            let Ok(_standard) = Standard::taken(rt) else {
-                return ended(Status::WriteFault);
-            };
-            let Ok(mut fonts) = feeds(rt, fonts) else {
-                return ended(Status::Memory);
-            };
-            run(
-                alloc,
-                words,
-                &mut FileSource::open(rt, doc.as_str()),
-                &mut FileSource::open(rt, script.as_str()),
-                &mut FileSource::open(rt, patterns.as_str()),
-                &mut fonts,
-                &mut FileSink::create(rt, dvi.as_str()),
-                &mut lines,
-            )
-        }
-        _ => run(
-            alloc,
-            words,
-            &mut nothing(alloc),
-            &mut nothing(alloc),
-            &mut nothing(alloc),
-            &mut Vec::new(alloc),
-            &mut NullSink::new(),
-            &mut lines,
-        ),
-    }
+    let [doc, script, patterns, dvi, fonts @ ..] = line.paths.as_slice() else {
+        return refuse(alloc, words, &mut lines);
+    };
+    let Ok(_standard) = Standard::taken(rt) else {
+        return ended(Status::WriteFault);
+    };
+    let Ok(mut fonts) = feeds(rt, fonts) else {
+        return ended(Status::Memory);
+    };
+    run(
+        alloc,
+        words,
+        &mut FileSource::open(rt, doc.as_str()),
+        &mut FileSource::open(rt, script.as_str()),
+        &mut FileSource::open(rt, patterns.as_str()),
+        &mut fonts,
+        &mut FileSink::create(rt, dvi.as_str()),
+        &mut lines,
+    )
+}
+
+/// The run of words that name no files, over sources of nothing and without feeds.
+fn refuse<L: Sink>(alloc: Global, words: &[String], lines: &mut L) -> Outcome
+    ensures refused { fits_form (map string_bytes words.now) [] ≡ false →
+        (result.status ≡ Status.Words) ⊎ ((result.status ≡ Status.WriteFault) ⊎ (result.status ≡ Status.Memory)) }
+    ensures only { result.status ≡ Status.Words → fits_form (map string_bytes words.now) [] ≡ false }
+{
+    run(
+        alloc,
+        words,
+        &mut nothing(alloc),
+        &mut nothing(alloc),
+        &mut nothing(alloc),
+        &mut Vec::new(alloc),
+        &mut NullSink::new(),
+        lines,
+    )
 }
 
 /// A source over nothing.
