@@ -1,1 +1,2 @@
-pub mod Paths
+-- the names of feeds, one more
+pub mod Naming

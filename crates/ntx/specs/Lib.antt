@@ -1,1 +1,4 @@
+-- the number of each status
 pub mod Number
+-- the fonts of a command line
+pub mod Fonts

@@ -1,23 +1,25 @@
-//! The program `ntx [--steps N] DOC SCRIPT PATTERNS DVI`: opens the files that the command line names and typesets the document.
+//! The program `ntx [--steps N] DOC SCRIPT PATTERNS DVI [FONT...]`: opens the files that the command line names and typesets the document.
 //!
 //! It stands on `ntx_io`, `ntx_words` and `ntx_run`. Of `main` nothing is proved: neither which files are opened, nor that [`ntx_run::run`] is called,
 //! nor that the process ends with the number of the run's status. Of its parts it is proved that `number` gives each status its number,
-//! that `words` stops only if memory runs out, and that in `typeset` words that are not of the form of the command line, or name a font,
-//! end with `Words`, `WriteFault` or `Memory`, and no others with `Words`. Files and standard output expose no bytes, so that over them the contract of `run` speaks of the
-//! status, the place, the order of reading and the counts of faults, and not of what is read or written. What the built program does over
-//! files is tested by `checks/program.sh`, at the top of the repository.
+//! that `words` stops only if memory runs out, that `feeds` names each feed after its file, and that in `typeset` words that are not of the form of
+//! the command line, or whose font files have no names that a feed may have, end with `Words`, `WriteFault` or `Memory`, and no others with `Words`.
+//! Files and standard output expose no bytes, so that over them the contract of `run` speaks of the status, the place, the order of reading and
+//! the counts of faults, and not of what is read or written. What the built program does over files is tested by `checks/program.sh`, at the
+//! top of the repository.
 #![tactic(auto)]
 
-ghost use Rattle.std.specs.Prelude.{◌≡◌, ◌⊎◌, false, map, string_bytes, IfErr};
-ghost use Rattle.ntx_words.specs.CommandLine.{command_line};
-ghost use Rattle.ntx_run.specs.Run.{names_no_font};
+ghost use Rattle.std.specs.Prelude.{◌≡◌, ◌⊎◌, ℕ, List, [], false, map, string_bytes, IfErr, IfOk};
+ghost use Rattle.ntx_io.specs.Feed.{IsFontName};
+ghost use Rattle.ntx_run.specs.Run.{fits_form};
 ghost use Rattle.ntx.specs.Number.{number_of};
+ghost use Rattle.ntx.specs.Fonts.{AreNamedAfter, font_paths};
 
 #[cfg(test)]
 mod tests;
 
-use ntx_io::{Feed, FileSink, FileSource, MemSource, NullSink, StdoutSink};
-use ntx_num::Fail;
+use ntx_io::{Feed, FileFeed, FileSink, FileSource, MemSource, NullSink, Sink, StdoutSink};
+use ntx_num::{Fail, NoMemory};
 use ntx_run::{Outcome, Status, run};
 use ntx_words::read_words;
 use std::alloc::Global;
@@ -66,56 +68,89 @@ impl<F: Drop> Standard<F> {
     }
 }
 
-/// Typesets the document that the words name. If they name none, no file is opened. If the standard descriptors cannot be taken, no
-/// document is typeset, and the status is that of a write fault.
-fn typeset<R: Files + Print + Alloc<A = Global>>(rt: &R, words: &[String]) -> Outcome
-    ensures refused { names_no_font (command_line (map string_bytes words.now)) ≡ false →
-        (result.status ≡ Status.Words) ⊎ ((result.status ≡ Status.WriteFault) ⊎ (result.status ≡ Status.Memory)) }
-    ensures only { result.status ≡ Status.Words → names_no_font (command_line (map string_bytes words.now)) ≡ false }
+/// A feed over a font's file, named after it. A feed over the files of any other runtime cannot be boxed here with a proof.
+fn feed_over(rt: &HostRuntime, path: &str) -> Result<Box<dyn Feed>, NoMemory>
+    ensures { IfOk result (λ feed. IsFontName path.now (named feed).name) }
 {
     let alloc = rt.alloc();
-    let mut fonts: Vec<Box<dyn Feed>> = Vec::new(alloc);
-    let mut lines = StdoutSink::new(rt);
-    let paths = match read_words(alloc, words) {
-        Ok(line) if line.sizes.is_empty() => line.paths,
-        Ok(_) | Err(Fail::Is(_)) => Vec::new(alloc),
-        Err(Fail::NoMemory) => {
-            return Outcome {
-                status: Status::Memory,
-                place: None,
-            };
-        }
-    };
-    match paths.as_slice() {
-        [doc, script, patterns, dvi] => {
-            let Ok(_standard) = Standard::taken(rt) else {
-                return Outcome {
-                    status: Status::WriteFault,
-                    place: None,
-                };
-            };
-            run(
-                alloc,
-                words,
-                &mut FileSource::open(rt, doc.as_str()),
-                &mut FileSource::open(rt, script.as_str()),
-                &mut FileSource::open(rt, patterns.as_str()),
-                &mut fonts,
-                &mut FileSink::create(rt, dvi.as_str()),
-                &mut lines,
-            )
-        }
-        _ => run(
-            alloc,
-            words,
-            &mut nothing(alloc),
-            &mut nothing(alloc),
-            &mut nothing(alloc),
-            &mut fonts,
-            &mut NullSink::new(),
-            &mut lines,
-        ),
+    let feed = FileFeed::open(rt, alloc, path)?;
+    Ok(Box::new(alloc, feed)?)
+}
+
+/// A feed over each font's file, named after it.
+fn feeds(rt: &HostRuntime, paths: &[String]) -> Result<Vec<Box<dyn Feed>>, NoMemory>
+    ensures { IfOk result (λ feeds. AreNamedAfter (map string_bytes paths.now) (map (λ font. font.name) (map (λ feed. named feed) feeds.items))) }
+{
+    let mut feeds = Vec::new(rt.alloc());
+    for path in paths {
+        let feed = feed_over(rt, path.as_str())?;
+        feeds.push(feed)?;
     }
+    Ok(feeds)
+}
+
+/// An outcome without a place.
+fn ended(status: Status) -> Outcome
+    ensures { result.status ≡ status }
+{
+    Outcome {
+        status,
+        place: None,
+    }
+}
+
+/// Typesets the document that the words name. If they name none, no file is opened. If the standard descriptors cannot be taken, no
+/// document is typeset, and the status is that of a write fault.
+fn typeset(rt: &HostRuntime, words: &[String]) -> Outcome
+    ensures refused { ((names : List (List ℕ)) → AreNamedAfter (font_paths (map string_bytes words.now)) names → fits_form (map string_bytes words.now) names ≡ false) →
+        (result.status ≡ Status.Words) ⊎ ((result.status ≡ Status.WriteFault) ⊎ (result.status ≡ Status.Memory)) }
+    ensures only { result.status ≡ Status.Words →
+        (names : List (List ℕ)) × AreNamedAfter (font_paths (map string_bytes words.now)) names × (fits_form (map string_bytes words.now) names ≡ false) }
+{
+    let alloc = rt.alloc();
+    let mut lines = StdoutSink::new(rt);
+    let line = match read_words(alloc, words) {
+        Ok(line) => line,
+        Err(Fail::Is(_)) => return refuse(alloc, words, &mut lines),
+        Err(Fail::NoMemory) => return ended(Status::Memory),
+    };
+    let [doc, script, patterns, dvi, fonts @ ..] = line.paths.as_slice() else {
+        return refuse(alloc, words, &mut lines);
+    };
+    let Ok(_standard) = Standard::taken(rt) else {
+        return ended(Status::WriteFault);
+    };
+    let Ok(mut fonts) = feeds(rt, fonts) else {
+        return ended(Status::Memory);
+    };
+    run(
+        alloc,
+        words,
+        &mut FileSource::open(rt, doc.as_str()),
+        &mut FileSource::open(rt, script.as_str()),
+        &mut FileSource::open(rt, patterns.as_str()),
+        &mut fonts,
+        &mut FileSink::create(rt, dvi.as_str()),
+        &mut lines,
+    )
+}
+
+/// The run of words that name no files, over sources of nothing and without feeds.
+fn refuse<L: Sink>(alloc: Global, words: &[String], lines: &mut L) -> Outcome
+    ensures refused { fits_form (map string_bytes words.now) [] ≡ false →
+        (result.status ≡ Status.Words) ⊎ ((result.status ≡ Status.WriteFault) ⊎ (result.status ≡ Status.Memory)) }
+    ensures only { result.status ≡ Status.Words → fits_form (map string_bytes words.now) [] ≡ false }
+{
+    run(
+        alloc,
+        words,
+        &mut nothing(alloc),
+        &mut nothing(alloc),
+        &mut nothing(alloc),
+        &mut Vec::new(alloc),
+        &mut NullSink::new(),
+        lines,
+    )
 }
 
 /// A source over nothing.
