@@ -1,10 +1,9 @@
 -- The names of feeds, one more.
-use Rattle.std.proofs.Common.{◌≡◌, ℕ, ◌+◌, ◌<◌, List, [], ◌∷◌, ◌++◌, map, take, Result, Ok, Err, arith, refl, ap, sym, ◌∙◌, subst, slice_index_or}
+use Rattle.std.proofs.Common.{◌≡◌, ℕ, ◌+◌, ◌-◌, ◌<◌, List, [], ◌∷◌, ◌++◌, map, take, drop, Ok, arith, refl, ap, sym, ◌∙◌, subst, slice_index_or}
 use Rattle.std.specs.Prelude.{length}
-use Rattle.std.proofs.lemmas.List.{take_more, drop_all, map-append}
+use Rattle.std.proofs.lemmas.List.{take_more, take_all, drop_all, length-drop, drop-map, length-map, map-append}
 use Rattle.ntx_io.specs.Outside.{NamedInput}
 use Rattle.ntx_io.specs.Feed.{IsFontName}
-use Rattle.ntx_words.specs.declared.words.BadWords.{BadWords}
 use Rattle.ntx_words.specs.CommandLine.{CommandLine, command_line}
 use Rattle.ntx.specs.Fonts.{AreNamedAfter, paths_in, font_paths}
 
@@ -23,8 +22,18 @@ one_more bytes seen paths i d before after feed text inside named adds text_is d
 
 -- ---- words that name no fonts
 
-pub no_line : (words : List (List ℕ)) (refusal : BadWords) → command_line words ≡ Err refusal → AreNamedAfter (font_paths words) []
-no_line words refusal is = subst (λ ps. AreNamedAfter ps []) (sym (ap paths_in is)) tt
+pub no_paths : {P : Type 0} (bytes : P → List ℕ) (words : List (List ℕ)) (line : CommandLine) (paths shown : List P) → command_line words ≡ Ok line → line.paths ≡ map bytes paths → shown ≡ paths → length shown < 4 → AreNamedAfter (font_paths words) []
+no_paths bytes words line paths shown is paths_are shown_is few =
+    let count : length line.paths ≡ length shown = ap length paths_are ∙ length-map paths bytes ∙ ap length (sym shown_is) in
+    subst (λ ps. AreNamedAfter ps []) (sym (ap paths_in is ∙ drop_all 4 line.paths (omega arith))) tt
 
-pub no_paths : (words : List (List ℕ)) (line : CommandLine) → command_line words ≡ Ok line → length line.paths < 4 → AreNamedAfter (font_paths words) []
-no_paths words line is few = subst (λ ps. AreNamedAfter ps []) (sym (ap paths_in is ∙ drop_all 4 line.paths (omega arith))) tt
+pub named_paths : {P : Type 0} (bytes : P → List ℕ) (words : List (List ℕ)) (line : CommandLine) (paths shown fonts : List P) (names : List (List ℕ)) → command_line words ≡ Ok line → line.paths ≡ map bytes paths → shown ≡ paths → fonts ≡ drop 4 shown → AreNamedAfter (map bytes fonts) names → AreNamedAfter (font_paths words) names
+named_paths bytes words line paths shown fonts names is paths_are shown_is fonts_are named =
+    let all : font_paths words ≡ map bytes fonts = ap paths_in is ∙ ap (drop 4) paths_are ∙ drop-map bytes 4 paths ∙ ap (λ ps. map bytes (drop 4 ps)) (sym shown_is) ∙ ap (map bytes) (sym fonts_are) in
+    subst (λ ps. AreNamedAfter ps names) (sym all) named
+
+-- All elements from one on.
+pub all_after : {P : Type 0} (n : ℕ) (xs : List P) → take (length xs - n) (drop n xs) ≡ drop n xs
+all_after n xs =
+    let count : length (drop n xs) ≡ length xs - n = length-drop n xs in
+    take_all (length xs - n) (drop n xs) (omega arith)
