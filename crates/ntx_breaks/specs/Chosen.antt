@@ -3,7 +3,7 @@
 --     chosen end states                 the state at the end with the least total, the first of equal ones
 --     chain_of states state             where the lines that lead to a state end
 --     answer_of params items pass       what a pass comes to, if it has a state at the end
---     breaks_of params items            what the first pass that has one comes to; a final pass always has one
+--     breaks_of params items            what the first pass that has one comes to, and no lines if none has one
 use Rattle.std.specs.Prelude.{ℕ, zero, suc, ◌+◌, nat_eq, ℤ, pos, int_lt, Bool, false, ◌&&◌, ◌||◌, not, if◌then◌else◌, Option, Some, None, List, [], ◌∷◌, ◌++◌, length, take, slice_index, slice_index_or}
 use Rattle.std.specs.Option.{unwrap_or}
 use Rattle.std.specs.List.{filter, fold, list_any}
