@@ -81,8 +81,16 @@ fn a_font_is_read_and_refused_with_its_fault(rt: HostRuntime) -> Result<(), Fail
     let table = [
         (longer.as_slice(), FontFault::Lengths, "! Font 1 Lengths\n"),
         (&whole[..403], FontFault::Short, "! Font 1 Short\n"),
-        (operation.as_slice(), FontFault::LigProgram, "! Font 1 LigProgram\n"),
-        (larger.as_slice(), FontFault::TooLarge, "! Font 1 TooLarge\n"),
+        (
+            operation.as_slice(),
+            FontFault::LigProgram,
+            "! Font 1 LigProgram\n",
+        ),
+        (
+            larger.as_slice(),
+            FontFault::TooLarge,
+            "! Font 1 TooLarge\n",
+        ),
     ];
     for (bytes, fault, line) in table {
         let given = run(alloc, &ONE_FONT, &[named("T", bytes)])?;
@@ -107,7 +115,10 @@ fn fonts_are_read_in_order_after_the_patterns(rt: HostRuntime) -> Result<(), Fai
     let fonts = [named("T", whole.as_slice()), named("U", b"")];
     let second = run(alloc, &words, &fonts)?;
     assert_eq!(rt; second.lines.as_slice(), b"! Font 2 Short\n".as_slice());
-    assert_eq!(rt; second.outcome.place, Some(Place::FontAt(2, FontFault::Short)));
+    assert_eq!(rt;
+        second.outcome.place,
+        Some(Place::FontAt(2, FontFault::Short))
+    );
     let patterns = Job {
         words: &words,
         patterns: b"y",
@@ -115,7 +126,10 @@ fn fonts_are_read_in_order_after_the_patterns(rt: HostRuntime) -> Result<(), Fai
         ..of_document(BOX)
     }
     .run(alloc)?;
-    assert_eq!(rt; patterns.lines.as_slice(), b"! Patterns line 0\n".as_slice());
+    assert_eq!(rt;
+        patterns.lines.as_slice(),
+        b"! Patterns line 0\n".as_slice()
+    );
     Ok(())
 }
 
