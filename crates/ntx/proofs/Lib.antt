@@ -1,2 +1,2 @@
--- the names of feeds, one more
-pub mod Naming
+-- what it means if a run refuses the words
+pub mod Feeds

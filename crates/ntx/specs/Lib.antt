@@ -1,4 +1,4 @@
 -- the number of each status
 pub mod Number
--- the fonts of a command line
+-- whether a command line names fonts
 pub mod Fonts

@@ -2,18 +2,18 @@
 //!
 //! It stands on `ntx_io`, `ntx_words` and `ntx_run`. Of `main` nothing is proved: neither which files are opened, nor that [`ntx_run::run`] is called,
 //! nor that the process ends with the number of the run's status. Of its parts it is proved that `number` gives each status its number,
-//! that `words` stops only if memory runs out, that `feeds` names each feed after its file, and that in `typeset` words that are not of the form of
-//! the command line, or whose font files have no names that a feed may have, end with `Words`, `WriteFault` or `Memory`, and no others with `Words`.
+//! that `words` stops only if memory runs out, that `font_feed` names a feed after its file, and that in `typeset` words that are not of the form of
+//! the command line end with `Words`, `WriteFault` or `Memory`, and of the others only words that name a font can end with `Words`.
 //! Files and standard output expose no bytes, so that over them the contract of `run` speaks of the status, the place, the order of reading and
 //! the counts of faults, and not of what is read or written. What the built program does over files is tested by `checks/program.sh`, at the
 //! top of the repository.
 #![tactic(auto)]
 
-ghost use Rattle.std.specs.Prelude.{◌≡◌, ◌⊎◌, ℕ, List, [], false, map, string_bytes, IfErr, IfOk};
+ghost use Rattle.std.specs.Prelude.{◌≡◌, ◌⊎◌, false, map, string_bytes, IsErr, IfErr, IfOk};
 ghost use Rattle.ntx_io.specs.Feed.{IsFontName};
-ghost use Rattle.ntx_run.specs.Run.{fits_form};
+ghost use Rattle.ntx_words.specs.CommandLine.{command_line};
 ghost use Rattle.ntx.specs.Number.{number_of};
-ghost use Rattle.ntx.specs.Fonts.{AreNamedAfter, font_paths};
+ghost use Rattle.ntx.specs.Fonts.{names_no_font};
 
 #[cfg(test)]
 mod tests;
@@ -68,25 +68,16 @@ impl<F: Drop> Standard<F> {
     }
 }
 
-/// A feed over a font's file, named after it. A feed over the files of any other runtime cannot be boxed here with a proof.
-fn feed_over(rt: &HostRuntime, path: &str) -> Result<Box<dyn Feed>, NoMemory>
-    ensures { IfOk result (λ feed. IsFontName path.now (named feed).name) }
+/// A feed over a font's file, named after it.
+fn font_feed<R: Files + Alloc<A = Global>>(
+    rt: &R,
+    path: &str,
+) -> Result<Box<FileFeed<R::File>>, NoMemory>
+    ensures { IfOk result (λ feed. IsFontName path.now (string_bytes feed.value.name)) }
 {
     let alloc = rt.alloc();
     let feed = FileFeed::open(rt, alloc, path)?;
     Ok(Box::new(alloc, feed)?)
-}
-
-/// A feed over each font's file, named after it.
-fn feeds(rt: &HostRuntime, paths: &[String]) -> Result<Vec<Box<dyn Feed>>, NoMemory>
-    ensures { IfOk result (λ feeds. AreNamedAfter (map string_bytes paths.now) (map (λ font. font.name) (map (λ feed. named feed) feeds.items))) }
-{
-    let mut feeds = Vec::new(rt.alloc());
-    for path in paths {
-        let feed = feed_over(rt, path.as_str())?;
-        feeds.push(feed)?;
-    }
-    Ok(feeds)
 }
 
 /// An outcome without a place.
@@ -102,10 +93,9 @@ fn ended(status: Status) -> Outcome
 /// Typesets the document that the words name. If they name none, no file is opened. If the standard descriptors cannot be taken, no
 /// document is typeset, and the status is that of a write fault.
 fn typeset(rt: &HostRuntime, words: &[String]) -> Outcome
-    ensures refused { ((names : List (List ℕ)) → AreNamedAfter (font_paths (map string_bytes words.now)) names → fits_form (map string_bytes words.now) names ≡ false) →
+    ensures refused { IsErr (command_line (map string_bytes words.now)) →
         (result.status ≡ Status.Words) ⊎ ((result.status ≡ Status.WriteFault) ⊎ (result.status ≡ Status.Memory)) }
-    ensures only { result.status ≡ Status.Words →
-        (names : List (List ℕ)) × AreNamedAfter (font_paths (map string_bytes words.now)) names × (fits_form (map string_bytes words.now) names ≡ false) }
+    ensures only { result.status ≡ Status.Words → names_no_font (command_line (map string_bytes words.now)) ≡ false }
 {
     let alloc = rt.alloc();
     let mut lines = StdoutSink::new(rt);
@@ -120,16 +110,24 @@ fn typeset(rt: &HostRuntime, words: &[String]) -> Outcome
     let Ok(_standard) = Standard::taken(rt) else {
         return ended(Status::WriteFault);
     };
-    let Ok(mut fonts) = feeds(rt, fonts) else {
-        return ended(Status::Memory);
-    };
+    let mut feeds: Vec<Box<dyn Feed>> = Vec::new(alloc);
+    if !line.sizes.is_empty() {
+        for path in fonts {
+            let Ok(feed) = font_feed(rt, path.as_str()) else {
+                return ended(Status::Memory);
+            };
+            if feeds.push(feed).is_err() {
+                return ended(Status::Memory);
+            }
+        }
+    }
     run(
         alloc,
         words,
         &mut FileSource::open(rt, doc.as_str()),
         &mut FileSource::open(rt, script.as_str()),
         &mut FileSource::open(rt, patterns.as_str()),
-        &mut fonts,
+        &mut feeds,
         &mut FileSink::create(rt, dvi.as_str()),
         &mut lines,
     )
@@ -137,9 +135,9 @@ fn typeset(rt: &HostRuntime, words: &[String]) -> Outcome
 
 /// The run of words that name no files, over sources of nothing and without feeds.
 fn refuse<L: Sink>(alloc: Global, words: &[String], lines: &mut L) -> Outcome
-    ensures refused { fits_form (map string_bytes words.now) [] ≡ false →
+    ensures refused { IsErr (command_line (map string_bytes words.now)) →
         (result.status ≡ Status.Words) ⊎ ((result.status ≡ Status.WriteFault) ⊎ (result.status ≡ Status.Memory)) }
-    ensures only { result.status ≡ Status.Words → fits_form (map string_bytes words.now) [] ≡ false }
+    ensures only { result.status ≡ Status.Words → names_no_font (command_line (map string_bytes words.now)) ≡ false }
 {
     run(
         alloc,

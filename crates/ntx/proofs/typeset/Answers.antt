@@ -1,14 +1,10 @@
-use Rattle.std.proofs.Common.{rules, string_bytes, refl}
-use Rattle.ntx.proofs.Naming.{no_paths, named_paths, all_after}
+use Rattle.std.proofs.Common.{rules}
+use Rattle.ntx.proofs.Feeds.{refused_with_made, some_font}
 use Rattle.ntx.proofs.typeset.Goals as goal
+use Rattle.ntx.proofs.typeset.Goals.{then-not-is_empty+else-loop-path-test, else-not-is_empty}
 
-pub returns-in_default-clause-refused : goal.returns-in_default-clause-refused
-returns-in_default-clause-refused c = λ refused.
-    c.refuse-in_default.ensures.refused (refused _ (no_paths string_bytes _ _ c.in-Ok.line.paths.items _ c.in-Ok.ensures refl c.as_slice.ensures.value c.in_default.len_below))
-
-pub returns-in_default-clause-only : goal.returns-in_default-clause-only
-returns-in_default-clause-only c = λ ended.
-    (_, no_paths string_bytes _ _ c.in-Ok.line.paths.items _ c.in-Ok.ensures refl c.as_slice.ensures.value c.in_default.len_below, c.refuse-in_default.ensures.only ended)
-
-pub returns-clause-refused : goal.returns-clause-refused
-returns-clause-refused c = λ refused. (c.run.ensures.words_first (refused _ (named_paths string_bytes _ _ c.in-Ok.line.paths.items _ _ _ c.in-Ok.ensures refl c.as_slice.ensures.value (all_after 4 _) c.in-Ok-feeds.ensures))).0
+pub returns-clause-only : goal.returns-clause-only
+returns-clause-only c = λ ended. elim c.if-not-is_empty.branch [
+  | then-not-is_empty+else-loop-path-test w ↦ some_font _ _ c.in-Ok.ensures (let is = c.is_empty.ensures in let holds = w.if-not-is_empty.true in search rules)
+  | else-not-is_empty w ↦ refused_with_made (λ v. v.items) _ _ _ _ w.feeds-is c.new-feeds.ensures.items (c.run.ensures.words_refused ended)
+]

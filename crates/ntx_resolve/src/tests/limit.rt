@@ -5,7 +5,7 @@ use super::build::{
 };
 use crate::resolve;
 use ntx_num::Fail;
-use ntx_syntax::{Chunk, SyntaxWhy};
+use ntx_syntax::{Chunk, StatKind, SyntaxWhy};
 use std::alloc::{AllocError, Global};
 use std::process::Abort;
 use std::test;
@@ -44,21 +44,30 @@ fn one_function(rt: HostRuntime) -> Result<(), test::Fail> {
     Ok(())
 }
 
+/// `do local` with these names `end`
+fn inner(alloc: Global, names: &[u8]) -> Result<StatKind, AllocError> {
+    let stats = one(alloc, local(alloc, names, b"")?)?;
+    let inner = block(alloc, stats, b"")?;
+    do_block(alloc, inner)
+}
+
 /// `do local` with so many names `end`, and `local` with 200 names
 fn after_a_block(alloc: Global, count: u64) -> Result<Chunk, AllocError> {
     let first = many(alloc, b'a', count)?;
+    let inner = inner(alloc, &first)?;
     let names = many(alloc, b'b', 200)?;
-    let inner = block(alloc, one(alloc, local(alloc, &first, b"")?)?, b"")?;
-    let inner = do_block(alloc, inner)?;
-    chunk(alloc, two(alloc, inner, local(alloc, &names, b"")?)?, b"")
+    let later = local(alloc, &names, b"")?;
+    let stats = two(alloc, inner, later)?;
+    chunk(alloc, stats, b"")
 }
 
 /// `local` with 198 names, and `do local` with these `end`
 fn in_a_block(alloc: Global, names: &[u8]) -> Result<Chunk, AllocError> {
+    let inner = inner(alloc, names)?;
     let first = many(alloc, b'a', 198)?;
-    let inner = block(alloc, one(alloc, local(alloc, names, b"")?)?, b"")?;
-    let inner = do_block(alloc, inner)?;
-    chunk(alloc, two(alloc, local(alloc, &first, b"")?, inner)?, b"")
+    let older = local(alloc, &first, b"")?;
+    let stats = two(alloc, older, inner)?;
+    chunk(alloc, stats, b"")
 }
 
 #[test]
@@ -69,18 +78,27 @@ fn blocks_that_end(rt: HostRuntime) -> Result<(), test::Fail> {
     Ok(())
 }
 
-/// `local` with so many names, and a function with so many parameters that declares these names
+/// A function with so many parameters that declares these names
+fn with_parameters(alloc: Global, count: u64, names: &[u8]) -> Result<StatKind, AllocError> {
+    let parameters = many(alloc, b'p', count)?;
+    let stats = one(alloc, local(alloc, names, b"")?)?;
+    let inner = block(alloc, stats, b"")?;
+    let made = body(alloc, &parameters, inner)?;
+    function(alloc, b'f', made)
+}
+
+/// `local` with so many names, and such a function
 fn in_a_function(
     alloc: Global,
     count: u64,
     parameters: u64,
     names: &[u8],
 ) -> Result<Chunk, AllocError> {
+    let made = with_parameters(alloc, parameters, names)?;
     let first = many(alloc, b'a', count)?;
-    let parameters = many(alloc, b'p', parameters)?;
-    let inner = block(alloc, one(alloc, local(alloc, names, b"")?)?, b"")?;
-    let made = function(alloc, b'f', body(alloc, &parameters, inner)?)?;
-    chunk(alloc, two(alloc, local(alloc, &first, b"")?, made)?, b"")
+    let older = local(alloc, &first, b"")?;
+    let stats = two(alloc, older, made)?;
+    chunk(alloc, stats, b"")
 }
 
 #[test]

@@ -122,18 +122,38 @@ fn innermost(alloc: Global) -> Result<StatKind, AllocError> {
     local_function(alloc, b'h', made)
 }
 
-/// `local function g(c)`, with the innermost in it, and `return c, h end`
-fn middle(alloc: Global) -> Result<StatKind, AllocError> {
-    let inner = block(alloc, one(alloc, innermost(alloc)?)?, b"ch")?;
-    local_function(alloc, b'g', body(alloc, b"c", inner)?)
+/// `local function name(parameter)`, a statement in it, `return` with these names, and `end`
+fn around(
+    alloc: Global,
+    letter: u8,
+    parameter: &[u8],
+    inner: StatKind,
+    returned: &[u8],
+) -> Result<StatKind, AllocError> {
+    let inner = one(alloc, inner)?;
+    let inner = block(alloc, inner, returned)?;
+    let made = body(alloc, parameter, inner)?;
+    local_function(alloc, letter, made)
 }
 
-/// `local a; local function f(b)`, with the middle one in it, and `return b, g end; return a, f`
+/// `local function g(c)`, with the innermost in it, and `return c, h end`
+fn middle(alloc: Global) -> Result<StatKind, AllocError> {
+    let inner = innermost(alloc)?;
+    around(alloc, b'g', b"c", inner, b"ch")
+}
+
+/// `local function f(b)`, with the middle one in it, and `return b, g end`
+fn outer(alloc: Global) -> Result<StatKind, AllocError> {
+    let inner = middle(alloc)?;
+    around(alloc, b'f', b"b", inner, b"bg")
+}
+
+/// `local a`, the outer one, and `return a, f`
 fn three_functions(alloc: Global) -> Result<Chunk, AllocError> {
+    let outer = outer(alloc)?;
     let older = local(alloc, b"a", b"")?;
-    let inner = block(alloc, one(alloc, middle(alloc)?)?, b"bg")?;
-    let outer = local_function(alloc, b'f', body(alloc, b"b", inner)?)?;
-    chunk(alloc, two(alloc, older, outer)?, b"af")
+    let stats = two(alloc, older, outer)?;
+    chunk(alloc, stats, b"af")
 }
 
 #[test]
