@@ -4,6 +4,7 @@ use crate::job::{BOX, BOX_FILE, FILES, FontFile, Given, Job, of_document};
 use ntx_run::{Place, Status, Which};
 use ntx_tfm::FontFault;
 use std::alloc::{AllocError, Global};
+use std::process::Abort;
 use std::test::Fail;
 
 /// Files and one font at its design size.
@@ -66,44 +67,62 @@ fn named<'a>(name: &'a str, bytes: &'a [u8]) -> FontFile<'a> {
     }
 }
 
+/// Asserts that a run with this font alone is refused for it.
+fn refuses(
+    rt: &(impl Abort + AllocGlobal),
+    bytes: &[u8],
+    fault: FontFault,
+    line: &str,
+) -> Result<(), Fail> {
+    let given = run(rt.alloc(), &ONE_FONT, &[named("T", bytes)])?;
+    assert_eq!(rt; given.outcome.status, Status::Font, "{line}");
+    assert_eq!(rt; given.outcome.place, Some(Place::FontAt(1, fault)));
+    assert_eq!(rt; given.lines.as_slice(), line.as_bytes());
+    assert_eq!(rt; given.dvi.len(), 0, "{line}");
+    Ok(())
+}
+
+/// Asserts that a run with this font alone ends well.
+fn takes(rt: &(impl Abort + AllocGlobal), bytes: &[u8]) -> Result<(), Fail> {
+    let given = run(rt.alloc(), &ONE_FONT, &[named("T", bytes)])?;
+    assert_eq!(rt; given.outcome.status, Status::Done);
+    assert_eq!(rt; given.dvi.as_slice(), BOX_FILE.as_slice());
+    Ok(())
+}
+
 #[test]
-fn a_font_is_read_and_refused_with_its_fault(rt: HostRuntime) -> Result<(), Fail> {
+fn a_damaged_font_is_refused_with_its_fault(rt: HostRuntime) -> Result<(), Fail> {
     let alloc = rt.alloc();
     let whole = font_of(alloc, 101, 0)?;
+    takes(&rt, whole.as_slice())?;
+    refuses(&rt, &whole[..403], FontFault::Short, "! Font 1 Short\n")?;
     let longer = font_of(alloc, 102, 0)?;
+    refuses(
+        &rt,
+        longer.as_slice(),
+        FontFault::Lengths,
+        "! Font 1 Lengths\n",
+    )?;
     let operation = font_of(alloc, 101, 4)?;
-    let mut largest = font_of(alloc, 101, 0)?;
-    while largest.len() < 1 << 18 {
-        largest.push(0)?;
+    let fault = FontFault::LigProgram;
+    refuses(&rt, operation.as_slice(), fault, "! Font 1 LigProgram\n")?;
+    Ok(())
+}
+
+#[test]
+fn a_font_that_is_too_large_is_refused(rt: HostRuntime) -> Result<(), Fail> {
+    let mut font = font_of(rt.alloc(), 101, 0)?;
+    while font.len() < 1 << 18 {
+        font.push(0)?;
     }
-    let mut larger = largest.as_slice().to_vec(alloc)?;
-    larger.push(0)?;
-    let table = [
-        (longer.as_slice(), FontFault::Lengths, "! Font 1 Lengths\n"),
-        (&whole[..403], FontFault::Short, "! Font 1 Short\n"),
-        (
-            operation.as_slice(),
-            FontFault::LigProgram,
-            "! Font 1 LigProgram\n",
-        ),
-        (
-            larger.as_slice(),
-            FontFault::TooLarge,
-            "! Font 1 TooLarge\n",
-        ),
-    ];
-    for (bytes, fault, line) in table {
-        let given = run(alloc, &ONE_FONT, &[named("T", bytes)])?;
-        assert_eq!(rt; given.outcome.status, Status::Font, "{line}");
-        assert_eq!(rt; given.outcome.place, Some(Place::FontAt(1, fault)));
-        assert_eq!(rt; given.lines.as_slice(), line.as_bytes());
-        assert_eq!(rt; given.dvi.len(), 0, "{line}");
-    }
-    for bytes in [whole.as_slice(), largest.as_slice()] {
-        let given = run(alloc, &ONE_FONT, &[named("T", bytes)])?;
-        assert_eq!(rt; given.outcome.status, Status::Done);
-        assert_eq!(rt; given.dvi.as_slice(), BOX_FILE.as_slice());
-    }
+    takes(&rt, font.as_slice())?;
+    font.push(0)?;
+    refuses(
+        &rt,
+        font.as_slice(),
+        FontFault::TooLarge,
+        "! Font 1 TooLarge\n",
+    )?;
     Ok(())
 }
 
@@ -156,29 +175,45 @@ fn a_feed_that_fails_ends_the_run_with_its_line(rt: HostRuntime) -> Result<(), F
     Ok(())
 }
 
+/// Asserts how a run with a font of this name ends.
+fn ends(rt: &(impl Abort + AllocGlobal), name: &str, status: Status) -> Result<(), Fail> {
+    let bytes = font_of(rt.alloc(), 101, 0)?;
+    let given = run(rt.alloc(), &ONE_FONT, &[named(name, bytes.as_slice())])?;
+    assert_eq!(rt; given.outcome.status, status, "{name}");
+    Ok(())
+}
+
 #[test]
-fn feeds_fit_the_words_by_number_and_name(rt: HostRuntime) -> Result<(), Fail> {
-    let alloc = rt.alloc();
-    let whole = font_of(alloc, 101, 0)?;
-    let mut longest = String::new(alloc);
-    while longest.len() < 255 {
-        longest.push_str("~")?;
-    }
-    let mut longer = String::from_str(alloc, longest.as_str())?;
-    longer.push_str("!")?;
+fn feeds_have_names_of_visible_bytes(rt: HostRuntime) -> Result<(), Fail> {
     for (name, status) in [
-        ("T", Status::Done),
         ("!", Status::Done),
-        (longest.as_str(), Status::Done),
+        ("~", Status::Done),
         ("", Status::Words),
         ("T U", Status::Words),
         ("T\u{7f}", Status::Words),
         ("\u{e9}", Status::Words),
-        (longer.as_str(), Status::Words),
     ] {
-        let given = run(alloc, &ONE_FONT, &[named(name, whole.as_slice())])?;
-        assert_eq!(rt; given.outcome.status, status, "{name}");
+        ends(&rt, name, status)?;
     }
+    Ok(())
+}
+
+#[test]
+fn a_feed_has_a_name_of_at_most_255_bytes(rt: HostRuntime) -> Result<(), Fail> {
+    let mut name = String::new(rt.alloc());
+    while name.len() < 255 {
+        name.push_str("~")?;
+    }
+    ends(&rt, name.as_str(), Status::Done)?;
+    name.push_str("!")?;
+    ends(&rt, name.as_str(), Status::Words)?;
+    Ok(())
+}
+
+#[test]
+fn there_are_as_many_feeds_as_fonts(rt: HostRuntime) -> Result<(), Fail> {
+    let alloc = rt.alloc();
+    let whole = font_of(alloc, 101, 0)?;
     let font = named("T", whole.as_slice());
     let none = run(alloc, &ONE_FONT, &[])?;
     assert_eq!(rt; none.outcome.status, Status::Words);
