@@ -1,6 +1,6 @@
 //! The names in scope.
 
-ghost use Rattle.std.specs.Prelude.{◌∷◌, [], ◌≡◌, ◌≤◌, ◌<◌, ◌-◌, length, take, slice_get, Some, ◌≢◌, ℕ, MatchOption, OnOk};
+ghost use Rattle.std.specs.Prelude.{◌∷◌, [], ◌≡◌, ◌≤◌, ◌<◌, ◌-◌, length, slice_get, Some, ◌≢◌, ℕ, MatchOption, OnOk, IfOk};
 ghost use Rattle.std.specs.Bool.{Decides};
 ghost use Rattle.ntx_num.specs.declared.answer.Fail.TheVariants.{Is};
 ghost use Rattle.ntx_syntax.specs.declared.fault.SyntaxWhy.TheVariants.{Locals};
@@ -10,7 +10,6 @@ ghost use Rattle.ntx_resolve.specs.Scopes.{IsVariable, IsLast};
 ghost use Rattle.ntx_resolve.specs.inner.Allows.{Allows};
 
 use crate::code::Variable;
-use crate::names::copied;
 use ntx_num::Fail;
 use ntx_syntax::{LocalName, Name, SyntaxFault, SyntaxWhy};
 use std::alloc::{AllocError, Global};
@@ -31,23 +30,14 @@ fn too_many(local: &LocalName) -> Fail<SyntaxFault>
 
 /// The names in scope at a place of a script.
 #[derive(Drop)]
-pub struct Scope {
+pub struct Scope<'a> {
     /// The names of all local variables in scope, the oldest first; a name that is hidden by a later one is among them.
-    names: Vec<Name>,
+    names: Vec<&'a [u8]>,
     /// How many of them are of enclosing functions.
     from: usize,
 }
 
-/// Where a block or a function begins: what [`Scope::leave`] goes back to.
-#[derive(Clone, Copy, Debug, PartialEq, Eq)]
-pub struct Mark {
-    /// How many names are in scope.
-    pub names: usize,
-    /// How many of them are of enclosing functions.
-    pub from: usize,
-}
-
-impl Model for Scope {
+impl<'a> Model for Scope<'a> {
     ghost use Rattle.ntx_resolve.specs.Scopes.{Scope};
 
     ghost Value = { Scope };
@@ -59,9 +49,9 @@ impl Model for Scope {
     ghost invariant = { IsWithin };
 }
 
-impl Scope {
+impl<'a> Scope<'a> {
     /// The scope at the beginning of a script.
-    pub fn outermost(alloc: Global) -> Scope
+    pub fn outermost(alloc: Global) -> Scope<'a>
         ensures { result ≡ scopes.outermost }
     {
         Scope {
@@ -70,33 +60,24 @@ impl Scope {
         }
     }
 
-    /// The mark of this place.
-    pub fn mark(&self) -> Mark
-        ensures names { result.names ≡ length self.now.names }
-        ensures from { result.from ≡ self.now.from }
-        ensures within { result.from ≤ result.names }
+    /// The scope in a function that is made in this one.
+    pub fn inside(&self) -> Result<Scope<'a>, AllocError>
+        ensures { IfOk result (λ scope. scope ≡ scopes.enter self.now) }
     {
-        Mark {
-            names: self.names.len(),
+        let names = self.names.clone()?;
+        let from = names.len();
+        Ok(Scope { names, from })
+    }
+
+    /// A copy of the scope.
+    pub fn copy(&self) -> Result<Scope<'a>, AllocError>
+        ensures { IfOk result (λ scope. scope ≡ self.now) }
+    {
+        let names = self.names.clone()?;
+        Ok(Scope {
+            names,
             from: self.from,
-        }
-    }
-
-    /// Enters a function that is made in this scope.
-    pub fn enter(&mut self)
-        ensures { self.new ≡ scopes.enter self.old }
-    {
-        self.from = self.names.len();
-    }
-
-    /// Goes back to a mark: names declared since are no longer in scope.
-    pub fn leave(&mut self, mark: Mark)
-        requires within { mark.from ≤ mark.names }
-        requires declared { mark.names ≤ length self.old.names }
-        ensures { self.new ≡ record { names = take mark.names self.old.names; from = mark.from } }
-    {
-        self.names.truncate(mark.names);
-        self.from = mark.from;
+        })
     }
 
     /// Which variable the name is.
@@ -134,31 +115,30 @@ impl Scope {
         requires { place < length self.now.names }
         ensures { Decides result (slice_get self.now.names place ≡ Some name.now) }
     {
-        self.names[place].as_slice() == name
+        self.names[place] == name
     }
 
     /// Declares these names.
-    pub fn declare(&mut self, alloc: Global, names: &[LocalName]) -> Result<(), AllocError>
+    pub fn declare(&mut self, names: &'a [LocalName]) -> Result<(), AllocError>
         ensures { OnOk result (self.new ≡ scopes.declare self.old names.now) }
     {
         for local in names {
-            self.names.push(copied(alloc, &local.name)?)?;
+            self.names.push(local.name.as_slice())?;
         }
         Ok(())
     }
 
     /// Declares this name.
-    pub fn declare_one(&mut self, alloc: Global, local: &LocalName) -> Result<(), AllocError>
+    pub fn declare_one(&mut self, local: &'a LocalName) -> Result<(), AllocError>
         ensures { OnOk result (self.new ≡ scopes.declare self.old (local.now ∷ [])) }
     {
-        self.names.push(copied(alloc, &local.name)?)?;
+        self.names.push(local.name.as_slice())?;
         Ok(())
     }
 
     /// How many names of the function itself are in scope.
     fn locals(&self) -> usize
-        ensures count { result ≡ scopes.locals self.now }
-        ensures within { self.now.from ≤ length self.now.names }
+        ensures { result ≡ scopes.locals self.now }
     {
         self.names.len() - self.from
     }
@@ -169,8 +149,7 @@ impl Scope {
     ///
     /// Locals, with the line of the first of them that would be the 201st name of the function in scope.
     pub fn has_room_for(&self, names: &[LocalName]) -> Result<(), Fail<SyntaxFault>>
-        ensures allows { Allows (excess_of_names (scopes.locals self.now) names.now) result }
-        ensures within { self.now.from ≤ length self.now.names }
+        ensures { Allows (excess_of_names (scopes.locals self.now) names.now) result }
     {
         let mut count = self.locals();
         for local in names {
@@ -188,8 +167,7 @@ impl Scope {
     ///
     /// Locals, with its line, if it would be the 201st name of the function in scope.
     pub fn has_room_for_one(&self, local: &LocalName) -> Result<(), Fail<SyntaxFault>>
-        ensures allows { Allows (excess_of_names (scopes.locals self.now) (local.now ∷ [])) result }
-        ensures within { self.now.from ≤ length self.now.names }
+        ensures { Allows (excess_of_names (scopes.locals self.now) (local.now ∷ [])) result }
     {
         if self.locals() >= MAX_LOCALS {
             return Err(too_many(local));
