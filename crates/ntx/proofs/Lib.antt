@@ -1,2 +1,1 @@
--- what it means if a run refuses the words
-pub mod Feeds
+pub mod Paths

@@ -1,6 +1,6 @@
 //! A job in memory.
 
-use ntx_io::{Feed, MemFeed, MemSink, MemSource};
+use ntx_io::{Feed, MemSink, MemSource};
 use ntx_run::{Outcome, run};
 use std::alloc::Global;
 use std::test::Fail;
@@ -20,17 +20,6 @@ pub struct Fails {
     pub lines: Option<u64>,
 }
 
-/// The file of a font.
-#[derive(Clone, Copy)]
-pub struct FontFile<'a> {
-    /// The name of its feed.
-    pub name: &'a str,
-    /// Its bytes.
-    pub bytes: &'a [u8],
-    /// The call at which the feed fails, counted from 1.
-    pub fails: Option<u64>,
-}
-
 /// The inputs of a job.
 #[derive(Clone, Copy)]
 pub struct Job<'a> {
@@ -42,8 +31,6 @@ pub struct Job<'a> {
     pub script: &'a [u8],
     /// The patterns.
     pub patterns: &'a [u8],
-    /// The fonts.
-    pub fonts: &'a [FontFile<'a>],
     /// When the sources and sinks fail.
     pub fails: Fails,
 }
@@ -94,19 +81,6 @@ fn source(alloc: Global, bytes: &[u8], fails: Option<u64>) -> Result<MemSource, 
     Ok(MemSource::new(bytes.to_vec(alloc)?, calls(alloc, fails)?))
 }
 
-fn feeds(alloc: Global, fonts: &[FontFile]) -> Result<Vec<Box<dyn Feed>>, Fail> {
-    let mut feeds: Vec<Box<dyn Feed>> = Vec::new(alloc);
-    for font in fonts {
-        let feed = MemFeed::new(
-            String::from_str(alloc, font.name)?,
-            font.bytes.to_vec(alloc)?,
-            calls(alloc, font.fails)?,
-        );
-        feeds.push(Box::new(alloc, feed)?)?;
-    }
-    Ok(feeds)
-}
-
 /// The words as texts of their own.
 pub fn texts(alloc: Global, words: &[&str]) -> Result<Vec<String>, Fail> {
     let mut texts = Vec::new(alloc);
@@ -119,7 +93,7 @@ pub fn texts(alloc: Global, words: &[&str]) -> Result<Vec<String>, Fail> {
 impl Job<'_> {
     /// Runs the job with ample memory.
     pub fn run(&self, alloc: Global) -> Result<Given, Fail> {
-        let mut fonts = feeds(alloc, self.fonts)?;
+        let mut fonts: Vec<Box<dyn Feed>> = Vec::new(alloc);
         let mut dvi = MemSink::new(alloc, 8192, calls(alloc, self.fails.dvi)?)?;
         let mut lines = MemSink::new(alloc, 4096, calls(alloc, self.fails.lines)?)?;
         let outcome = run(
@@ -147,7 +121,6 @@ pub fn of_document(doc: &[u8]) -> Job<'_> {
         doc,
         script: b"",
         patterns: b"",
-        fonts: &[],
         fails: Fails::default(),
     }
 }

@@ -7,8 +7,6 @@
 #[cfg(test)]
 mod faults;
 #[cfg(test)]
-mod fonts;
-#[cfg(test)]
 mod job;
 #[cfg(test)]
 mod packing;
