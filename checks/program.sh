@@ -131,6 +131,7 @@ ends 'no font' 9 '! ReadFault font 1\n' document script patterns dvi U.tfm
 cp T.tfm 'T U.tfm'
 ends 'a font whose name has a space' 2 '! Words\n' document script patterns dvi 'T U.tfm'
 ends 'a font without a name' 2 '! Words\n' document script patterns dvi .tfm
+ends 'a font without a path' 2 '! Words\n' document script patterns dvi @5
 cd ..
 
 # ---- words
@@ -138,7 +139,6 @@ cd ..
 job "$box"
 ends 'no words' 2 '! Words\n'
 ends 'three words' 2 '! Words\n' document script patterns
-ends 'a font without a path' 2 '! Words\n' document script patterns dvi @5
 ends 'an option' 2 '! Words\n' document script patterns --dvi
 ends 'an abbreviated option' 2 '! Words\n' --step 5 document script patterns dvi
 ends 'an option twice' 2 '! Words\n' --steps 5 --steps 5 document script patterns dvi
