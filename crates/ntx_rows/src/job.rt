@@ -94,17 +94,13 @@ fn source(alloc: Global, bytes: &[u8], fails: Option<u64>) -> Result<MemSource, 
     Ok(MemSource::new(bytes.to_vec(alloc)?, calls(alloc, fails)?))
 }
 
-fn feeds(alloc: Global, fonts: &[FontFile]) -> Result<Vec<Box<dyn Feed>>, Fail> {
-    let mut feeds: Vec<Box<dyn Feed>> = Vec::new(alloc);
-    for font in fonts {
-        let feed = MemFeed::new(
-            String::from_str(alloc, font.name)?,
-            font.bytes.to_vec(alloc)?,
-            calls(alloc, font.fails)?,
-        );
-        feeds.push(Box::new(alloc, feed)?)?;
-    }
-    Ok(feeds)
+fn feed(alloc: Global, font: &FontFile) -> Result<Box<MemFeed>, Fail> {
+    let feed = MemFeed::new(
+        String::from_str(alloc, font.name)?,
+        font.bytes.to_vec(alloc)?,
+        calls(alloc, font.fails)?,
+    );
+    Ok(Box::new(alloc, feed)?)
 }
 
 /// The words as texts of their own.
@@ -119,7 +115,10 @@ pub fn texts(alloc: Global, words: &[&str]) -> Result<Vec<String>, Fail> {
 impl Job<'_> {
     /// Runs the job with ample memory.
     pub fn run(&self, alloc: Global) -> Result<Given, Fail> {
-        let mut fonts = feeds(alloc, self.fonts)?;
+        let mut fonts: Vec<Box<dyn Feed>> = Vec::new(alloc);
+        for font in self.fonts {
+            fonts.push(feed(alloc, font)?)?;
+        }
         let mut dvi = MemSink::new(alloc, 8192, calls(alloc, self.fails.dvi)?)?;
         let mut lines = MemSink::new(alloc, 4096, calls(alloc, self.fails.lines)?)?;
         let outcome = run(
