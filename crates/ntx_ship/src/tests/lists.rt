@@ -5,7 +5,7 @@ use ntx_nodes::{Field, FieldValue, Kind, Nodes, PlainHeap, Trouble};
 use ntx_num::Fail;
 use ntx_pack::{hpack, vpack};
 use ntx_tfm::Font;
-use std::alloc::Global;
+use std::alloc::{AllocError, Global};
 
 /// Puts a value into a field.
 fn put(nodes: &mut PlainHeap, n: u64, field: Field, v: FieldValue) -> Result<(), Fail<Trouble>> {
@@ -91,9 +91,10 @@ impl List {
         Ok(())
     }
 
-    /// Makes the character 97 of font 0 at the end.
-    pub fn letter(&mut self, nodes: &mut PlainHeap) -> Result<(), Fail<Trouble>> {
-        let _n = self.make(nodes, Kind::Glyph, &[(Field::Char, 97)])?;
+    /// Makes the character 97 of a font at the end.
+    pub fn letter(&mut self, nodes: &mut PlainHeap, font: i64) -> Result<(), Fail<Trouble>> {
+        let fields = [(Field::Char, 97), (Field::Font, font)];
+        let _n = self.make(nodes, Kind::Glyph, &fields)?;
         Ok(())
     }
 
@@ -130,4 +131,17 @@ pub fn disc(nodes: &mut PlainHeap, replace: List) -> Result<u64, Fail<Trouble>> 
     let n = nodes.make(Kind::Disc, 0)?;
     put(nodes, n, Field::Replace, FieldValue::Link(replace.head))?;
     Ok(n)
+}
+
+/// The bytes of a font with the character `a` alone, 327680 wide and 286720 high at its design size of 10 points.
+pub fn letter_font(alloc: Global) -> Result<Vec<u8>, AllocError> {
+    let mut bytes = Vec::new(alloc);
+    for n in [15u16, 2, 97, 97, 2, 2, 1, 1, 0, 0, 0, 0] {
+        bytes.extend_from_slice(&n.to_be_bytes())?;
+    }
+    let words = [0u32, 0xa0_0000, 0x110_0000, 0, 0x8_0000, 0, 0x7_0000, 0, 0];
+    for word in words {
+        bytes.extend_from_slice(&word.to_be_bytes())?;
+    }
+    Ok(bytes)
 }

@@ -1,12 +1,11 @@
 //! Where marks stand.
 
-use super::lists::{EMPTY, disc, shift};
+use super::lists::{EMPTY, disc, letter_font, shift};
 use crate::{GlyphMark, Piece, RuleMark, placed};
 use ntx_item::PackTo::{Additional, Exactly};
 use ntx_nodes::{PlainHeap, Trouble};
 use ntx_num::Fail::Is;
 use ntx_tfm::{Font, read_font};
-use std::alloc::{AllocError, Global};
 use std::test;
 
 /// A rule.
@@ -164,32 +163,19 @@ fn letter(h: i32) -> Piece {
     })
 }
 
-/// The bytes of a font with the character `a` alone, 327680 wide and 286720 high at its design size of 10 points.
-fn letter_font(alloc: Global) -> Result<Vec<u8>, AllocError> {
-    let mut bytes = Vec::new(alloc);
-    for n in [15u16, 2, 97, 97, 2, 2, 1, 1, 0, 0, 0, 0] {
-        bytes.extend_from_slice(&n.to_be_bytes())?;
-    }
-    let words = [0u32, 0xa0_0000, 0x110_0000, 0, 0x8_0000, 0, 0x7_0000, 0, 0];
-    for word in words {
-        bytes.extend_from_slice(&word.to_be_bytes())?;
-    }
-    Ok(bytes)
-}
-
 #[test]
 fn characters_stand_on_the_baseline(rt: HostRuntime) -> Result<(), test::Fail> {
     let mut nodes = PlainHeap::new(rt.alloc(), 1)?;
     let bytes = letter_font(rt.alloc())?;
     let fonts = [read_font(rt.alloc(), &bytes, "t", None)?];
     let mut replace = EMPTY;
-    replace.letter(&mut nodes)?;
+    replace.letter(&mut nodes, 0)?;
     let disc = disc(&mut nodes, replace)?;
     let mut list = EMPTY;
-    list.letter(&mut nodes)?;
+    list.letter(&mut nodes, 0)?;
     list.kern(&mut nodes, -1)?;
     list.push(&mut nodes, disc)?;
-    list.letter(&mut nodes)?;
+    list.letter(&mut nodes, 0)?;
     let page = list.hbox(rt.alloc(), &mut nodes, &fonts, Additional(0))?;
     let page = placed(rt.alloc(), &mut nodes, &fonts, page)?;
     let pieces = [letter(0), letter(327_679), letter(655_359)];
