@@ -66,8 +66,8 @@ stays_known old new known number def are e again others = record {
   each = λ k.
       elim (nat_eq k number) as (λ b. nat_eq k number ≡ b → IfSome (definition_in new k) (λ x. known k ≡ Some x)) [
         | true ↦ λ t.
-          let same : number ≡ k = sym (eqb-true k number t) in
-          subst (λ (m : ℕ). IfSome (definition_in new m) (λ x. known m ≡ Some x)) same (known_of_same (definition_in new number) (known number) def again e)
+            let same : number ≡ k = sym (eqb-true k number t) in
+            subst (λ (m : ℕ). IfSome (definition_in new m) (λ x. known m ≡ Some x)) same (known_of_same (definition_in new number) (known number) def again e)
         | false ↦ λ f. subst (λ (o : Option FontDef). IfSome o (λ x. known k ≡ Some x)) (sym (others.each k (λ s. no_test k number f s))) (are.each k)
       ] refl;
 }

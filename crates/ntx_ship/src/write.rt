@@ -59,12 +59,7 @@ fn set_glyph(dvi: &mut Dvi, fonts: &[Font], m: GlyphMark) -> Result<(), Fail<Dvi
 }
 
 /// Moves to a character and sets it.
-fn draw_glyph(
-    dvi: &mut Dvi,
-    fonts: &[Font],
-    here: Place,
-    m: GlyphMark,
-) -> Result<(), Fail<DviFull>>
+fn draw_glyph(dvi: &mut Dvi, fonts: &[Font], here: Place, m: GlyphMark) -> Result<(), Fail<DviFull>>
     requires in_page { IsInPage dvi.old }
     requires here { IsOnPage here }
     requires place { IsStanding m.h m.v m.width }

@@ -68,11 +68,7 @@ fn a_box_brings_back_the_place_where_it_began(rt: HostRuntime) -> Result<(), tes
 }
 
 /// Boxes in one another, so many around a rule behind a kern of 1 scaled point, and a kern of 1 before each box.
-fn nested(
-    rt: &HostRuntime,
-    nodes: &mut PlainHeap,
-    count: u64,
-) -> Result<u64, Fail<Trouble>> {
+fn nested(rt: &HostRuntime, nodes: &mut PlainHeap, count: u64) -> Result<u64, Fail<Trouble>> {
     let fonts: [Font; 0] = [];
     let mut list = EMPTY;
     list.kern(nodes, 1)?;
