@@ -6,6 +6,7 @@
 
 mod answer;
 mod cost;
+mod law;
 mod making;
 mod pass;
 mod penalty;
@@ -14,6 +15,7 @@ mod state;
 mod way;
 
 pub use answer::{Breaks, break_items};
+pub use law::each_paragraph_breaks;
 
 #[cfg(test)]
 mod tests;
