@@ -25,4 +25,16 @@ pub use fault::{DocFault, DocWhy};
 pub use read::read_doc;
 
 #[cfg(test)]
+mod fault_tests;
+#[cfg(test)]
+mod form_tests;
+#[cfg(test)]
+mod param_tests;
+#[cfg(test)]
+mod place_tests;
+#[cfg(test)]
+mod range_tests;
+#[cfg(test)]
 mod tests;
+#[cfg(test)]
+mod text_tests;
