@@ -5,7 +5,7 @@ use Rattle.ntx_item.specs.declared.pack_to.PackTo.{PackTo}
 use Rattle.ntx_item.specs.declared.pack_to.PackTo.TheVariants.{Exactly, Additional}
 use Rattle.ntx_doc.specs.declared.command.Command.{Command}
 use Rattle.ntx_doc.specs.declared.command.Command.TheVariants.{HBox}
-use Rattle.ntx_doc.specs.declared.draft.Group.{Group}
+use Rattle.ntx_doc.specs.declared.group.Group.{Group}
 use Rattle.ntx_doc.specs.declared.fault.DocWhy.{DocWhy}
 use Rattle.ntx_doc.specs.declared.fault.DocWhy.TheVariants as why
 use Rattle.ntx_doc.specs.Refusal.{refused_unless}
@@ -29,7 +29,7 @@ max_depth = 20
 abbrev pub opened : PackTo → Place → Place
 opened to place =
     record {
-      done = place.done; groups = record { to = to; body = [] } ∷ place.groups; has_box = true; font = place.font; after_text = false }
+      done = place.done; groups = (record { to = to; body = [] }) ∷ place.groups; has_box = true; font = place.font; after_text = false }
 
 -- `hbox`, `hbox to W` or `hbox spread W` opens a box.
 abbrev pub hbox : List (List ℕ) → Place → Result Place DocWhy

@@ -5,7 +5,7 @@
 use Rattle.std.specs.Prelude.{ℕ, ◌+◌, List, [], ◌∷◌, Result, Ok, Err}
 use Rattle.std.specs.Str.Lines.{lines}
 use Rattle.ntx_doc.specs.declared.command.Command.{Command}
-use Rattle.ntx_doc.specs.declared.draft.Group.{Group}
+use Rattle.ntx_doc.specs.declared.group.Group.{Group}
 use Rattle.ntx_doc.specs.declared.fault.DocWhy.{DocWhy}
 use Rattle.ntx_doc.specs.declared.fault.DocWhy.TheVariants as why
 use Rattle.ntx_doc.specs.declared.fault.DocFault.{DocFault}

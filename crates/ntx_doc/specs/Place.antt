@@ -1,7 +1,7 @@
 -- A place in a document: what the lines before it say.
 use Rattle.std.specs.Prelude.{ℕ, Bool, true, false, List, [], ◌∷◌, ◌++◌}
 use Rattle.ntx_doc.specs.declared.command.Command.{Command}
-use Rattle.ntx_doc.specs.declared.draft.Group.{Group}
+use Rattle.ntx_doc.specs.declared.group.Group.{Group}
 
 pub record Place : Type 0 where
   -- the finished commands outside of any box
@@ -21,7 +21,7 @@ first_place = record { done = []; groups = []; has_box = false; font = 0; after_
 -- the open boxes with one more command in the innermost one
 abbrev pub put_in_box : Command → List Group → List Group
 put_in_box command [] = []
-put_in_box command (group ∷ outer) = record { to = group.to; body = group.body ++ command ∷ [] } ∷ outer
+put_in_box command (group ∷ outer) = (record { to = group.to; body = group.body ++ command ∷ [] }) ∷ outer
 
 -- the finished commands with one more, if no box is open
 abbrev pub put_outside : Command → List Command → List Group → List Command

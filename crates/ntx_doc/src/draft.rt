@@ -11,11 +11,11 @@ use crate::command::Command;
 use crate::fault::DocWhy;
 use crate::fields::one_field;
 use crate::form::Form;
+use crate::group::Group;
 use crate::material::{glue, glyph, kern, penalty, rule, space, width_of_box};
 use crate::numbers::natural_in;
 use crate::settings::{attr, no_attr, set, set_glue};
 use crate::text::{are_plain, next_field};
-use ntx_item::PackTo;
 use ntx_num::Fail;
 use sqlite_items::Items;
 use std::alloc::Global;
@@ -25,15 +25,6 @@ const MAX_DEPTH: usize = 20;
 
 /// The greatest font number.
 const MAX_FONT: u8 = 63;
-
-/// An open box.
-#[derive(Drop)]
-pub struct Group {
-    /// The width that it is packed to.
-    pub to: PackTo,
-    /// The commands in it so far.
-    pub body: Items<Command>,
-}
 
 /// What the lines read so far say.
 #[derive(Drop)]

@@ -13,6 +13,7 @@ mod draft;
 mod fault;
 mod fields;
 mod form;
+mod group;
 mod material;
 mod numbers;
 mod read;

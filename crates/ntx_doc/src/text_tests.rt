@@ -32,7 +32,7 @@ fn reads_text_with_space_between_words_and_lines(rt: HostRuntime) {
             panic!(rt; "not one box");
         };
         assert_eq!(rt; body.len(), expected.len(), "{bytes:?}");
-        for (command, wanted) in body.iter().zip(expected) {
+        for (command, wanted) in body.as_slice().iter().zip(expected) {
             assert_eq!(rt; seen(command), *wanted, "{bytes:?}");
         }
     }
@@ -75,7 +75,7 @@ fn reads_what_stands_around_a_box(rt: HostRuntime) {
         Seen::Set(Param::Hsize, 6),
     ];
     assert_eq!(rt; commands.len(), 5);
-    for (command, wanted) in commands.iter().zip(&expected) {
+    for (command, wanted) in commands.as_slice().iter().zip(&expected) {
         assert_eq!(rt; seen(command), *wanted);
     }
 }
