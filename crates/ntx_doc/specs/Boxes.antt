@@ -27,9 +27,7 @@ max_depth = 20
 
 -- the place with one more open box, the innermost
 abbrev pub opened : PackTo → Place → Place
-opened to place =
-    record {
-      done = place.done; groups = (record { to = to; body = [] }) ∷ place.groups; has_box = true; font = place.font; after_text = false }
+opened to place = record place { groups = (record { to = to; body = [] }) ∷ place.groups; has_box = true; after_text = false }
 
 -- `hbox`, `hbox to W` or `hbox spread W` opens a box.
 abbrev pub hbox : List (List ℕ) → Place → Result Place DocWhy
@@ -39,8 +37,7 @@ hbox arguments place =
 
 -- the place with these open boxes
 abbrev pub with_groups : List Group → Place → Place
-with_groups groups place =
-    record { done = place.done; groups = groups; has_box = place.has_box; font = place.font; after_text = place.after_text }
+with_groups groups place = record place { groups = groups }
 
 -- the place after the innermost open box, which becomes a command of what is around it
 abbrev pub closed : List Group → Place → Result Place DocWhy

@@ -38,8 +38,7 @@ font_number fonts (k ∷ []) = result_and_then (font_in k) (λ n. refused_unless
 font_number fonts _ = Err why.Fields
 
 abbrev pub with_font : Place → ℕ → Place
-with_font place number =
-    record { done = place.done; groups = place.groups; has_box = place.has_box; font = number; after_text = false }
+with_font place number = record place { font = number; after_text = false }
 
 abbrev pub font : ℕ → List (List ℕ) → Place → Result Place DocWhy
 font fonts arguments place = result_map (with_font place) (font_number fonts arguments)

@@ -31,9 +31,8 @@ put_outside command done (group ∷ outer) = done
 -- the place with one more command, at the end of the innermost open box, or outside of boxes if none is open
 abbrev pub put : Command → Place → Place
 put command place =
-    record {
-      done = put_outside command place.done place.groups; groups = put_in_box command place.groups; has_box = place.has_box;
-      font = place.font; after_text = false }
+    record place {
+      done = put_outside command place.done place.groups; groups = put_in_box command place.groups; after_text = false }
 
 -- the place with these commands, one after another
 abbrev pub put_all : List Command → Place → Place

@@ -26,8 +26,7 @@ text_commands after_text font word others =
 
 -- the place whose last line is `text`
 abbrev pub with_text_before : Place → Place
-with_text_before place =
-    record { done = place.done; groups = place.groups; has_box = place.has_box; font = place.font; after_text = true }
+with_text_before place = record place { after_text = true }
 
 -- `text` and one or more words; there is at least one font
 abbrev pub text : ℕ → List (List ℕ) → Place → Result Place DocWhy

@@ -154,27 +154,16 @@ impl Draft {
         ensures { Answers (result_map place_of result)
             (Ok (place.put command (place_of self))) }
     {
-        let Draft {
-            mut done,
-            mut groups,
-            has_box,
-            font,
-            after_text: _,
-        } = self;
-        match groups.pop() {
-            None => done.push(command)?,
+        let mut draft = self;
+        match draft.groups.pop() {
+            None => draft.done.push(command)?,
             Some(Group { to, mut body }) => {
                 body.push(command)?;
-                groups.push(Group { to, body })?;
+                draft.groups.push(Group { to, body })?;
             }
         }
-        Ok(Draft {
-            done,
-            groups,
-            has_box,
-            font,
-            after_text: false,
-        })
+        draft.after_text = false;
+        Ok(draft)
     }
 
     /// The draft with the command of a line, or the line's refusal.
@@ -193,21 +182,13 @@ impl Draft {
         ensures { Answers (result_map place_of result)
             (specified.font fonts (fields_of arguments.now) (place_of self)) }
     {
-        let Draft {
-            done,
-            groups,
-            has_box,
-            font: _,
-            after_text: _,
-        } = self;
         match font_number(fonts, arguments) {
-            Ok(font) => Ok(Draft {
-                done,
-                groups,
-                has_box,
-                font,
-                after_text: false,
-            }),
+            Ok(font) => {
+                let mut draft = self;
+                draft.font = font;
+                draft.after_text = false;
+                Ok(draft)
+            }
             Err(why) => Err(Fail::Is(why)),
         }
     }
@@ -224,22 +205,12 @@ impl Draft {
         if self.groups.len() >= MAX_DEPTH {
             return Err(Fail::Is(DocWhy::Depth));
         }
-        let Draft {
-            done,
-            mut groups,
-            has_box: _,
-            font,
-            after_text: _,
-        } = self;
+        let mut draft = self;
         let body = Items::new(alloc);
-        groups.push(Group { to, body })?;
-        Ok(Draft {
-            done,
-            groups,
-            has_box: true,
-            font,
-            after_text: false,
-        })
+        draft.groups.push(Group { to, body })?;
+        draft.has_box = true;
+        draft.after_text = false;
+        Ok(draft)
     }
 
     /// The draft after `end`, which closes the innermost box.
@@ -250,24 +221,11 @@ impl Draft {
         if next_field(arguments).is_some() {
             return Err(Fail::Is(DocWhy::Fields));
         }
-        let Draft {
-            done,
-            mut groups,
-            has_box,
-            font,
-            after_text,
-        } = self;
-        let Some(Group { to, body }) = groups.pop() else {
-            return Err(Fail::Is(DocWhy::Command));
-        };
-        let outside = Draft {
-            done,
-            groups,
-            has_box,
-            font,
-            after_text,
-        };
-        outside.put(Command::HBox { to, body })
+        let mut draft = self;
+        match draft.groups.pop() {
+            None => Err(Fail::Is(DocWhy::Command)),
+            Some(Group { to, body }) => draft.put(Command::HBox { to, body }),
+        }
     }
 }
 
