@@ -24,3 +24,5 @@ pub mod Lines
 pub mod Document
 -- for private calls: the place that a draft holds
 pub mod Draft
+-- what the commands of an accepted document can be
+pub mod Shape

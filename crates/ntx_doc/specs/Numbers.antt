@@ -1,6 +1,6 @@
 -- The numbers of a line: a field that writes no number is refused as Number, and then a number outside its range as Range.
-use Rattle.std.specs.Prelude.{ℕ, List, ℤ, pos, negsuc, neg_ℤ, nat_le, ◌^◌, ◌-◌, Result, Ok, Err}
-use Rattle.ntx_num.specs.Dimension.{max_order}
+use Rattle.std.specs.Prelude.{ℕ, List, ℤ, pos, negsuc, neg_ℤ, nat_le, Result, Ok, Err}
+use Rattle.ntx_num.specs.Dimension.{max_order, max_penalty}
 use Rattle.ntx_item.specs.Parameters.{Range, is_in, up_to, dimensions}
 use Rattle.ntx_doc.specs.declared.fault.DocWhy.{DocWhy}
 use Rattle.ntx_doc.specs.declared.fault.DocWhy.TheVariants as why
@@ -36,7 +36,7 @@ abbrev pub font_in : List ℕ → Result ℕ DocWhy
 font_in field = natural_in 63 field
 
 abbrev pub penalties : Range
-penalties = up_to (2 ^ 31 - 1)
+penalties = up_to max_penalty
 
 -- the numbers of attributes
 abbrev pub attributes : Range

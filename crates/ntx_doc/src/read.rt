@@ -1,8 +1,9 @@
 //! Reading a document.
 
-ghost use Rattle.std.specs.Prelude.{◌≡◌};
+ghost use Rattle.std.specs.Prelude.{◌≡◌, IfOk};
 ghost use Rattle.ntx_num.specs.Answer.{Answers, result_map};
 ghost use Rattle.ntx_doc.specs.Document.{document_of};
+ghost use Rattle.ntx_doc.specs.Shape.{AreCommands};
 
 use crate::command::Command;
 use crate::draft::Draft;
@@ -50,6 +51,7 @@ use std::alloc::Global;
 /// `Open`, with the number of the last line: the document ends and a box is not closed.
 pub fn read_doc(alloc: Global, bytes: &[u8], fonts: u64) -> Result<Vec<Command>, Fail<DocFault>>
     ensures document { Answers (result_map (λ commands. commands.items) result) (document_of bytes.now fonts) }
+    ensures shape { IfOk result (λ commands. AreCommands fonts commands.items) }
 {
     let mut draft = Draft::new(alloc);
     let mut number: u64 = 0;
