@@ -1,5 +1,5 @@
 use crate::command::Command;
-use crate::tests::{Seen, commands_of, glue, seen};
+use crate::tests::{Seen, commands_of, glue, said_by};
 use ntx_item::{GlueParam, PackTo};
 use ntx_num::Size;
 
@@ -92,7 +92,7 @@ fn reads_each_form_outside_of_boxes(rt: HostRuntime) {
         let [command] = commands.as_slice() else {
             panic!(rt; "not one command");
         };
-        assert_eq!(rt; seen(command), expected, "{bytes:?}");
+        assert_eq!(rt; said_by(command), expected, "{bytes:?}");
     }
 }
 
@@ -204,6 +204,6 @@ fn reads_each_form_in_a_box(rt: HostRuntime) {
         let [command] = body.as_slice() else {
             panic!(rt; "not one command");
         };
-        assert_eq!(rt; seen(command), expected, "{bytes:?}");
+        assert_eq!(rt; said_by(command), expected, "{bytes:?}");
     }
 }

@@ -1,5 +1,5 @@
 use crate::fault::{DocFault, DocWhy};
-use crate::tests::{Seen, commands_of, fault_of, seen};
+use crate::tests::{Seen, commands_of, fault_of, said_by};
 use ntx_item::Param;
 
 #[test]
@@ -30,7 +30,7 @@ fn sets_each_parameter_to_its_least_value(rt: HostRuntime) {
         let [command] = commands.as_slice() else {
             panic!(rt; "not one command");
         };
-        assert_eq!(rt; seen(command), Seen::Set(param, value));
+        assert_eq!(rt; said_by(command), Seen::Set(param, value));
     }
 }
 
@@ -62,7 +62,7 @@ fn sets_each_parameter_to_its_greatest_value(rt: HostRuntime) {
         let [command] = commands.as_slice() else {
             panic!(rt; "not one command");
         };
-        assert_eq!(rt; seen(command), Seen::Set(param, value));
+        assert_eq!(rt; said_by(command), Seen::Set(param, value));
     }
 }
 

@@ -39,7 +39,7 @@ pub enum Seen {
 }
 
 /// What a command says.
-pub fn seen(command: &Command) -> Seen {
+pub fn said_by(command: &Command) -> Seen {
     match command {
         Command::Set(param, value) => Seen::Set(*param, *value),
         Command::SetGlue(param, spec) => Seen::SetGlue(*param, *spec),

@@ -1,6 +1,6 @@
 use crate::command::Command;
 use crate::fault::{DocFault, DocWhy};
-use crate::tests::{Seen, commands_of, fault_of, seen};
+use crate::tests::{Seen, commands_of, fault_of, said_by};
 use ntx_item::{PackTo, Param};
 use ntx_num::Size;
 use std::test::Fail as TestFail;
@@ -33,7 +33,7 @@ fn reads_text_with_space_between_words_and_lines(rt: HostRuntime) {
         };
         assert_eq!(rt; body.len(), expected.len(), "{bytes:?}");
         for (command, wanted) in body.as_slice().iter().zip(expected) {
-            assert_eq!(rt; seen(command), *wanted, "{bytes:?}");
+            assert_eq!(rt; said_by(command), *wanted, "{bytes:?}");
         }
     }
 }
@@ -76,7 +76,7 @@ fn reads_what_stands_around_a_box(rt: HostRuntime) {
     ];
     assert_eq!(rt; commands.len(), 5);
     for (command, wanted) in commands.as_slice().iter().zip(&expected) {
-        assert_eq!(rt; seen(command), *wanted);
+        assert_eq!(rt; said_by(command), *wanted);
     }
 }
 
