@@ -17,7 +17,7 @@ natural_from most (pos n) = refused_unless why.Range (nat_le n most) (Ok n)
 natural_from most (negsuc n) = Err why.Range
 
 abbrev pub natural_in : ℕ → List ℕ → Result ℕ DocWhy
-natural_in most field = refused_without why.Number (number_of field) (natural_from most)
+natural_in most field = refused_without why.Number (number_of field) (λ z. natural_from most z)
 
 -- a length in scaled points, and the stretch or the shrink of glue
 abbrev pub dimension_in : List ℕ → Result ℤ DocWhy

@@ -1,6 +1,6 @@
 -- What the commands of an accepted document can be, for whoever carries them out.
 --     AreCommands fonts commands      the commands of a document, if there are as many fonts: each in its place and its range
-use Rattle.std.specs.Prelude.{ℕ, zero, suc, ◌≤◌, ◌<◌, ⊥, Bool, true, false, List, length, filter}
+use Rattle.std.specs.Prelude.{ℕ, zero, suc, ◌≤◌, ◌<◌, Bool, true, false, List, length, filter}
 use Rattle.std.specs.List.{AllByRecursion}
 use Rattle.ntx_num.specs.Dimension.{IsDimension, IsWithin, max_penalty}
 use Rattle.ntx_item.specs.Parameters.{IsIn, IsInRange, IsGlueInRange}
