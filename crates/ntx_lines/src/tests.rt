@@ -1,1 +1,6 @@
-//! Lines by hand.
+mod breaks;
+mod compare;
+mod matter;
+mod refusals;
+mod rows;
+mod skips;
