@@ -1,5 +1,5 @@
 -- The vertical list of a paragraph ("TeX: The Program", sections 679, 888 and 890): the lines so far, and what stands between two of them.
---     Above                              the list so far
+--     nothing_above                      the list before the first line
 --     with_box s above n heap            a line more at the end, after interline glue if it is not the first
 --     line_penalty s first last hyphenated    the penalty after a line
 --     with_penalty p last heap           a penalty at the end, unless it is 0
@@ -11,17 +11,10 @@ use Rattle.ntx_nodes.specs.declared.trouble.Trouble.TheVariants.{Dimension}
 use Rattle.ntx_item.specs.Settings.{Settings}
 use Rattle.ntx_item.specs.declared.glue.GlueSpec.{GlueSpec}
 use Rattle.ntx_pack.specs.Vertical.{interline_glue}
+use Rattle.ntx_lines.specs.declared.above.Above.{Above}
 use Rattle.ntx_lines.specs.Trace.{Trace, stays, trace_and_then}
 use Rattle.ntx_lines.specs.Making.{glue_fields, penalty_fields, follows, made_before, made_at_end}
 use Rattle.ntx_lines.specs.LineBox.{box_fields_at}
-
-pub record Above : Type 0 where
-  -- the first node
-  pub first : Option ℕ
-  -- the last node
-  pub last : Option ℕ
-  -- the depth of the last line
-  pub depth : ℤ
 
 -- no lines
 abbrev pub nothing_above : Above

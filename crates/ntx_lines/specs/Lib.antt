@@ -14,3 +14,5 @@ pub mod LineBox
 pub mod Above
 -- the whole pass
 pub mod Lines
+-- what private calls say among themselves
+pub mod inner

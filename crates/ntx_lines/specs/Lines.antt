@@ -22,7 +22,8 @@ use Rattle.ntx_lines.specs.Parts.{Part, parts_of}
 use Rattle.ntx_lines.specs.LineEnd.{Ended, ended, discards}
 use Rattle.ntx_lines.specs.Skips.{with_rightskip, with_leftskip}
 use Rattle.ntx_lines.specs.LineBox.{line_box}
-use Rattle.ntx_lines.specs.Above.{Above, nothing_above, with_box, line_penalty, with_penalty}
+use Rattle.ntx_lines.specs.declared.above.Above.{Above}
+use Rattle.ntx_lines.specs.Above.{nothing_above, with_box, line_penalty, with_penalty}
 
 -- ---- one line
 

@@ -1,9 +1,9 @@
 //! The vertical list of a paragraph.
 
-ghost use Rattle.std.specs.Prelude.{◌≡◌, ◌≤◌, ◌*◌, unsigned_abs};
+ghost use Rattle.std.specs.Prelude.{◌≡◌};
 ghost use Rattle.ntx_num.specs.Dimension.{IsDimension};
-ghost use Rattle.ntx_num.specs.Dimension as bounds;
-ghost use Rattle.ntx_lines.specs.Above.{interline_subtype, checked_glue, interline, with_box, line_penalty, only_if, with_penalty};
+ghost use Rattle.ntx_num.specs.Answer.{Answers};
+ghost use Rattle.ntx_lines.specs.Above.{nothing_above, interline_subtype, checked_glue, interline, with_box, line_penalty, only_if, with_penalty};
 ghost use Rattle.ntx_lines.specs.inner.Chains.{EndsAs, EndsAsAbove};
 
 use crate::line_box::box_fields;
@@ -54,7 +54,9 @@ fn interline_subtype(params: &Params, depth: i64, height: i64) -> u8
 }
 
 /// Refuses with Dimension where a glue is wider than a node can be.
-fn checked_glue(spec: GlueSpec) -> Result<GlueSpec, Fail<Trouble>> {
+fn checked_glue(spec: GlueSpec) -> Result<GlueSpec, Fail<Trouble>>
+    ensures { Answers result (checked_glue spec) }
+{
     if is_dimension(spec.width) {
         Ok(spec)
     } else {
@@ -100,7 +102,9 @@ fn line_penalty(params: &Params, place: Place) -> i64
 
 impl Above {
     /// No lines.
-    pub fn nothing() -> Above {
+    pub fn nothing() -> Above
+        ensures { result ≡ nothing_above }
+    {
         Above {
             first: None,
             last: None,

@@ -1,9 +1,7 @@
 //! Steps from which lines are made.
 
 ghost use Rattle.std.specs.Prelude.{◌≡◌};
-ghost use Rattle.ntx_num.specs.Dimension.{max_penalty, IsWithin};
 ghost use Rattle.ntx_nodes.specs.Writing.{AreMakable};
-ghost use Rattle.ntx_item.specs.Parameters.{IsGlueInRange};
 ghost use Rattle.ntx_lines.specs.Making.{glue_fields, penalty_fields, follows, sets, made_before, made_at_end};
 ghost use Rattle.ntx_lines.specs.Making as made;
 ghost use Rattle.ntx_lines.specs.inner.Chains.{EndsAs};

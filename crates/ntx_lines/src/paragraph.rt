@@ -1,13 +1,16 @@
 //! All lines of a paragraph.
 
-ghost use Rattle.std.specs.Prelude.{◌≡◌, length};
-ghost use Rattle.ntx_num.specs.Answer.{Answers, Traces, result_map};
+ghost use Rattle.std.specs.Prelude.{◌≡◌, ℕ, List, [], length};
+ghost use Rattle.ntx_num.specs.Answer.{Traces};
+ghost use Rattle.ntx_num.specs.Dimension.{IsDimension};
 ghost use Rattle.ntx_breaks.specs.Chosen.{breaks_seen};
 ghost use Rattle.ntx_lines.specs.Trace.{states};
-ghost use Rattle.ntx_lines.specs.Parts.{parts_of, part_of};
-ghost use Rattle.ntx_lines.specs.Lines.{AreBreaksOf, RefusesAs, boxed, line_made, lines_made, paragraph};
+ghost use Rattle.ntx_lines.specs.Above.{nothing_above};
+ghost use Rattle.ntx_lines.specs.Parts.{parts_of};
+ghost use Rattle.ntx_lines.specs.Parts as parts;
+ghost use Rattle.ntx_lines.specs.Lines.{AreBreaksOf, RefusesAs, boxed, line_made, lines_made};
 ghost use Rattle.ntx_lines.specs.Lines as pass;
-ghost use Rattle.ntx_lines.specs.inner.Chains.{EndsAs, EndsAsAbove, EndsAsMade, AreBreaksIn};
+ghost use Rattle.ntx_lines.specs.inner.Chains.{ends_of, EndsAs, EndsAsAbove, EndsAsMade, AreBreaksIn};
 
 use crate::above::{Above, Place};
 use crate::ends::Ends;
@@ -31,7 +34,10 @@ fn push_line<N: Nodes>(
     params: &Params,
     above: &mut Above,
     line: Ends,
-) -> Result<(), Fail<Trouble>> {
+) -> Result<(), Fail<Trouble>>
+    requires { IsDimension above.old.depth }
+    ensures traced { (names : List ℕ) → line ≡ ends_of names → EndsAsAbove result above.new (N.heap nodes.new) (boxed fonts.now params.now above.old names (N.heap nodes.old)) }
+{
     let head = make_leftskip(nodes, params, line.first)?;
     let n = pack_line(alloc, nodes, fonts, params, head)?;
     above.push_box(nodes, params, n)
@@ -48,7 +54,10 @@ fn make_line<N: Nodes>(
     front: Ends,
     part: Part,
     later: usize,
-) -> Result<Ends, Fail<Trouble>> {
+) -> Result<Ends, Fail<Trouble>>
+    requires { IsDimension above.old.depth }
+    ensures traced { (names : List ℕ) (one : parts.Part) (rest : List parts.Part) → front ≡ ends_of names → part.body.now ≡ one.body → part.at ≡ one.at → part.after ≡ one.after → part.discarded.now ≡ one.discarded → later ≡ length rest → EndsAsMade result above.new (N.heap nodes.new) (line_made fonts.now params.now above.old names one rest (N.heap nodes.old)) }
+{
     let is_first = above.first.is_none();
     let body = front.then(Ends::of(part.body));
     let ended = end_line(nodes, params, body, part.at, part.after)?;
@@ -78,7 +87,11 @@ fn make_lines<N: Nodes>(
     params: &Params,
     matter: Matter,
     places: &[u64],
-) -> Result<Above, Fail<Trouble>> {
+) -> Result<Above, Fail<Trouble>>
+    requires in_order { AreBreaksIn matter.items.now 0 places.now }
+    requires one_each { length matter.names.now ≡ length matter.items.now }
+    ensures traced { EndsAs result (N.heap nodes.new) (lines_made fonts.now params.now nothing_above [] (parts_of matter.items.now matter.names.now 0 places.now) (N.heap nodes.old)) }
+{
     let mut above = Above::nothing();
     let mut front = Ends::NONE;
     let mut from = 0;

@@ -75,14 +75,13 @@ pub fn line_is(
 ) -> Result<Option<u64>, Fail<Trouble>> {
     let fields = fields_of(heap, at.unwrap_or(0))?;
     assert!(rt; fields.subtype == 1);
-    if let Contents::Hlist(b) = fields.contents {
-        assert!(rt; (b.width, b.height, b.depth) == wanted.size);
-        assert!(rt; (b.glue_sign, b.glue_order, b.glue_num, b.glue_den) == wanted.glue);
-        assert!(rt; b.shift == 0);
-        let rest = nodes_are(rt, heap, b.list, wanted.list)?;
-        assert!(rt; rest.is_none());
-    } else {
-        assert!(rt; false);
-    }
+    let Contents::Hlist(b) = fields.contents else {
+        return Err(Fail::Is(Trouble::WrongKind(at.unwrap_or(0))));
+    };
+    assert!(rt; (b.width, b.height, b.depth) == wanted.size);
+    assert!(rt; (b.glue_sign, b.glue_order, b.glue_num, b.glue_den) == wanted.glue);
+    assert!(rt; b.shift == 0);
+    let rest = nodes_are(rt, heap, b.list, wanted.list)?;
+    assert!(rt; rest.is_none());
     Ok(fields.next)
 }

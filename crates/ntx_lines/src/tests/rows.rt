@@ -3,7 +3,7 @@
 use super::compare::{Line, Wanted, line_is, nodes_are};
 use super::matter::{FILL, FONT_SPACE, ZERO, broken, list_of, params_of, set, small_font};
 use ntx_item::GlueSpec;
-use ntx_nodes::{Field, FieldValue, Nodes, PlainHeap};
+use ntx_nodes::{Field, FieldValue, PlainHeap};
 use ntx_tfm::read_font;
 use std::test;
 
