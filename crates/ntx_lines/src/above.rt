@@ -1,6 +1,6 @@
 //! The vertical list of a paragraph.
 
-ghost use Rattle.std.specs.Prelude.{◌≡◌};
+ghost use Rattle.std.specs.Prelude.{◌≡◌, OnOk};
 ghost use Rattle.ntx_num.specs.Dimension.{IsDimension};
 ghost use Rattle.ntx_num.specs.Answer.{Answers};
 ghost use Rattle.ntx_lines.specs.Above.{nothing_above, interline_subtype, checked_glue, interline, with_box, line_penalty, only_if, with_penalty};
@@ -122,6 +122,7 @@ impl Above {
     ) -> Result<(), Fail<Trouble>>
         requires { IsDimension self.old.depth }
         ensures traced { EndsAsAbove result self.new (N.heap nodes.new) (with_box params.now self.old n (N.heap nodes.old)) }
+        ensures depth { OnOk result (IsDimension self.new.depth) }
     {
         let fields = match box_fields(nodes, n) {
             Ok(fields) => fields,
@@ -145,6 +146,7 @@ impl Above {
         place: Place,
     ) -> Result<(), Fail<Trouble>>
         ensures traced { EndsAsAbove result self.new (N.heap nodes.new) (with_penalty (line_penalty params.now place.is_first place.is_before_last place.is_hyphenated) self.old (N.heap nodes.old)) }
+        ensures depth { OnOk result (self.new.depth ≡ self.old.depth) }
     {
         let p = line_penalty(params, place);
         if p != 0 {

@@ -1,6 +1,6 @@
 //! All lines of a paragraph.
 
-ghost use Rattle.std.specs.Prelude.{◌≡◌, ℕ, List, [], length};
+ghost use Rattle.std.specs.Prelude.{◌≡◌, ℕ, List, [], length, OnOk};
 ghost use Rattle.ntx_num.specs.Answer.{Traces};
 ghost use Rattle.ntx_num.specs.Dimension.{IsDimension};
 ghost use Rattle.ntx_breaks.specs.Chosen.{breaks_seen};
@@ -10,7 +10,7 @@ ghost use Rattle.ntx_lines.specs.Parts.{parts_of};
 ghost use Rattle.ntx_lines.specs.Parts as parts;
 ghost use Rattle.ntx_lines.specs.Lines.{AreBreaksOf, RefusesAs, boxed, line_made, lines_made};
 ghost use Rattle.ntx_lines.specs.Lines as pass;
-ghost use Rattle.ntx_lines.specs.inner.Chains.{ends_of, EndsAs, EndsAsAbove, EndsAsMade, AreBreaksIn};
+ghost use Rattle.ntx_lines.specs.inner.Chains.{ends_of, part_seen, EndsAs, EndsAsAbove, EndsAsMade, AreBreaksIn};
 
 use crate::above::{Above, Place};
 use crate::ends::Ends;
@@ -37,6 +37,7 @@ fn push_line<N: Nodes>(
 ) -> Result<(), Fail<Trouble>>
     requires { IsDimension above.old.depth }
     ensures traced { (names : List ℕ) → line ≡ ends_of names → EndsAsAbove result above.new (N.heap nodes.new) (boxed fonts.now params.now above.old names (N.heap nodes.old)) }
+    ensures depth { OnOk result (IsDimension above.new.depth) }
 {
     let head = make_leftskip(nodes, params, line.first)?;
     let n = pack_line(alloc, nodes, fonts, params, head)?;
@@ -56,7 +57,8 @@ fn make_line<N: Nodes>(
     later: usize,
 ) -> Result<Ends, Fail<Trouble>>
     requires { IsDimension above.old.depth }
-    ensures traced { (names : List ℕ) (one : parts.Part) (rest : List parts.Part) → front ≡ ends_of names → part.body.now ≡ one.body → part.at ≡ one.at → part.after ≡ one.after → part.discarded.now ≡ one.discarded → later ≡ length rest → EndsAsMade result above.new (N.heap nodes.new) (line_made fonts.now params.now above.old names one rest (N.heap nodes.old)) }
+    ensures traced { (names : List ℕ) (rest : List parts.Part) → front ≡ ends_of names → later ≡ length rest → EndsAsMade result above.new (N.heap nodes.new) (line_made fonts.now params.now above.old names (part_seen part) rest (N.heap nodes.old)) }
+    ensures depth { OnOk result (IsDimension above.new.depth) }
 {
     let is_first = above.first.is_none();
     let body = front.then(Ends::of(part.body));

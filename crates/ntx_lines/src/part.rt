@@ -1,10 +1,10 @@
 //! What the lines of a paragraph are made of.
 
-ghost use Rattle.std.specs.Prelude.{◌≡◌, ◌<◌, ◌≤◌, ◌+◌, length, slice_get};
+ghost use Rattle.std.specs.Prelude.{◌≡◌, ◌<◌, ◌≤◌, ◌+◌, length};
 ghost use Rattle.std.specs.List.{prefix_len};
 ghost use Rattle.ntx_legal.specs.Kept.{is_discardable, keeps_all, items_between};
-ghost use Rattle.ntx_lines.specs.Parts.{between, discarded_count, part_of, discarded_at};
-ghost use Rattle.ntx_lines.specs.inner.Chains.{AreBreaksIn};
+ghost use Rattle.ntx_lines.specs.Parts.{discarded_count, part_of, discarded_at};
+ghost use Rattle.ntx_lines.specs.inner.Chains.{part_seen, AreBreaksIn};
 
 use ntx_item::Item;
 
@@ -104,10 +104,7 @@ impl<'a> Matter<'a> {
         requires to { to ≤ length self.items.now + 1 }
         requires in_order { AreBreaksIn self.items.now to later.now }
         requires one_each { length self.names.now ≡ length self.items.now }
-        ensures body { result.body.now ≡ (part_of self.items.now self.names.now from to later.now).body }
-        ensures at { result.at ≡ (part_of self.items.now self.names.now from to later.now).at }
-        ensures after { result.after ≡ (part_of self.items.now self.names.now from to later.now).after }
-        ensures discarded { result.discarded.now ≡ (part_of self.items.now self.names.now from to later.now).discarded }
+        ensures { part_seen result ≡ part_of self.items.now self.names.now from to later.now }
     {
         Part {
             body: &self.names[from + self.discarded_count(from, to)..to - 1],

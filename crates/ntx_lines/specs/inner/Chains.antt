@@ -11,6 +11,8 @@ use Rattle.ntx_lines.specs.declared.above.Above.{Above}
 use Rattle.ntx_lines.specs.LineEnd as line_end
 use Rattle.ntx_lines.specs.declared.ends.Ends.{Ends}
 use Rattle.ntx_lines.specs.declared.line_end.Ended.{Ended}
+use Rattle.ntx_lines.specs.declared.part.Part as code
+use Rattle.ntx_lines.specs.Parts.{Part}
 
 -- ---- traces
 
@@ -64,7 +66,11 @@ EndsAsAbove result above new t = EndsLike (λ _ longer. longer ≡ above) result
 abbrev pub EndsAsMade : Result Ends (Fail Trouble) → Above → Heap → Trace Heap (Above × List ℕ) Trouble → Type 0
 EndsAsMade result above new t = EndsLike (λ ends done. (done.0 ≡ above) × (ends ≡ ends_of done.1)) result new t
 
--- ---- places
+-- ---- parts and places
+
+-- a part of the program, as a part
+abbrev pub part_seen : code.Part → Part
+part_seen part = record { body = part.body.now; at = part.at; after = part.after; discarded = part.discarded.now }
 
 -- the places after `from` ascend, and none is behind the end of the items
 abbrev pub AreBreaksIn : List Item → ℕ → List ℕ → Type 0
