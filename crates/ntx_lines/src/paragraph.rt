@@ -10,7 +10,7 @@ ghost use Rattle.ntx_lines.specs.Parts.{parts_of};
 ghost use Rattle.ntx_lines.specs.Parts as parts;
 ghost use Rattle.ntx_lines.specs.Lines.{AreBreaksOf, RefusesAs, boxed, line_made, lines_made};
 ghost use Rattle.ntx_lines.specs.Lines as pass;
-ghost use Rattle.ntx_lines.specs.inner.Chains.{ends_of, part_seen, EndsAs, EndsAsAbove, EndsAsMade, AreBreaksIn};
+ghost use Rattle.ntx_lines.specs.inner.Chains.{ends_of, part_seen, EndsAs, EndsAsAbove, EndsAsMade};
 
 use crate::above::{Above, Place};
 use crate::ends::Ends;
@@ -90,8 +90,6 @@ fn make_lines<N: Nodes>(
     matter: Matter,
     places: &[u64],
 ) -> Result<Above, Fail<Trouble>>
-    requires in_order { AreBreaksIn matter.items.now 0 places.now }
-    requires one_each { length matter.names.now ≡ length matter.items.now }
     ensures traced { EndsAs result (N.heap nodes.new) (lines_made fonts.now params.now nothing_above [] (parts_of matter.items.now matter.names.now 0 places.now) (N.heap nodes.old)) }
 {
     let mut above = Above::nothing();

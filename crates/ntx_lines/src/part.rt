@@ -1,10 +1,10 @@
 //! What the lines of a paragraph are made of.
 
-ghost use Rattle.std.specs.Prelude.{◌≡◌, ◌<◌, ◌≤◌, ◌+◌, length};
+ghost use Rattle.std.specs.Prelude.{◌≡◌, ◌≤◌, length};
 ghost use Rattle.std.specs.List.{prefix_len};
-ghost use Rattle.ntx_legal.specs.Kept.{is_discardable, keeps_all, items_between};
-ghost use Rattle.ntx_lines.specs.Parts.{discarded_count, part_of, discarded_at};
-ghost use Rattle.ntx_lines.specs.inner.Chains.{part_seen, AreBreaksIn};
+ghost use Rattle.ntx_legal.specs.Kept.{is_discardable, keeps_all};
+ghost use Rattle.ntx_lines.specs.Parts.{between, body_of, discarded_at, discarded_count, name_at, part_of};
+ghost use Rattle.ntx_lines.specs.inner.Chains.{part_seen};
 
 use ntx_item::Item;
 
@@ -54,61 +54,82 @@ fn discarded(items: &[Item]) -> usize
     items.len()
 }
 
+/// Whether a discretionary shows something after a break.
+fn has_post(item: Option<&Item>) -> bool {
+    match item {
+        Some(Item::Disc { post_empty, .. }) => !*post_empty,
+        _ => false,
+    }
+}
+
 /// Whether the line after this place keeps all items: at the start of the paragraph, and after a discretionary that shows
 /// something after the break.
 fn keeps_all(items: &[Item], from: usize) -> bool
-    requires { from ≤ length items.now }
     ensures { result ≡ keeps_all items.now from }
 {
-    if from == 0 {
-        return true;
+    match from.checked_sub(1) {
+        None => true,
+        Some(i) => has_post(items.get(i)),
     }
-    match &items[from - 1] {
-        Item::Disc { post_empty, .. } => !*post_empty,
-        _ => false,
-    }
+}
+
+/// The elements between two places, as far as there are any.
+fn between<T>(list: &[T], from: usize, to: usize) -> &[T]
+    ensures { result.now ≡ between list.now from to }
+{
+    let rest = &list[from.min(list.len())..];
+    let count = to.saturating_sub(from).saturating_sub(1);
+    &rest[..count.min(rest.len())]
 }
 
 impl<'a> Matter<'a> {
     /// How many nodes the break at `from` discards, where the next break is at `to`.
     fn discarded_count(self, from: usize, to: usize) -> usize
-        requires order { from < to }
-        requires to { to ≤ length self.items.now + 1 }
         ensures { result ≡ discarded_count self.items.now from to }
     {
         if keeps_all(self.items, from) {
             0
         } else {
-            discarded(&self.items[from..to - 1])
+            discarded(between(self.items, from, to))
         }
+    }
+
+    /// The nodes before a break, without those that the break before discards.
+    fn body(self, from: usize, to: usize) -> &'a [u64]
+        ensures { result.now ≡ body_of self.items.now self.names.now from to }
+    {
+        let all = between(self.names, from, to);
+        &all[self.discarded_count(from, to).min(all.len())..]
     }
 
     /// What the break at a place discards. The last one discards nothing.
     fn discarded_at(self, to: usize, later: &[u64]) -> &'a [u64]
-        requires in_order { AreBreaksIn self.items.now to later.now }
-        requires one_each { length self.names.now ≡ length self.items.now }
         ensures { result.now ≡ discarded_at self.items.now self.names.now to later.now }
     {
         match later.first() {
             None => &[],
             Some(next) => {
                 let next = *next as usize;
-                &self.names[to..to + self.discarded_count(to, next)]
+                let all = between(self.names, to, next);
+                &all[..self.discarded_count(to, next).min(all.len())]
             }
         }
     }
 
+    /// The name at a place.
+    fn name_at(self, place: usize) -> Option<u64>
+        ensures { result ≡ name_at self.names.now place }
+    {
+        self.names.get(place.checked_sub(1)?).copied()
+    }
+
     /// What the line between two places is made of, where the lines after it end at the later ones.
     pub fn part(self, from: usize, to: usize, later: &[u64]) -> Part<'a>
-        requires order { from < to }
-        requires to { to ≤ length self.items.now + 1 }
-        requires in_order { AreBreaksIn self.items.now to later.now }
-        requires one_each { length self.names.now ≡ length self.items.now }
         ensures { part_seen result ≡ part_of self.items.now self.names.now from to later.now }
     {
         Part {
-            body: &self.names[from + self.discarded_count(from, to)..to - 1],
-            at: self.names.get(to - 1).copied(),
+            body: self.body(from, to),
+            at: self.name_at(to),
             after: self.names.get(to).copied(),
             discarded: self.discarded_at(to, later),
         }
