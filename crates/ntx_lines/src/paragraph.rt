@@ -136,7 +136,8 @@ fn make_lines<N: Nodes>(
 ///
 /// # Refusals
 ///
-/// - First those of `ntx_view::items` for a horizontal list: `Stale`, `Loop`, `Nest` and `NoChar`. The heap stays then.
+/// - First those of `ntx_view::items` for a horizontal list: `Stale`, `Loop`, `Nest`, `WrongKind` and `NoChar`. The heap stays
+///   then.
 /// - `Dimension` where the width, height or depth of a line, or the width of interline glue, is beyond 2^30-1 in absolute
 ///   value.
 /// - `NodesFull` if 2^18 nodes are live where a node is to be made, else `NamesOut` if the next name is 2^48.
