@@ -44,7 +44,7 @@ nothing_after = (Next, Link None)
 
 -- glue becomes rightskip
 abbrev pub rightskip_values : Settings → List (Field × FieldValue)
-rightskip_values s = (Subtype, Number (pos rightskip_subtype)) ∷ glue_values (finite s.rightskip) ++ nothing_after ∷ []
+rightskip_values s = (Subtype, Number (pos rightskip_subtype)) ∷ (glue_values (finite s.rightskip) ++ nothing_after ∷ [])
 
 -- a kern comes to nothing
 abbrev pub kern_values : List (Field × FieldValue)

@@ -1,8 +1,8 @@
 //! The end of a line, at its break.
 
 ghost use Rattle.std.specs.Prelude.{◌≡◌, Some};
-ghost use Rattle.ntx_lines.specs.LineEnd.{discards, ended, ends_at, ends_at_disc, replaced, rightskip_values};
-ghost use Rattle.ntx_lines.specs.inner.Chains.{EndsAs, EndsAsLine, EndsAsReplaced};
+ghost use Rattle.ntx_lines.specs.LineEnd.{discards, ended, ends_at_disc, replaced, rightskip_values};
+ghost use Rattle.ntx_lines.specs.inner.Chains.{whole_line, with_memory, EndsAs, EndsAsLine, EndsAsReplaced};
 
 use crate::ends::{Ends, ends_at};
 use crate::making::{follow, set, set_all};
@@ -27,7 +27,9 @@ pub(crate) struct Ended {
 
 impl Ended {
     /// A line that no discretionary broke.
-    fn whole(line: Ends, has_rightskip: bool) -> Ended {
+    fn whole(line: Ends, has_rightskip: bool) -> Ended
+        ensures { result ≡ whole_line line has_rightskip }
+    {
         Ended {
             line,
             front: Ends::NONE,
@@ -37,9 +39,11 @@ impl Ended {
     }
 }
 
-/// The result of a call that cannot run out of memory, as one that can.
-fn answer<A>(result: Result<A, Trouble>) -> Result<A, Fail<Trouble>> {
-    match result {
+/// The answer of a call that takes no memory, as one of a call that takes some.
+fn answer<A>(found: Result<A, Trouble>) -> Result<A, Fail<Trouble>>
+    ensures { result ≡ with_memory found }
+{
+    match found {
         Ok(a) => Ok(a),
         Err(why) => Err(Fail::Is(why)),
     }

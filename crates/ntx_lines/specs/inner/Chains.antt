@@ -1,5 +1,5 @@
 -- What private calls say of the trace that they go through. They keep the two ends of a list where the definitions have its names.
-use Rattle.std.specs.Prelude.{◌≡◌, ◌<◌, ◌≤◌, ◌+◌, ℕ, List, [], ◌∷◌, ◌++◌, length, slice_get, Option, None, Some, Result, Ok, Err}
+use Rattle.std.specs.Prelude.{◌≡◌, ◌<◌, ◌≤◌, ◌+◌, ℕ, Bool, false, List, [], ◌∷◌, ◌++◌, length, slice_get, Option, None, Result, Ok, Err}
 use Rattle.ntx_num.specs.declared.answer.Fail.{Fail}
 use Rattle.ntx_num.specs.declared.answer.Fail.TheVariants.{NoMemory, Is}
 use Rattle.ntx_nodes.specs.Heap.{Heap}
@@ -31,6 +31,11 @@ EndsLike same (Err NoMemory) new t = Passes t new
 abbrev pub EndsAs : {S A E : Type 0} → Result A (Fail E) → S → Trace S A E → Type 0
 EndsAs result new t = EndsLike (λ a b. a ≡ b) result new t
 
+-- an answer of a call that takes no memory, as one of a call that takes some
+abbrev pub with_memory : {A E : Type 0} → Result A E → Result A (Fail E)
+with_memory (Ok a) = Ok a
+with_memory (Err e) = Err (Is e)
+
 -- ---- the ends of lists
 
 abbrev pub ends_of : List ℕ → Ends
@@ -48,6 +53,10 @@ ended_seen line = record {
   has_rightskip = line.has_rightskip;
   is_hyphenated = line.is_hyphenated;
 }
+
+-- one that no discretionary broke
+abbrev pub whole_line : Ends → Bool → Ended
+whole_line line has_rightskip = record { line = line; front = ends_of []; has_rightskip = has_rightskip; is_hyphenated = false }
 
 abbrev pub EndsAsLine : Ends → Result Ended (Fail Trouble) → Heap → (List ℕ → Trace Heap line_end.Ended Trouble) → Type 0
 EndsAsLine body result new pass = (names : List ℕ) → body ≡ ends_of names → EndsLike (λ ended line. ended ≡ ended_seen line) result new (pass names)
