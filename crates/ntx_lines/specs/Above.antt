@@ -3,7 +3,8 @@
 --     with_box s above n heap            a line more at the end, after interline glue if it is not the first
 --     line_penalty s first last hyphenated    the penalty after a line
 --     with_penalty p last heap           a penalty at the end, unless it is 0
-use Rattle.std.specs.Prelude.{ℕ, ℤ, pos, ◌+ℤ◌, ◌-ℤ◌, int_eq, int_lt, Bool, if◌then◌else◌, Option, None, Some, Result, Ok, Err}
+use Rattle.std.specs.Prelude.{ℕ, ℤ, pos, ◌+ℤ◌, ◌-ℤ◌, int_lt, Bool, if◌then◌else◌, Option, None, Some, Result, Ok, Err}
+use Rattle.std.specs.Ordering.{int_eq}
 use Rattle.ntx_num.specs.Dimension.{is_dimension}
 use Rattle.ntx_nodes.specs.Heap.{Heap}
 use Rattle.ntx_nodes.specs.declared.trouble.Trouble.{Trouble}

@@ -2,7 +2,8 @@
 --     finite spec                 this glue with finite shrink
 --     with_rightskip s names      the names of a line with rightskip at its end
 --     with_leftskip s head        the head of a line with leftskip in front, unless all five numbers of leftskip are 0
-use Rattle.std.specs.Prelude.{ℕ, ℤ, pos, int_eq, nat_eq, Bool, ◌&&◌, if◌then◌else◌, List, [], ◌∷◌, ◌++◌, Option, None, Some, Ok}
+use Rattle.std.specs.Prelude.{ℕ, ℤ, pos, nat_eq, Bool, ◌&&◌, if◌then◌else◌, List, [], ◌∷◌, ◌++◌, Option, None, Some, Ok}
+use Rattle.std.specs.Ordering.{int_eq}
 use Rattle.ntx_nodes.specs.Heap.{Heap}
 use Rattle.ntx_nodes.specs.declared.trouble.Trouble.{Trouble}
 use Rattle.ntx_item.specs.Settings.{Settings}

@@ -107,7 +107,7 @@ impl<'a> Matter<'a> {
         ensures { result.now ≡ discarded_at self.items.now self.names.now to later.now }
     {
         match later.first() {
-            None => &[],
+            None => &self.names[..0],
             Some(next) => {
                 let next = *next as usize;
                 let all = between(self.names, to, next);
