@@ -13,6 +13,7 @@ for tool in mktemp cmp od timeout; do
     fi
 done
 program=$(realpath "${1:-crates/ntx/out/ntx}")
+font=$(realpath crates/ntx/data/T.tfm)
 if [ ! -x "$program" ]; then
     echo "checks/program.sh: there is no program $program: run rt ci, or rt run in crates/ntx"
     exit 1
@@ -116,12 +117,28 @@ echo y >patterns
 ends 'patterns that are refused' 5 '! Patterns line 0\n' document script patterns dvi
 cd ..
 
+# ---- fonts
+
+job "$box"
+cp "$font" T.tfm
+ends 'a font' 0 '' document script patterns dvi T.tfm
+has 'a font' dvi "$box_file"
+ends 'a font twice, at two sizes' 0 '' document script patterns dvi T.tfm@655360 ./T.tfm@1
+head -c 403 T.tfm >short.tfm
+ends 'a font that is refused' 6 '! Font 2 Short\n' document script patterns dvi T.tfm short.tfm
+has 'a font that is refused' dvi ''
+ends 'no font' 9 '! ReadFault font 1\n' document script patterns dvi U.tfm
+cp T.tfm 'T U.tfm'
+ends 'a font whose name has a space' 2 '! Words\n' document script patterns dvi 'T U.tfm'
+ends 'a font without a name' 2 '! Words\n' document script patterns dvi .tfm
+ends 'a font without a path' 2 '! Words\n' document script patterns dvi @5
+cd ..
+
 # ---- words
 
 job "$box"
 ends 'no words' 2 '! Words\n'
 ends 'three words' 2 '! Words\n' document script patterns
-ends 'five words' 2 '! Words\n' document script patterns dvi dvi
 ends 'an option' 2 '! Words\n' document script patterns --dvi
 ends 'an abbreviated option' 2 '! Words\n' --step 5 document script patterns dvi
 ends 'an option twice' 2 '! Words\n' --steps 5 --steps 5 document script patterns dvi

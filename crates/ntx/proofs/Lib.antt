@@ -1,1 +1,2 @@
-pub mod Paths
+-- what it means if a run refuses the words
+pub mod Feeds

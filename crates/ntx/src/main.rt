@@ -1,23 +1,25 @@
-//! The program `ntx [--steps N] DOC SCRIPT PATTERNS DVI`: opens the files that the command line names and typesets the document.
+//! The program `ntx [--steps N] DOC SCRIPT PATTERNS DVI [FONT...]`: opens the files that the command line names and typesets the document.
 //!
 //! It stands on `ntx_io`, `ntx_words` and `ntx_run`. Of `main` nothing is proved: neither which files are opened, nor that [`ntx_run::run`] is called,
 //! nor that the process ends with the number of the run's status. Of its parts it is proved that `number` gives each status its number,
-//! that `words` stops only if memory runs out, and that in `typeset` words that are not of the form of the command line, or name a font,
-//! end with `Words`, `WriteFault` or `Memory`, and no others with `Words`. Files and standard output expose no bytes, so that over them the contract of `run` speaks of the
-//! status, the place, the order of reading and the counts of faults, and not of what is read or written. What the built program does over
-//! files is tested by `checks/program.sh`, at the top of the repository.
+//! that `words` stops only if memory runs out, that `font_feed` names a feed after its file, and that in `typeset` words that are not of the form of
+//! the command line end with `Words`, `WriteFault` or `Memory`, and of the others only words that name a font can end with `Words`.
+//! Files and standard output expose no bytes, so that over them the contract of `run` speaks of the status, the place, the order of reading and
+//! the counts of faults, and not of what is read or written. What the built program does over files is tested by `checks/program.sh`, at the
+//! top of the repository.
 #![tactic(auto)]
 
-ghost use Rattle.std.specs.Prelude.{◌≡◌, ◌⊎◌, false, map, string_bytes, IfErr};
+ghost use Rattle.std.specs.Prelude.{◌≡◌, ◌⊎◌, false, map, string_bytes, IsErr, IfErr, IfOk};
+ghost use Rattle.ntx_io.specs.Feed.{IsFontName};
 ghost use Rattle.ntx_words.specs.CommandLine.{command_line};
-ghost use Rattle.ntx_run.specs.Run.{names_no_font};
 ghost use Rattle.ntx.specs.Number.{number_of};
+ghost use Rattle.ntx.specs.Fonts.{names_no_font};
 
 #[cfg(test)]
 mod tests;
 
-use ntx_io::{Feed, FileSink, FileSource, MemSource, NullSink, StdoutSink};
-use ntx_num::Fail;
+use ntx_io::{Feed, FileFeed, FileSink, FileSource, MemSource, NullSink, Sink, StdoutSink};
+use ntx_num::{Fail, NoMemory};
 use ntx_run::{Outcome, Status, run};
 use ntx_words::read_words;
 use std::alloc::Global;
@@ -66,56 +68,87 @@ impl<F: Drop> Standard<F> {
     }
 }
 
+/// A feed over a font's file, named after it.
+fn font_feed<R: Files + Alloc<A = Global>>(
+    rt: &R,
+    path: &str,
+) -> Result<Box<FileFeed<R::File>>, NoMemory>
+    ensures { IfOk result (λ feed. IsFontName path.now (string_bytes feed.value.name)) }
+{
+    let alloc = rt.alloc();
+    let feed = FileFeed::open(rt, alloc, path)?;
+    Ok(Box::new(alloc, feed)?)
+}
+
+/// An outcome without a place.
+fn ended(status: Status) -> Outcome
+    ensures { result.status ≡ status }
+{
+    Outcome {
+        status,
+        place: None,
+    }
+}
+
 /// Typesets the document that the words name. If they name none, no file is opened. If the standard descriptors cannot be taken, no
 /// document is typeset, and the status is that of a write fault.
-fn typeset<R: Files + Print + Alloc<A = Global>>(rt: &R, words: &[String]) -> Outcome
-    ensures refused { names_no_font (command_line (map string_bytes words.now)) ≡ false →
+fn typeset(rt: &HostRuntime, words: &[String]) -> Outcome
+    ensures refused { IsErr (command_line (map string_bytes words.now)) →
         (result.status ≡ Status.Words) ⊎ ((result.status ≡ Status.WriteFault) ⊎ (result.status ≡ Status.Memory)) }
     ensures only { result.status ≡ Status.Words → names_no_font (command_line (map string_bytes words.now)) ≡ false }
 {
     let alloc = rt.alloc();
-    let mut fonts: Vec<Box<dyn Feed>> = Vec::new(alloc);
     let mut lines = StdoutSink::new(rt);
-    let paths = match read_words(alloc, words) {
-        Ok(line) if line.sizes.is_empty() => line.paths,
-        Ok(_) | Err(Fail::Is(_)) => Vec::new(alloc),
-        Err(Fail::NoMemory) => {
-            return Outcome {
-                status: Status::Memory,
-                place: None,
-            };
-        }
+    let line = match read_words(alloc, words) {
+        Ok(line) => line,
+        Err(Fail::Is(_)) => return refuse(alloc, words, &mut lines),
+        Err(Fail::NoMemory) => return ended(Status::Memory),
     };
-    match paths.as_slice() {
-        [doc, script, patterns, dvi] => {
-            let Ok(_standard) = Standard::taken(rt) else {
-                return Outcome {
-                    status: Status::WriteFault,
-                    place: None,
-                };
+    let [doc, script, patterns, dvi, fonts @ ..] = line.paths.as_slice() else {
+        return refuse(alloc, words, &mut lines);
+    };
+    let Ok(_standard) = Standard::taken(rt) else {
+        return ended(Status::WriteFault);
+    };
+    let mut feeds: Vec<Box<dyn Feed>> = Vec::new(alloc);
+    if !line.sizes.is_empty() {
+        for path in fonts {
+            let Ok(feed) = font_feed(rt, path.as_str()) else {
+                return ended(Status::Memory);
             };
-            run(
-                alloc,
-                words,
-                &mut FileSource::open(rt, doc.as_str()),
-                &mut FileSource::open(rt, script.as_str()),
-                &mut FileSource::open(rt, patterns.as_str()),
-                &mut fonts,
-                &mut FileSink::create(rt, dvi.as_str()),
-                &mut lines,
-            )
+            if feeds.push(feed).is_err() {
+                return ended(Status::Memory);
+            }
         }
-        _ => run(
-            alloc,
-            words,
-            &mut nothing(alloc),
-            &mut nothing(alloc),
-            &mut nothing(alloc),
-            &mut fonts,
-            &mut NullSink::new(),
-            &mut lines,
-        ),
     }
+    run(
+        alloc,
+        words,
+        &mut FileSource::open(rt, doc.as_str()),
+        &mut FileSource::open(rt, script.as_str()),
+        &mut FileSource::open(rt, patterns.as_str()),
+        &mut feeds,
+        &mut FileSink::create(rt, dvi.as_str()),
+        &mut lines,
+    )
+}
+
+/// The run of words that name no files, over sources of nothing and without feeds.
+fn refuse<L: Sink>(alloc: Global, words: &[String], lines: &mut L) -> Outcome
+    ensures refused { IsErr (command_line (map string_bytes words.now)) →
+        (result.status ≡ Status.Words) ⊎ ((result.status ≡ Status.WriteFault) ⊎ (result.status ≡ Status.Memory)) }
+    ensures only { result.status ≡ Status.Words → names_no_font (command_line (map string_bytes words.now)) ≡ false }
+{
+    run(
+        alloc,
+        words,
+        &mut nothing(alloc),
+        &mut nothing(alloc),
+        &mut nothing(alloc),
+        &mut Vec::new(alloc),
+        &mut NullSink::new(),
+        lines,
+    )
 }
 
 /// A source over nothing.

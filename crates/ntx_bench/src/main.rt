@@ -4,6 +4,8 @@
 //! |---|---|
 //! | `parse-semicolons` | a script of N statements `;` is cut into tokens and parsed |
 //! | `parse-assignments` | the same of N statements `a=b` |
+//! | `resolve-statements` | a script of N statements `a=b` is cut into tokens, parsed and resolved |
+//! | `resolve-operators` | the same of one statement with N operators |
 //! | `tables` | a table is set at the keys 1 to N and read at each |
 //! | `texts` | N texts are made, and each is found again |
 //! | `hyphens-500`, `hyphens-5000` | N words are hyphenated by so many patterns |
@@ -33,6 +35,8 @@ fn work(alloc: Global, workload: &str, n: u64) -> Result<(), Fault> {
     match workload {
         "parse-semicolons" => scripts::parse_copies(alloc, b";", n),
         "parse-assignments" => scripts::parse_copies(alloc, b"a=b ", n),
+        "resolve-statements" => scripts::resolve_copies(alloc, b"", b"a=b ", n),
+        "resolve-operators" => scripts::resolve_copies(alloc, b"a=b", b"+b", n),
         "tables" => store::set_and_get(alloc, n),
         "texts" => store::make_and_find(alloc, n),
         "hyphens-500" => hyphens::hyphenate_by(alloc, 500, n),

@@ -1,1 +1,15 @@
 pub mod ScopeLemmas
+pub mod Resolving
+pub mod Allowing
+pub mod Lists
+pub mod Excess
+pub mod StatExcess
+pub mod KindExcess
+pub mod Arms
+pub mod Leaving
+pub mod Extending
+pub mod Stats
+pub mod Functions
+pub mod Scripts
+pub mod IfExcess
+pub mod Rolls

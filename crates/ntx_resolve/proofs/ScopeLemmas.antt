@@ -1,11 +1,7 @@
 -- The names in scope, as they are kept.
-use Rattle.std.proofs.Common.{arith, ◌≡◌, ◌<◌, ℕ, List, map, length, slice_get, get_or, Some, sym, ◌∙◌, ap, refl}
-use Rattle.std.proofs.lemmas.List.{length-map}
-use Rattle.std.proofs.lemmas.Option.{slice_get-map, slice_get_read}
-use Rattle.std.specs.Option.{option_map}
+use Rattle.std.proofs.Common.{◌≡◌, ◌<◌, ℕ, List, length, slice_get, get_or, Some, ◌∙◌, ap, refl}
+use Rattle.std.proofs.lemmas.Option.{slice_get_read}
 
--- what stands at a place, seen in another way
-pub seen_at : {X Y : Type 0} (f : X → Y) (xs : List X) (ys : List Y) (k : ℕ) (x : X) → map f xs ≡ ys → k < length ys → x ≡ get_or xs k x → slice_get ys k ≡ Some (f x)
-seen_at f xs ys k x seen within is =
-    let same : length xs ≡ length ys = sym (length-map xs f) ∙ ap length seen in
-    ap (λ z. slice_get z k) (sym seen) ∙ slice_get-map f xs k ∙ ap (option_map f) (slice_get_read xs (length xs) k x refl (omega (arith, same, within)) is)
+-- what stands at a place
+pub seen_at : {X : Type 0} (xs ys : List X) (k : ℕ) (x : X) → xs ≡ ys → k < length ys → x ≡ get_or xs k x → slice_get ys k ≡ Some x
+seen_at xs ys k x seen within is = slice_get_read ys (length ys) k x refl within (is ∙ ap (λ z. get_or z k x) seen)

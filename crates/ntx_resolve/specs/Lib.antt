@@ -4,5 +4,7 @@ pub mod Scopes
 pub mod HasCode
 -- where a script has too many local variables
 pub mod Limit
+-- what the resolver answers
+pub mod Resolved
 -- what private calls say among themselves
 pub mod inner

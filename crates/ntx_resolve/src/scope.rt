@@ -1,6 +1,6 @@
 //! The names in scope.
 
-ghost use Rattle.std.specs.Prelude.{◌∷◌, [], ◌≡◌, ◌≤◌, ◌<◌, ◌-◌, length, slice_get, Some, ◌≢◌, ℕ, MatchOption, OnOk, IfOk};
+ghost use Rattle.std.specs.Prelude.{◌∷◌, [], ◌≡◌, ◌≤◌, ◌<◌, ◌-◌, length, take, slice_get, Some, ◌≢◌, ℕ, MatchOption, OnOk};
 ghost use Rattle.std.specs.Bool.{Decides};
 ghost use Rattle.ntx_num.specs.declared.answer.Fail.TheVariants.{Is};
 ghost use Rattle.ntx_syntax.specs.declared.fault.SyntaxWhy.TheVariants.{Locals};
@@ -10,6 +10,7 @@ ghost use Rattle.ntx_resolve.specs.Scopes.{IsVariable, IsLast};
 ghost use Rattle.ntx_resolve.specs.inner.Allows.{Allows};
 
 use crate::code::Variable;
+use crate::names::copied;
 use ntx_num::Fail;
 use ntx_syntax::{LocalName, Name, SyntaxFault, SyntaxWhy};
 use std::alloc::{AllocError, Global};
@@ -30,14 +31,23 @@ fn too_many(local: &LocalName) -> Fail<SyntaxFault>
 
 /// The names in scope at a place of a script.
 #[derive(Drop)]
-pub struct Scope<'a> {
+pub struct Scope {
     /// The names of all local variables in scope, the oldest first; a name that is hidden by a later one is among them.
-    names: Vec<&'a [u8]>,
+    names: Vec<Name>,
     /// How many of them are of enclosing functions.
     from: usize,
 }
 
-impl<'a> Model for Scope<'a> {
+/// Where a block or a function begins: what [`Scope::leave`] goes back to.
+#[derive(Clone, Copy, Debug, PartialEq, Eq)]
+pub struct Mark {
+    /// How many names are in scope.
+    pub names: usize,
+    /// How many of them are of enclosing functions.
+    pub from: usize,
+}
+
+impl Model for Scope {
     ghost use Rattle.ntx_resolve.specs.Scopes.{Scope};
 
     ghost Value = { Scope };
@@ -49,9 +59,9 @@ impl<'a> Model for Scope<'a> {
     ghost invariant = { IsWithin };
 }
 
-impl<'a> Scope<'a> {
+impl Scope {
     /// The scope at the beginning of a script.
-    pub fn outermost(alloc: Global) -> Scope<'a>
+    pub fn outermost(alloc: Global) -> Scope
         ensures { result ≡ scopes.outermost }
     {
         Scope {
@@ -60,24 +70,33 @@ impl<'a> Scope<'a> {
         }
     }
 
-    /// The scope in a function that is made in this one.
-    pub fn inside(&self) -> Result<Scope<'a>, AllocError>
-        ensures { IfOk result (λ scope. scope ≡ scopes.enter self.now) }
+    /// The mark of this place.
+    pub fn mark(&self) -> Mark
+        ensures names { result.names ≡ length self.now.names }
+        ensures from { result.from ≡ self.now.from }
+        ensures within { result.from ≤ result.names }
     {
-        let names = self.names.clone()?;
-        let from = names.len();
-        Ok(Scope { names, from })
+        Mark {
+            names: self.names.len(),
+            from: self.from,
+        }
     }
 
-    /// A copy of the scope.
-    pub fn copy(&self) -> Result<Scope<'a>, AllocError>
-        ensures { IfOk result (λ scope. scope ≡ self.now) }
+    /// Enters a function that is made in this scope.
+    pub fn enter(&mut self)
+        ensures { self.new ≡ scopes.enter self.old }
     {
-        let names = self.names.clone()?;
-        Ok(Scope {
-            names,
-            from: self.from,
-        })
+        self.from = self.names.len();
+    }
+
+    /// Goes back to a mark: names declared since are no longer in scope.
+    pub fn leave(&mut self, mark: Mark)
+        requires within { mark.from ≤ mark.names }
+        requires declared { mark.names ≤ length self.old.names }
+        ensures { self.new ≡ record { names = take mark.names self.old.names; from = mark.from } }
+    {
+        self.names.truncate(mark.names);
+        self.from = mark.from;
     }
 
     /// Which variable the name is.
@@ -115,30 +134,31 @@ impl<'a> Scope<'a> {
         requires { place < length self.now.names }
         ensures { Decides result (slice_get self.now.names place ≡ Some name.now) }
     {
-        self.names[place] == name
+        self.names[place].as_slice() == name
     }
 
     /// Declares these names.
-    pub fn declare(&mut self, names: &'a [LocalName]) -> Result<(), AllocError>
+    pub fn declare(&mut self, alloc: Global, names: &[LocalName]) -> Result<(), AllocError>
         ensures { OnOk result (self.new ≡ scopes.declare self.old names.now) }
     {
         for local in names {
-            self.names.push(local.name.as_slice())?;
+            self.names.push(copied(alloc, &local.name)?)?;
         }
         Ok(())
     }
 
     /// Declares this name.
-    pub fn declare_one(&mut self, local: &'a LocalName) -> Result<(), AllocError>
+    pub fn declare_one(&mut self, alloc: Global, local: &LocalName) -> Result<(), AllocError>
         ensures { OnOk result (self.new ≡ scopes.declare self.old (local.now ∷ [])) }
     {
-        self.names.push(local.name.as_slice())?;
+        self.names.push(copied(alloc, &local.name)?)?;
         Ok(())
     }
 
     /// How many names of the function itself are in scope.
     fn locals(&self) -> usize
-        ensures { result ≡ scopes.locals self.now }
+        ensures count { result ≡ scopes.locals self.now }
+        ensures within { self.now.from ≤ length self.now.names }
     {
         self.names.len() - self.from
     }
@@ -149,7 +169,8 @@ impl<'a> Scope<'a> {
     ///
     /// Locals, with the line of the first of them that would be the 201st name of the function in scope.
     pub fn has_room_for(&self, names: &[LocalName]) -> Result<(), Fail<SyntaxFault>>
-        ensures { Allows (excess_of_names (scopes.locals self.now) names.now) result }
+        ensures allows { Allows (excess_of_names (scopes.locals self.now) names.now) result }
+        ensures within { self.now.from ≤ length self.now.names }
     {
         let mut count = self.locals();
         for local in names {
@@ -167,7 +188,8 @@ impl<'a> Scope<'a> {
     ///
     /// Locals, with its line, if it would be the 201st name of the function in scope.
     pub fn has_room_for_one(&self, local: &LocalName) -> Result<(), Fail<SyntaxFault>>
-        ensures { Allows (excess_of_names (scopes.locals self.now) (local.now ∷ [])) result }
+        ensures allows { Allows (excess_of_names (scopes.locals self.now) (local.now ∷ [])) result }
+        ensures within { self.now.from ≤ length self.now.names }
     {
         if self.locals() >= MAX_LOCALS {
             return Err(too_many(local));

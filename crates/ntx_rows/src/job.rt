@@ -1,6 +1,6 @@
 //! A job in memory.
 
-use ntx_io::{Feed, MemSink, MemSource};
+use ntx_io::{Feed, MemFeed, MemSink, MemSource};
 use ntx_run::{Outcome, run};
 use std::alloc::Global;
 use std::test::Fail;
@@ -20,6 +20,17 @@ pub struct Fails {
     pub lines: Option<u64>,
 }
 
+/// The file of a font.
+#[derive(Clone, Copy)]
+pub struct FontFile<'a> {
+    /// The name of its feed.
+    pub name: &'a str,
+    /// Its bytes.
+    pub bytes: &'a [u8],
+    /// The call at which the feed fails, counted from 1.
+    pub fails: Option<u64>,
+}
+
 /// The inputs of a job.
 #[derive(Clone, Copy)]
 pub struct Job<'a> {
@@ -31,6 +42,8 @@ pub struct Job<'a> {
     pub script: &'a [u8],
     /// The patterns.
     pub patterns: &'a [u8],
+    /// The fonts.
+    pub fonts: &'a [FontFile<'a>],
     /// When the sources and sinks fail.
     pub fails: Fails,
 }
@@ -81,6 +94,15 @@ fn source(alloc: Global, bytes: &[u8], fails: Option<u64>) -> Result<MemSource, 
     Ok(MemSource::new(bytes.to_vec(alloc)?, calls(alloc, fails)?))
 }
 
+fn feed(alloc: Global, font: &FontFile) -> Result<Box<MemFeed>, Fail> {
+    let feed = MemFeed::new(
+        String::from_str(alloc, font.name)?,
+        font.bytes.to_vec(alloc)?,
+        calls(alloc, font.fails)?,
+    );
+    Ok(Box::new(alloc, feed)?)
+}
+
 /// The words as texts of their own.
 pub fn texts(alloc: Global, words: &[&str]) -> Result<Vec<String>, Fail> {
     let mut texts = Vec::new(alloc);
@@ -94,6 +116,9 @@ impl Job<'_> {
     /// Runs the job with ample memory.
     pub fn run(&self, alloc: Global) -> Result<Given, Fail> {
         let mut fonts: Vec<Box<dyn Feed>> = Vec::new(alloc);
+        for font in self.fonts {
+            fonts.push(feed(alloc, font)?)?;
+        }
         let mut dvi = MemSink::new(alloc, 8192, calls(alloc, self.fails.dvi)?)?;
         let mut lines = MemSink::new(alloc, 4096, calls(alloc, self.fails.lines)?)?;
         let outcome = run(
@@ -121,6 +146,7 @@ pub fn of_document(doc: &[u8]) -> Job<'_> {
         doc,
         script: b"",
         patterns: b"",
+        fonts: &[],
         fails: Fails::default(),
     }
 }

@@ -7,6 +7,8 @@
 #[cfg(test)]
 mod faults;
 #[cfg(test)]
+mod fonts;
+#[cfg(test)]
 mod job;
 #[cfg(test)]
 mod packing;

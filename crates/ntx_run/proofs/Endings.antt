@@ -3,7 +3,6 @@ use Rattle.std.proofs.Common.{◌≡◌, ℕ, Bool, true, false, cond, List, [],
 use Rattle.std.specs.Prelude.{IsOk, IsTrue, ◌≢◌}
 use Rattle.std.proofs.lemmas.Bool.{true≢false}
 use Rattle.ntx_io.specs.Outside.{Rose, Adds, AddsPrefix, AddsProperPrefix}
-use Rattle.ntx_doc.specs.declared.command.Command.{Command}
 use Rattle.ntx_run.specs.declared.stop.StopReason.{StopReason}
 use Rattle.ntx_run.specs.declared.stop.StopReason.TheVariants as stop
 use Rattle.ntx_run.specs.declared.outcome.Outcome.{Outcome}
@@ -11,27 +10,28 @@ use Rattle.ntx_run.specs.declared.outcome.Status.TheVariants as status
 use Rattle.ntx_run.specs.declared.outcome.Place.TheVariants as place
 use Rattle.ntx_run.specs.declared.outcome.Which.{Which}
 use Rattle.ntx_run.specs.StopReason.{IsBeforeDvi, status_of, place_of, line_of}
-use Rattle.ntx_run.specs.Run.{InputBytes, Ending, lines_of, fits_form, read_inputs, stopped, ending_of, run_of}
+use Rattle.ntx_run.specs.Run.{InputBytes, Ending, Job, lines_of, fits_form, font_sizes, read_inputs, stopped, ending_of, run_of}
 use Rattle.ntx_run.specs.Outside.{Inputs, Outside, names_of, in_turn, input_counts, counts, Exposes, NoneRose, AreReadInOrder, FailsAt, Prints, PrintsWhy, EndsAs, IsReadFault, IsLineCut, IsWriteFault, BreaksOff, Runs}
 use Rattle.ntx_run.specs.inner.Parts.{IsLineWhole, IsLineCutOff, HasNoLine, WritesLine}
+use Rattle.ntx_run.proofs.FontReading.{font_rose}
 use Rattle.ntx_run.proofs.Reading.{same_names}
 use Rattle.ntx_run.proofs.Sinks.{adds_nothing, adds_no_prefix, adds_whole, adds_proper}
 
 -- ---- what the definition says
 
-abbrev ending_if : Bool → InputBytes → Ending
-ending_if accepted bytes = cond accepted (ending_of (read_inputs bytes)) (stopped stop.Words [])
+abbrev ending_if : Bool → List (List ℕ) → InputBytes → Ending
+ending_if accepted words bytes = cond accepted (ending_of (read_inputs (font_sizes words) bytes)) (stopped stop.Words [])
 
 names_fit : (words : List (List ℕ)) (inputs : Inputs) (bytes : InputBytes) → Exposes inputs bytes → fits_form words (map (λ font. font.name) bytes.fonts) ≡ fits_form words (names_of inputs)
 names_fit words inputs bytes exposes = ap (fits_form words) (sym (same_names inputs bytes exposes))
 
 pub run_refused : (words : List (List ℕ)) (inputs : Inputs) (bytes : InputBytes) → Exposes inputs bytes → fits_form words (names_of inputs) ≡ false → run_of words bytes ≡ stopped stop.Words []
 run_refused words inputs bytes exposes refused =
-    ap (λ b. ending_if b bytes) (names_fit words inputs bytes exposes ∙ refused)
+    ap (λ b. ending_if b words bytes) (names_fit words inputs bytes exposes ∙ refused)
 
-pub run_accepted : (words : List (List ℕ)) (inputs : Inputs) (bytes : InputBytes) (result : Result (List Command) StopReason) → Exposes inputs bytes → fits_form words (names_of inputs) ≡ true → read_inputs bytes ≡ result → run_of words bytes ≡ ending_of result
+pub run_accepted : (words : List (List ℕ)) (inputs : Inputs) (bytes : InputBytes) (result : Result Job StopReason) → Exposes inputs bytes → fits_form words (names_of inputs) ≡ true → read_inputs (font_sizes words) bytes ≡ result → run_of words bytes ≡ ending_of result
 run_accepted words inputs bytes result exposes accepted is =
-    ap (λ b. ending_if b bytes) (names_fit words inputs bytes exposes ∙ accepted) ∙ ap ending_of is
+    ap (λ b. ending_if b words bytes) (names_fit words inputs bytes exposes ∙ accepted) ∙ ap ending_of is
 
 -- ---- the line of a reason
 
@@ -48,6 +48,7 @@ has_line stop.Words apart = λ e. (cc)
 has_line (stop.Document fault) apart = λ e. (cc)
 has_line (stop.Script fault) apart = λ e. (cc)
 has_line stop.Patterns apart = λ e. (cc)
+has_line (stop.Font k fault) apart = λ e. (cc)
 has_line (stop.Read input) apart = λ e. (cc)
 has_line stop.DviFull apart = λ e. (cc)
 
@@ -59,6 +60,7 @@ module _ (words : List (List ℕ)) (before after : Outside) where
   prints_why (stop.Document fault) outcome line = record { adds = line.adds; kept = line.kept }
   prints_why (stop.Script fault) outcome line = record { adds = line.adds; kept = line.kept }
   prints_why stop.Patterns outcome line = record { adds = line.adds; kept = line.kept }
+  prints_why (stop.Font k fault) outcome line = record { adds = line.adds; kept = line.kept }
   prints_why (stop.Read input) outcome line = record { adds = line.adds; kept = line.kept }
   prints_why stop.DviFull outcome line = record { printed = []; is_printed = refl; adds = line.adds; kept = line.kept }
 
@@ -99,12 +101,15 @@ module _ (words : List (List ℕ)) (before after : Outside) where
     pub dvi_kept : after.dvi.faults ≡ before.dvi.faults
     pub cause : IsOfRead why ⊎ IsDefined why
 
-  input_rose : (input : Which) → FailsAt input (in_turn before.inputs) (in_turn after.inputs) → NoneRose (counts before) (counts after) → ⊥
+  input_rose : (input : Which) → FailsAt input (in_turn (font_sizes words) before.inputs) (in_turn (font_sizes words) after.inputs) → NoneRose (counts before) (counts after) → ⊥
   input_rose input fails none = elim fails [
     | inl at_document ↦ none.1.1.0 at_document.1
     | inr later ↦ elim later.1 [
       | inl at_script ↦ none.1.1.1.0 at_script.1
-      | inr last ↦ elim last.1 [ inl at_patterns ↦ none.1.1.1.1.0 at_patterns.1 | inr past ↦ past.1 ]
+      | inr last ↦ elim last.1 [
+        | inl at_patterns ↦ none.1.1.1.1.0 at_patterns.1
+        | inr fonts ↦ font_rose 1 (font_sizes words) before.inputs.fonts after.inputs.fonts input fonts.1 none.1.1.1.1.1
+      ]
     ]
   ]
 
@@ -262,7 +267,7 @@ module _ (words : List (List ℕ)) (before after : Outside) where
     );
   }
 
-  pub write_ends : (outcome : Outcome) → IsUnfinished → Rose before.dvi.faults after.dvi.faults → ((bytes : InputBytes) → Exposes before.inputs bytes → AddsProperPrefix before.dvi.taken after.dvi.taken (run_of words bytes).dvi) → ((bytes : InputBytes) → Exposes before.inputs bytes → IsOk (read_inputs bytes)) → HasNoLine stop.Write before.lines after.lines outcome → RunsTo outcome
+  pub write_ends : (outcome : Outcome) → IsUnfinished → Rose before.dvi.faults after.dvi.faults → ((bytes : InputBytes) → Exposes before.inputs bytes → AddsProperPrefix before.dvi.taken after.dvi.taken (run_of words bytes).dvi) → ((bytes : InputBytes) → Exposes before.inputs bytes → IsOk (read_inputs (font_sizes words) bytes)) → HasNoLine stop.Write before.lines after.lines outcome → RunsTo outcome
   write_ends outcome unfinished rose cut accepted none =
       subst RunsTo (sym none.ended) (write_breaks (unfinished_breaks unfinished none.same) (inl (record { rose = rose; cut = cut; lines = prints_nothing none.same; accepted = accepted })))
 

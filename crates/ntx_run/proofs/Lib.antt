@@ -8,6 +8,12 @@ pub mod Drawing
 pub mod Sinks
 -- the DVI file of commands, written whole or not
 pub mod Files
+-- words and feeds' names that are accepted
+pub mod Fitting
+-- what was read of the fonts
+pub mod FontReading
+-- one font more
+pub mod FontSteps
 -- what was read of the inputs
 pub mod Reading
 -- how a run ends, from what stands before its last line

@@ -1,21 +1,19 @@
 -- What was read of the inputs: in what order, and what the definition of a run makes of their bytes.
-use Rattle.std.proofs.Common.{◌≡◌, ℕ, Bool, List, [], ◌∷◌, map, Some, Result, Ok, Err, is_ok, ◌⊎◌, inl, inr, refl, ap, sym, ◌∙◌}
-use Rattle.std.specs.Prelude.{IsTrue, ◌==◌, ◌&&◌, length}
+use Rattle.std.proofs.Common.{◌≡◌, ℕ, ℤ, List, [], ◌∷◌, map, Option, Some, Result, Ok, Err, ◌⊎◌, inl, inr, refl, ap, sym, ◌∙◌}
+use Rattle.std.specs.Prelude.{IsTrue, is_ok, length}
 use Rattle.std.proofs.lemmas.List.{length-map}
-use Rattle.ntx_num.specs.Answer.{result_and_then}
-use Rattle.ntx_words.specs.CommandLine.{command_line}
+use Rattle.ntx_num.specs.Answer.{result_and_then, result_map}
 use Rattle.ntx_io.specs.Outside.{Input, NamedInput}
 use Rattle.ntx_doc.specs.declared.command.Command.{Command}
+use Rattle.ntx_tfm.specs.Font.{FontTables}
 use Rattle.ntx_run.specs.declared.stop.StopReason.{StopReason}
 use Rattle.ntx_run.specs.declared.stop.StopReason.TheVariants as stop
 use Rattle.ntx_run.specs.declared.outcome.Which.{Which}
 use Rattle.ntx_run.specs.declared.outcome.Which.TheVariants as which
-use Rattle.ntx_run.specs.Run.{InputBytes, read_document, read_empty, read_script, read_patterns, read_inputs, names_no_font, fits_form}
-use Rattle.ntx_run.specs.Outside.{Inputs, names_of, in_turn, input_counts, Exposes, AreAtEnd, Accepts, IsAccepted, AreReadInTurn, AreReadInOrder, FailsAt}
-use Rattle.ntx_run.specs.inner.Parts.{IsRefusalOf, IsRead, Sources, ReadsInputs, AllRead, AtDocument, AtScript, AtPatterns}
-
-abbrev pub sources_of : Inputs → Sources
-sources_of inputs = record { document = inputs.document; script = inputs.script; patterns = inputs.patterns }
+use Rattle.ntx_run.specs.Run.{InputBytes, Job, job_of, read_document, read_script, read_patterns, read_fonts, read_inputs, fits_form, font_sizes}
+use Rattle.ntx_run.specs.Outside.{Inputs, Turn, names_of, fonts_in_turn, in_turn, input_counts, Exposes, AreAtEnd, IsAccepted, AreReadInTurn, AreReadInOrder, FailsAt}
+use Rattle.ntx_run.specs.inner.Parts.{IsRefusalOf, ReadsFonts, ReadsInputs, AtDocument, AtScript, AtPatterns, AtFonts}
+use Rattle.ntx_run.proofs.FontReading.{accepted, font_counts, fonts_named, fonts_in_order, StopsAtFont, stops_at_font, AreFontsRead, fonts_read}
 
 -- ---- names
 
@@ -30,141 +28,174 @@ same_names inputs bytes exposes =
     ∙ ap (map (λ p. p.0)) exposes.fonts
     ∙ firsts (λ font. font.name) (λ font. Some font.bytes) bytes.fonts
 
--- The test of the words, and of the number of feeds, is the one of the words and the fonts' names.
-pub words_fit : {F : Type 0} (words : List (List ℕ)) (feeds : List F) (font : F → NamedInput) (count : ℕ) (result expected : Bool) → result ≡ (names_no_font (command_line words) && count == 0) → count ≡ length feeds → result ≡ expected → fits_form words (map (λ f. f.name) (map font feeds)) ≡ expected
-unfolding fits_form
-words_fit words feeds font count result expected is counts e =
-    simp (length-map) (sym (ap (λ n. names_no_font (command_line words) && n == 0) counts) ∙ sym is ∙ e)
-
--- ---- what is accepted
-
-empty_accepted : (refusal : StopReason) (bytes : List ℕ) → read_empty refusal bytes ≡ Ok tt → bytes ≡ []
-empty_accepted refusal [] e = refl
-empty_accepted refusal (byte ∷ bytes) e = cc
-
-document_accepted : (before after : Input) (commands : List Command) → IsRead read_document commands before after → IsAccepted (Accepts which.Document) before after
-document_accepted before after commands reads = record {
-  kept = reads.kept;
-  whole = λ bytes e. (ap is_ok (reads.gives bytes e).0, (reads.gives bytes e).1);
-}
-
-script_accepted : (before after : Input) → IsRead read_script tt before after → IsAccepted (Accepts which.Script) before after
-script_accepted before after reads = record {
-  kept = reads.kept;
-  whole = λ bytes e. (empty_accepted _ bytes (reads.gives bytes e).0, (reads.gives bytes e).1);
-}
-
-patterns_accepted : (before after : Input) → IsRead read_patterns tt before after → IsAccepted (Accepts which.Patterns) before after
-patterns_accepted before after reads = record {
-  kept = reads.kept;
-  whole = λ bytes e. (empty_accepted _ bytes (reads.gives bytes e).0, (reads.gives bytes e).1);
-}
+-- There are as many fonts as feeds that expose their bytes.
+same_number : (inputs : Inputs) (bytes : InputBytes) → Exposes inputs bytes → length inputs.fonts ≡ length bytes.fonts
+same_number inputs bytes exposes =
+    sym (length-map inputs.fonts (λ font. font.name)) ∙ ap length (same_names inputs bytes exposes) ∙ length-map bytes.fonts (λ font. font.name)
 
 -- ---- the order
 
-abbrev from_patterns : Input → List (Which × Input)
-from_patterns patterns = (which.Patterns, patterns) ∷ []
+abbrev from_patterns : List (Option ℤ) → Input → List NamedInput → List Turn
+from_patterns sizes patterns fonts =
+    record { which = which.Patterns; accepts = λ bytes. is_ok (read_patterns bytes); input = patterns } ∷ fonts_in_turn 1 sizes fonts
 
-abbrev from_script : Input → Input → List (Which × Input)
-from_script script patterns = (which.Script, script) ∷ from_patterns patterns
+abbrev from_script : List (Option ℤ) → Input → Input → List NamedInput → List Turn
+from_script sizes script patterns fonts =
+    record { which = which.Script; accepts = λ bytes. is_ok (read_script bytes); input = script } ∷ from_patterns sizes patterns fonts
 
-same_from_script : (before after : Inputs) → after.script ≡ before.script → after.patterns ≡ before.patterns → from_script after.script after.patterns ≡ from_script before.script before.patterns
-same_from_script before after script patterns =
-    ap (λ (s : Input). from_script s after.patterns) script ∙ ap (from_script before.script) patterns
+same_from_patterns : (sizes : List (Option ℤ)) (before after : Inputs) → after.patterns ≡ before.patterns → after.fonts ≡ before.fonts → from_patterns sizes after.patterns after.fonts ≡ from_patterns sizes before.patterns before.fonts
+same_from_patterns sizes before after patterns fonts =
+    ap (λ (p : Input). from_patterns sizes p after.fonts) patterns ∙ ap (from_patterns sizes before.patterns) fonts
 
-read_in_turn : (before after : Inputs) (result : Result (List Command) StopReason) → ReadsInputs (sources_of before) (sources_of after) result → AreReadInTurn (in_turn before) (in_turn after)
-read_in_turn before after result (AllRead commands document script patterns) =
-    inr (document_accepted before.document after.document commands document, inr (script_accepted before.script after.script script, inr (patterns_accepted before.patterns after.patterns patterns, tt)))
-read_in_turn before after result (AtDocument why document script patterns) =
-    inl (same_from_script before after script patterns)
-read_in_turn before after result (AtScript commands why document script patterns) =
-    inr (document_accepted before.document after.document commands document, inl (ap from_patterns patterns))
-read_in_turn before after result (AtPatterns commands why document script patterns) =
-    inr (document_accepted before.document after.document commands document, inr (script_accepted before.script after.script script, inl refl))
+same_from_script : (sizes : List (Option ℤ)) (before after : Inputs) → after.script ≡ before.script → after.patterns ≡ before.patterns → after.fonts ≡ before.fonts → from_script sizes after.script after.patterns after.fonts ≡ from_script sizes before.script before.patterns before.fonts
+same_from_script sizes before after script patterns fonts =
+    ap (λ (s : Input). from_script sizes s after.patterns after.fonts) script
+    ∙ ap (λ (p : Input). from_script sizes before.script p after.fonts) patterns
+    ∙ ap (from_script sizes before.script before.patterns) fonts
 
-pub in_order : (words : List (List ℕ)) (before after : Inputs) (result : Result (List Command) StopReason) → IsTrue (fits_form words (names_of before)) → after.fonts ≡ before.fonts → ReadsInputs (sources_of before) (sources_of after) result → AreReadInOrder words before after
-in_order words before after result accepted fonts reads =
-    record { words_first = inr accepted; in_turn = read_in_turn before after result reads; feeds = fonts }
+module _ (sizes : List (Option ℤ)) (before after : Inputs) where
+  read_in_turn : (result : Result Job StopReason) → ReadsInputs sizes before after result → AreReadInTurn (in_turn sizes before) (in_turn sizes after)
+  read_in_turn _ (AtDocument why document script patterns fonts) =
+      inl (same_from_script sizes before after script patterns fonts)
+  read_in_turn _ (AtScript commands why document script patterns fonts) =
+      inr (accepted _ commands before.document after.document document, inl (same_from_patterns sizes before after patterns fonts))
+  read_in_turn _ (AtPatterns commands why document script patterns fonts) =
+      inr (accepted _ commands before.document after.document document, inr (accepted _ tt before.script after.script script, inl (ap (fonts_in_turn 1 sizes) fonts)))
+  read_in_turn _ (AtFonts commands result document script patterns fonts) =
+      inr (accepted _ commands before.document after.document document, inr (accepted _ tt before.script after.script script, inr (accepted _ tt before.patterns after.patterns patterns, fonts_in_order 1 sizes before.fonts after.fonts result fonts)))
+
+  read_named : (result : Result Job StopReason) → ReadsInputs sizes before after result → names_of after ≡ names_of before
+  read_named _ (AtDocument why document script patterns fonts) = ap (map (λ font. font.name)) fonts
+  read_named _ (AtScript commands why document script patterns fonts) = ap (map (λ font. font.name)) fonts
+  read_named _ (AtPatterns commands why document script patterns fonts) = ap (map (λ font. font.name)) fonts
+  read_named _ (AtFonts commands result document script patterns fonts) = fonts_named 1 sizes before.fonts after.fonts result fonts
+
+pub in_order : (words : List (List ℕ)) (before after : Inputs) (result : Result Job StopReason) → IsTrue (fits_form words (names_of before)) → ReadsInputs (font_sizes words) before after result → AreReadInOrder words before after
+in_order words before after result fits reads = record {
+  words_first = inr fits;
+  in_turn = read_in_turn (font_sizes words) before after result reads;
+  names = read_named (font_sizes words) before after result reads;
+}
 
 -- ---- what the definition makes of the bytes
 
-abbrev after_script : InputBytes → List Command → Result (List Command) StopReason
-after_script bytes commands = result_and_then (read_patterns bytes.patterns) (λ _. Ok commands)
+abbrev after_patterns : List (Option ℤ) → InputBytes → List Command → Result Job StopReason
+after_patterns sizes bytes commands = result_map (job_of commands) (read_fonts 1 sizes bytes.fonts)
 
-abbrev after_document : InputBytes → List Command → Result (List Command) StopReason
-after_document bytes commands = result_and_then (read_script bytes.script) (λ _. after_script bytes commands)
+abbrev after_script : List (Option ℤ) → InputBytes → List Command → Result Job StopReason
+after_script sizes bytes commands = result_and_then (read_patterns bytes.patterns) (λ _. after_patterns sizes bytes commands)
 
-document_read : (bytes : InputBytes) (result : Result (List Command) StopReason) → read_document bytes.document ≡ result → read_inputs bytes ≡ result_and_then result (after_document bytes)
-document_read bytes result is = ap (λ r. result_and_then r (after_document bytes)) is
+abbrev after_document : List (Option ℤ) → InputBytes → List Command → Result Job StopReason
+after_document sizes bytes commands = result_and_then (read_script bytes.script) (λ _. after_script sizes bytes commands)
 
-script_read : (bytes : InputBytes) (commands : List Command) (result : Result (Unit {0}) StopReason) → read_document bytes.document ≡ Ok commands → read_script bytes.script ≡ result → read_inputs bytes ≡ result_and_then result (λ _. after_script bytes commands)
-script_read bytes commands result document is =
-    document_read bytes (Ok commands) document ∙ ap (λ r. result_and_then r (λ _. after_script bytes commands)) is
+module _ (sizes : List (Option ℤ)) (inputs : Inputs) (bytes : InputBytes) (exposes : Exposes inputs bytes) where
+  document_read : (result : Result (List Command) StopReason) → read_document (length inputs.fonts) bytes.document ≡ result → read_inputs sizes bytes ≡ result_and_then result (after_document sizes bytes)
+  document_read result is =
+      ap (λ r. result_and_then r (after_document sizes bytes)) (ap (λ n. read_document n bytes.document) (sym (same_number inputs bytes exposes)) ∙ is)
 
-patterns_read : (bytes : InputBytes) (commands : List Command) (result : Result (Unit {0}) StopReason) → read_document bytes.document ≡ Ok commands → read_script bytes.script ≡ Ok tt → read_patterns bytes.patterns ≡ result → read_inputs bytes ≡ result_and_then result (λ _. Ok commands)
-patterns_read bytes commands result document script is =
-    script_read bytes commands (Ok tt) document script ∙ ap (λ r. result_and_then r (λ _. Ok commands)) is
+  script_read : (commands : List Command) (result : Result (Unit {0}) StopReason) → read_document (length inputs.fonts) bytes.document ≡ Ok commands → read_script bytes.script ≡ result → read_inputs sizes bytes ≡ result_and_then result (λ _. after_script sizes bytes commands)
+  script_read commands result document is =
+      document_read (Ok commands) document ∙ ap (λ r. result_and_then r (λ _. after_script sizes bytes commands)) is
+
+  patterns_read : (commands : List Command) (result : Result (Unit {0}) StopReason) → read_document (length inputs.fonts) bytes.document ≡ Ok commands → read_script bytes.script ≡ Ok tt → read_patterns bytes.patterns ≡ result → read_inputs sizes bytes ≡ result_and_then result (λ _. after_patterns sizes bytes commands)
+  patterns_read commands result document script is =
+      script_read commands (Ok tt) document script ∙ ap (λ r. result_and_then r (λ _. after_patterns sizes bytes commands)) is
+
+  all_fonts_read : (commands : List Command) (result : Result (List FontTables) StopReason) → read_document (length inputs.fonts) bytes.document ≡ Ok commands → read_script bytes.script ≡ Ok tt → read_patterns bytes.patterns ≡ Ok tt → read_fonts 1 sizes bytes.fonts ≡ result → read_inputs sizes bytes ≡ result_map (job_of commands) result
+  all_fonts_read commands result document script patterns is =
+      patterns_read commands (Ok tt) document script patterns ∙ ap (λ r. result_map (job_of commands) r) is
 
 same_counts : (d d' s s' p p' : ℕ) (fs fs' : List ℕ) → d' ≡ d → s' ≡ s → p' ≡ p → fs' ≡ fs → ◌≡◌ {A = List ℕ} (d' ∷ s' ∷ p' ∷ fs') (d ∷ s ∷ p ∷ fs)
 same_counts d d' s s' p p' fs fs' one two three four = cc
 
-module _ (before after : Inputs) where
-  counts_of_fonts : after.fonts ≡ before.fonts → map (λ font. font.input.faults) after.fonts ≡ map (λ font. font.input.faults) before.fonts
-  counts_of_fonts same = ap (map (λ font. font.input.faults)) same
+error_of_job : (commands : List Command) (result : Result (List FontTables) StopReason) (why : StopReason) → result_map (job_of commands) result ≡ Err why → result ≡ Err why
+error_of_job commands (Ok fonts) why e = cc
+error_of_job commands (Err other) why e = cc
+
+fonts_of_job : (commands : List Command) (result : Result (List FontTables) StopReason) (job : Job) → result_map (job_of commands) result ≡ Ok job → (fonts : List FontTables) × (result ≡ Ok fonts) × (job ≡ job_of commands fonts)
+fonts_of_job commands (Ok fonts) job e = (fonts, refl, cc)
+fonts_of_job commands (Err why) job e = cc
+
+module _ (sizes : List (Option ℤ)) (before after : Inputs) where
+  counts_of_fonts : after.fonts ≡ before.fonts → font_counts after.fonts ≡ font_counts before.fonts
+  counts_of_fonts same = ap font_counts same
 
   -- Reading stopped for this reason at one input: it is refused, as the definition says; its source failed; or memory ran out.
   pub record StopsAt (why : StopReason) : Type 0 where
     pub input : Which
-    pub stops : (IsRefusalOf input why × (input_counts after ≡ input_counts before) × ((bytes : InputBytes) → Exposes before bytes → read_inputs bytes ≡ Err why)) ⊎ (((why ≡ stop.Read input) × FailsAt input (in_turn before) (in_turn after)) ⊎ ((why ≡ stop.Memory) × (input_counts after ≡ input_counts before)))
+    pub stops : (IsRefusalOf input why × (input_counts after ≡ input_counts before) × ((bytes : InputBytes) → Exposes before bytes → read_inputs sizes bytes ≡ Err why)) ⊎ (((why ≡ stop.Read input) × FailsAt input (in_turn sizes before) (in_turn sizes after)) ⊎ ((why ≡ stop.Memory) × (input_counts after ≡ input_counts before)))
 
-  pub stops_at : (why : StopReason) → after.fonts ≡ before.fonts → ReadsInputs (sources_of before) (sources_of after) (Err why) → StopsAt why
-  stops_at why fonts (AtDocument _ document script patterns) =
-      let others : (after.script.faults ≡ before.script.faults) × (after.patterns.faults ≡ before.patterns.faults) = (ap (λ (i : Input). i.faults) script, ap (λ (i : Input). i.faults) patterns) in
-      record {
+  pub stops_at : (result : Result Job StopReason) (why : StopReason) → ReadsInputs sizes before after result → result ≡ Err why → StopsAt why
+  stops_at _ why (AtDocument other document script patterns fonts) e =
+      let same : other ≡ why = cc in
+      let script_kept : after.script.faults ≡ before.script.faults = ap (λ (i : Input). i.faults) script in
+      let patterns_kept : after.patterns.faults ≡ before.patterns.faults = ap (λ (i : Input). i.faults) patterns in
+      rw (sym same) (record {
         input = which.Document;
         stops = elim document [
-          | inl refusal ↦ inl (refusal.0, same_counts _ _ _ _ _ _ _ _ refusal.1.kept others.0 others.1 (counts_of_fonts fonts), λ bytes e. document_read bytes (Err why) (refusal.1.gives bytes.document e.document))
-          | inr other ↦ elim other [
-            | inl failure ↦ inr (inl (failure.0, inl (refl, failure.1, same_from_script before after script patterns)))
-            | inr memory ↦ inr (inr (memory.0, same_counts _ _ _ _ _ _ _ _ memory.1 others.0 others.1 (counts_of_fonts fonts)))
+          | inl refusal ↦ inl (refusal.0, same_counts _ _ _ _ _ _ _ _ refusal.1.kept script_kept patterns_kept (counts_of_fonts fonts), λ bytes e. document_read sizes before bytes e (Err other) (refusal.1.gives bytes.document e.document))
+          | inr others ↦ elim others [
+            | inl failure ↦ inr (inl (failure.0, inl (refl, failure.1, same_from_script sizes before after script patterns fonts)))
+            | inr memory ↦ inr (inr (memory.0, same_counts _ _ _ _ _ _ _ _ memory.1 script_kept patterns_kept (counts_of_fonts fonts)))
           ]
         ];
-      }
-  stops_at why fonts (AtScript commands _ document script patterns) =
-      let others : after.patterns.faults ≡ before.patterns.faults = ap (λ (i : Input). i.faults) patterns in
-      let first : IsAccepted (Accepts which.Document) before.document after.document = document_accepted before.document after.document commands document in
-      record {
+      })
+  stops_at _ why (AtScript commands other document script patterns fonts) e =
+      let same : other ≡ why = cc in
+      let patterns_kept : after.patterns.faults ≡ before.patterns.faults = ap (λ (i : Input). i.faults) patterns in
+      rw (sym same) (record {
         input = which.Script;
         stops = elim script [
-          | inl refusal ↦ inl (refusal.0, same_counts _ _ _ _ _ _ _ _ document.kept refusal.1.kept others (counts_of_fonts fonts), λ bytes e. script_read bytes commands (Err why) (document.gives bytes.document e.document).0 (refusal.1.gives bytes.script e.script))
-          | inr other ↦ elim other [
-            | inl failure ↦ inr (inl (failure.0, inr (first, inl (refl, failure.1, ap from_patterns patterns))))
-            | inr memory ↦ inr (inr (memory.0, same_counts _ _ _ _ _ _ _ _ document.kept memory.1 others (counts_of_fonts fonts)))
+          | inl refusal ↦ inl (refusal.0, same_counts _ _ _ _ _ _ _ _ document.kept refusal.1.kept patterns_kept (counts_of_fonts fonts), λ bytes e. script_read sizes before bytes e commands (Err other) (document.gives bytes.document e.document).0 (refusal.1.gives bytes.script e.script))
+          | inr others ↦ elim others [
+            | inl failure ↦ inr (inl (failure.0, inr (accepted _ commands before.document after.document document, inl (refl, failure.1, same_from_patterns sizes before after patterns fonts))))
+            | inr memory ↦ inr (inr (memory.0, same_counts _ _ _ _ _ _ _ _ document.kept memory.1 patterns_kept (counts_of_fonts fonts)))
           ]
         ];
-      }
-  stops_at why fonts (AtPatterns commands _ document script patterns) =
-      let first : IsAccepted (Accepts which.Document) before.document after.document = document_accepted before.document after.document commands document in
-      let second : IsAccepted (Accepts which.Script) before.script after.script = script_accepted before.script after.script script in
-      record {
+      })
+  stops_at _ why (AtPatterns commands other document script patterns fonts) e =
+      let same : other ≡ why = cc in
+      rw (sym same) (record {
         input = which.Patterns;
         stops = elim patterns [
-          | inl refusal ↦ inl (refusal.0, same_counts _ _ _ _ _ _ _ _ document.kept script.kept refusal.1.kept (counts_of_fonts fonts), λ bytes e. patterns_read bytes commands (Err why) (document.gives bytes.document e.document).0 (script.gives bytes.script e.script).0 (refusal.1.gives bytes.patterns e.patterns))
-          | inr other ↦ elim other [
-            | inl failure ↦ inr (inl (failure.0, inr (first, inr (second, inl (refl, failure.1, refl)))))
+          | inl refusal ↦ inl (refusal.0, same_counts _ _ _ _ _ _ _ _ document.kept script.kept refusal.1.kept (counts_of_fonts fonts), λ bytes e. patterns_read sizes before bytes e commands (Err other) (document.gives bytes.document e.document).0 (script.gives bytes.script e.script).0 (refusal.1.gives bytes.patterns e.patterns))
+          | inr others ↦ elim others [
+            | inl failure ↦ inr (inl (failure.0, inr (accepted _ commands before.document after.document document, inr (accepted _ tt before.script after.script script, inl (refl, failure.1, ap (fonts_in_turn 1 sizes) fonts)))))
             | inr memory ↦ inr (inr (memory.0, same_counts _ _ _ _ _ _ _ _ document.kept script.kept memory.1 (counts_of_fonts fonts)))
+          ]
+        ];
+      })
+  stops_at _ why (AtFonts commands result document script patterns fonts) e =
+      let at : StopsAtFont 1 sizes before.fonts after.fonts why = stops_at_font 1 sizes before.fonts after.fonts result why fonts (error_of_job commands result why e) in
+      record {
+        input = at.input;
+        stops = elim at.stops [
+          | inl refusal ↦ inl (refusal.0, same_counts _ _ _ _ _ _ _ _ document.kept script.kept patterns.kept refusal.1, λ bytes e. all_fonts_read sizes before bytes e commands (Err why) (document.gives bytes.document e.document).0 (script.gives bytes.script e.script).0 (patterns.gives bytes.patterns e.patterns).0 (refusal.2 bytes.fonts e.fonts))
+          | inr others ↦ elim others [
+            | inl failure ↦ inr (inl (failure.0, inr (accepted _ commands before.document after.document document, inr (accepted _ tt before.script after.script script, inr (accepted _ tt before.patterns after.patterns patterns, failure.1)))))
+            | inr memory ↦ inr (inr (memory.0, same_counts _ _ _ _ _ _ _ _ document.kept script.kept patterns.kept memory.1))
           ]
         ];
       }
 
   -- All was read, to the ends.
-  pub all_read : (commands : List Command) → ReadsInputs (sources_of before) (sources_of after) (Ok commands) → (bytes : InputBytes) → Exposes before bytes → (read_inputs bytes ≡ Ok commands) × AreAtEnd after
-  all_read commands (AllRead _ document script patterns) bytes e =
-      let first = document.gives bytes.document e.document in
-      let second = script.gives bytes.script e.script in
-      let third = patterns.gives bytes.patterns e.patterns in
-      (patterns_read bytes commands (Ok tt) first.0 second.0 third.0, (first.1, (second.1, (third.1, tt))))
+  pub record IsAllRead (job : Job) : Type 0 where
+    pub kept : input_counts after ≡ input_counts before
+    pub gives : (bytes : InputBytes) → Exposes before bytes → (read_inputs sizes bytes ≡ Ok job) × AreAtEnd after
 
-  pub all_kept : (commands : List Command) → after.fonts ≡ before.fonts → ReadsInputs (sources_of before) (sources_of after) (Ok commands) → input_counts after ≡ input_counts before
-  all_kept commands fonts (AllRead _ document script patterns) =
-      same_counts _ _ _ _ _ _ _ _ document.kept script.kept patterns.kept (counts_of_fonts fonts)
+  pub all_read : (result : Result Job StopReason) (job : Job) → ReadsInputs sizes before after result → result ≡ Ok job → IsAllRead job
+  all_read _ job (AtDocument why document script patterns fonts) e = cc
+  all_read _ job (AtScript commands why document script patterns fonts) e = cc
+  all_read _ job (AtPatterns commands why document script patterns fonts) e = cc
+  all_read _ job (AtFonts commands result document script patterns reads) e =
+      let parts = fonts_of_job commands result job e in
+      let fonts : AreFontsRead 1 sizes before.fonts after.fonts parts.0 = fonts_read 1 sizes before.fonts after.fonts result parts.0 reads parts.1 in
+      rw parts.2 (record {
+        kept = same_counts _ _ _ _ _ _ _ _ document.kept script.kept patterns.kept fonts.kept;
+        gives = λ bytes e.
+            let first = document.gives bytes.document e.document in
+            let second = script.gives bytes.script e.script in
+            let third = patterns.gives bytes.patterns e.patterns in
+            let others = fonts.gives bytes.fonts e.fonts in
+            (all_fonts_read sizes before bytes e commands (Ok parts.0) first.0 second.0 third.0 others.0, (first.1, (second.1, (third.1, others.1))));
+      })

@@ -1,6 +1,6 @@
 -- The outside of a run at one moment, and what a run does to it. Most facts go by two lists: the counts of faults of all sources and sinks, and
 -- the inputs in the order in which they are read.
-use Rattle.std.specs.Prelude.{◌≡◌, ◌≢◌, false, ◌⊎◌, ℕ, IsOk, IsTrue, List, [], ◌∷◌, ◌++◌, map, Option, Some, None, Ok}
+use Rattle.std.specs.Prelude.{◌≡◌, ◌≢◌, false, ◌⊎◌, ℕ, ◌+◌, Bool, is_ok, IsOk, IsTrue, ℤ, List, [], ◌∷◌, ◌++◌, map, length, Option, Some, None, Ok}
 use Rattle.std.specs.List.{AllByRecursion}
 use Rattle.ntx_io.specs.Outside.{Input, NamedInput, Output, Rose, Adds, AddsPrefix, AddsProperPrefix}
 use Rattle.ntx_dvi.specs.Progress.{start}
@@ -16,7 +16,7 @@ use Rattle.ntx_run.specs.declared.outcome.Which.{Which}
 use Rattle.ntx_run.specs.declared.outcome.Which.TheVariants as which
 use Rattle.ntx_run.specs.Page.{document_operations}
 use Rattle.ntx_run.specs.StopReason.{IsBeforeDvi, status_of, place_of, line_of}
-use Rattle.ntx_run.specs.Run.{InputBytes, Ending, lines_of, fits_form, read_document, read_inputs, run_of}
+use Rattle.ntx_run.specs.Run.{InputBytes, Ending, lines_of, fits_form, font_sizes, Job, read_document, read_script, read_patterns, read_font, read_inputs, run_of}
 
 pub record Inputs : Type 0 where
   pub document : Input
@@ -38,9 +38,30 @@ outside document script patterns fonts dvi lines =
 abbrev pub names_of : Inputs → List (List ℕ)
 names_of inputs = map (λ font. font.name) inputs.fonts
 
--- the inputs that are read, in the order of reading
-abbrev pub in_turn : Inputs → List (Which × Input)
-in_turn inputs = (which.Document, inputs.document) ∷ (which.Script, inputs.script) ∷ (which.Patterns, inputs.patterns) ∷ []
+-- the sources and feeds, in the order of reading
+abbrev pub sources_of : Inputs → List Input
+sources_of inputs = inputs.document ∷ inputs.script ∷ inputs.patterns ∷ map (λ font. font.input) inputs.fonts
+
+-- an input whose turn comes: which one it is, the bytes that are accepted as it, and its source
+pub record Turn : Type 0 where
+  pub which : Which
+  pub accepts : List ℕ → Bool
+  pub input : Input
+
+-- the fonts from the k-th on
+abbrev pub fonts_in_turn : ℕ → List (Option ℤ) → List NamedInput → List Turn
+fonts_in_turn k [] fonts = []
+fonts_in_turn k (size ∷ sizes) [] = []
+fonts_in_turn k (size ∷ sizes) (font ∷ fonts) =
+    record { which = which.Font k; accepts = λ bytes. is_ok (read_font k size font.name bytes); input = font.input } ∷ fonts_in_turn (k + 1) sizes fonts
+
+-- the inputs in the order of reading, with these sizes of the fonts
+abbrev pub in_turn : List (Option ℤ) → Inputs → List Turn
+in_turn sizes inputs =
+    record { which = which.Document; accepts = λ bytes. is_ok (read_document (length inputs.fonts) bytes); input = inputs.document }
+    ∷ record { which = which.Script; accepts = λ bytes. is_ok (read_script bytes); input = inputs.script }
+    ∷ record { which = which.Patterns; accepts = λ bytes. is_ok (read_patterns bytes); input = inputs.patterns }
+    ∷ fonts_in_turn 1 sizes inputs.fonts
 
 -- ---- bytes
 
@@ -51,17 +72,17 @@ pub record Exposes (inputs : Inputs) (bytes : InputBytes) : Type 0 where
   pub patterns : inputs.patterns.left ≡ Some bytes.patterns
   pub fonts : map {B = List ℕ × Option (List ℕ)} (λ font. (font.name, font.input.left)) inputs.fonts ≡ map {B = List ℕ × Option (List ℕ)} (λ font. (font.name, Some font.bytes)) bytes.fonts
 
-abbrev pub IsAtEnd : Which × Input → Type 0
-IsAtEnd input = input.1.left ≡ Some []
+abbrev pub IsAtEnd : Input → Type 0
+IsAtEnd input = input.left ≡ Some []
 
--- The inputs that are read have given all their bytes.
+-- The sources and feeds have given all their bytes.
 abbrev pub AreAtEnd : Inputs → Type 0
-AreAtEnd inputs = AllByRecursion IsAtEnd (in_turn inputs)
+AreAtEnd inputs = AllByRecursion IsAtEnd (sources_of inputs)
 
 -- ---- counts of faults
 
 abbrev pub input_counts : Inputs → List ℕ
-input_counts inputs = inputs.document.faults ∷ inputs.script.faults ∷ inputs.patterns.faults ∷ map (λ font. font.input.faults) inputs.fonts
+input_counts inputs = map (λ input. input.faults) (sources_of inputs)
 
 abbrev pub counts : Outside → List ℕ
 counts o = o.dvi.faults ∷ o.lines.faults ∷ input_counts o.inputs
@@ -75,44 +96,38 @@ NoneRose (before ∷ befores) [] = ⊥
 
 -- ---- reading
 
--- The bytes are accepted as this input.
-abbrev pub Accepts : Which → List ℕ → Type 0
-Accepts which.Document bytes = IsOk (read_document bytes)
-Accepts which.Script bytes = bytes ≡ []
-Accepts which.Patterns bytes = bytes ≡ []
-
 -- A source did not fail. If it exposes its bytes they are accepted, and all of them were given.
-pub record IsAccepted (accepts : List ℕ → Type 0) (before after : Input) : Type 0 where
+pub record IsAccepted (accepts : List ℕ → Bool) (before after : Input) : Type 0 where
   pub kept : after.faults ≡ before.faults
-  pub whole : (bytes : List ℕ) → before.left ≡ Some bytes → accepts bytes × (after.left ≡ Some [])
+  pub whole : (bytes : List ℕ) → before.left ≡ Some bytes → IsTrue (accepts bytes) × (after.left ≡ Some [])
 
 -- An input is read only if the one before it did not fail and is accepted.
-abbrev pub AreReadInTurn : List (Which × Input) → List (Which × Input) → Type 0
+abbrev pub AreReadInTurn : List Turn → List Turn → Type 0
 AreReadInTurn [] [] = Unit {0}
 AreReadInTurn (before ∷ befores) (after ∷ afters) =
-    (afters ≡ befores) ⊎ (IsAccepted (Accepts before.0) before.1 after.1 × AreReadInTurn befores afters)
+    (afters ≡ befores) ⊎ (IsAccepted before.accepts before.input after.input × AreReadInTurn befores afters)
 AreReadInTurn [] (after ∷ afters) = ⊥
 AreReadInTurn (before ∷ befores) [] = ⊥
 
--- Nothing is read unless the words are accepted, and then one input after another. Feeds are not read.
+-- Nothing is read unless the words and the feeds' names are accepted, and then one input after another. Feeds keep their names.
 pub record AreReadInOrder (words : List (List ℕ)) (before after : Inputs) : Type 0 where
   pub words_first : (after ≡ before) ⊎ IsTrue (fits_form words (names_of before))
-  pub in_turn : AreReadInTurn (in_turn before) (in_turn after)
-  pub feeds : after.fonts ≡ before.fonts
+  pub in_turn : AreReadInTurn (in_turn (font_sizes words) before) (in_turn (font_sizes words) after)
+  pub names : names_of after ≡ names_of before
 
 -- The source of this input failed. Those before it did not, and are accepted; those after it were not read.
-abbrev pub FailsAt : Which → List (Which × Input) → List (Which × Input) → Type 0
+abbrev pub FailsAt : Which → List Turn → List Turn → Type 0
 FailsAt input [] [] = ⊥
 FailsAt input (before ∷ befores) (after ∷ afters) =
-    ((input ≡ before.0) × Rose before.1.faults after.1.faults × (afters ≡ befores))
-    ⊎ (IsAccepted (Accepts before.0) before.1 after.1 × FailsAt input befores afters)
+    ((input ≡ before.which) × Rose before.input.faults after.input.faults × (afters ≡ befores))
+    ⊎ (IsAccepted before.accepts before.input after.input × FailsAt input befores afters)
 FailsAt input [] (after ∷ afters) = ⊥
 FailsAt input (before ∷ befores) [] = ⊥
 
 -- The words are accepted, this source failed, and nothing was given to the DVI file.
 pub record IsReadFault (words : List (List ℕ)) (input : Which) (before after : Outside) : Type 0 where
   pub accepted : IsTrue (fits_form words (names_of before.inputs))
-  pub fails : FailsAt input (in_turn before.inputs) (in_turn after.inputs)
+  pub fails : FailsAt input (in_turn (font_sizes words) before.inputs) (in_turn (font_sizes words) after.inputs)
   pub dvi : after.dvi ≡ before.dvi
 
 -- ---- writing
@@ -121,10 +136,10 @@ pub record IsReadFault (words : List (List ℕ)) (input : Which) (before after :
 abbrev pub IsFile : List ℕ → Type 0
 IsFile bytes = (commands : List Command) × (bytes ≡ file_bytes start (document_operations commands))
 
--- The DVI file of the commands that these inputs have.
-abbrev pub IsFileOf : InputBytes → List ℕ → Type 0
-IsFileOf inputs bytes =
-    (commands : List Command) × (read_inputs inputs ≡ Ok commands) × (bytes ≡ file_bytes start (document_operations commands))
+-- The DVI file of the job that these words and inputs ask for.
+abbrev pub IsFileOf : List (List ℕ) → InputBytes → List ℕ → Type 0
+IsFileOf words inputs bytes =
+    (job : Job) × (read_inputs (font_sizes words) inputs ≡ Ok job) × (bytes ≡ file_bytes start (document_operations job.commands))
 
 -- Printed by a run before its fault line, which is nothing.
 abbrev pub IsPrinted : List ℕ → Type 0
@@ -148,6 +163,7 @@ PrintsWhy stop.Words before after = PrintsAlone (line_of stop.Words) before afte
 PrintsWhy (stop.Document fault) before after = PrintsAlone (line_of (stop.Document fault)) before after
 PrintsWhy (stop.Script fault) before after = PrintsAlone (line_of (stop.Script fault)) before after
 PrintsWhy stop.Patterns before after = PrintsAlone (line_of stop.Patterns) before after
+PrintsWhy (stop.Font k fault) before after = PrintsAlone (line_of (stop.Font k fault)) before after
 PrintsWhy (stop.Read input) before after = PrintsAlone (line_of (stop.Read input)) before after
 PrintsWhy stop.Write before after = Unit {0}
 PrintsWhy stop.Memory before after = Unit {0}
@@ -168,10 +184,10 @@ pub record EndsAs (ending : Ending) (before after : Outside) (ended : Status) (a
   pub lines : Adds before.lines.taken after.lines.taken (lines_of ending)
 
 -- All was read, and the whole DVI file of the document was written, to its last byte, a filler. There is no fault line.
-pub record IsWhole (bytes : InputBytes) (ending : Ending) (before after : Outside) (ended : Status) (at : Option Place) : Type 0 where
+pub record IsWhole (words : List (List ℕ)) (bytes : InputBytes) (ending : Ending) (before after : Outside) (ended : Status) (at : Option Place) : Type 0 where
   pub at_end : AreAtEnd after.inputs
   pub ends_as : EndsAs ending before after ended at
-  pub file : IsFileOf bytes ending.dvi
+  pub file : IsFileOf words bytes ending.dvi
   pub prefix : List ℕ
   pub last : ending.dvi ≡ prefix ++ 223 ∷ []
   pub silent : ending.fault_line ≡ []
@@ -196,7 +212,7 @@ pub record IsFileCut (words : List (List ℕ)) (before after : Outside) : Type 0
   pub rose : Rose before.dvi.faults after.dvi.faults
   pub cut : (bytes : InputBytes) → Exposes before.inputs bytes → AddsProperPrefix before.dvi.taken after.dvi.taken (run_of words bytes).dvi
   pub lines : Prints [] before.lines after.lines
-  pub accepted : (bytes : InputBytes) → Exposes before.inputs bytes → IsOk (read_inputs bytes)
+  pub accepted : (bytes : InputBytes) → Exposes before.inputs bytes → IsOk (read_inputs (font_sizes words) bytes)
 
 -- The line of this reason could not be written whole: the sink of the lines failed, and took a proper prefix of what was to be printed. The
 -- line is that of a source that failed, or the one that is defined.
@@ -228,14 +244,14 @@ pub record Runs (words : List (List ℕ)) (before after : Outside) (ended : Stat
   -- If the sources expose their bytes and no count of faults rose, the run ends as defined, unless memory ran out.
   pub ends : (bytes : InputBytes) → Exposes before.inputs bytes → NoneRose (counts before) (counts after) → ended ≢ status.Memory → EndsAs (run_of words bytes) before after ended at
   -- If it ended well and the sources expose their bytes, all was read and all was written.
-  pub whole : (bytes : InputBytes) → Exposes before.inputs bytes → ended ≡ status.Done → IsWhole bytes (run_of words bytes) before after ended at
+  pub whole : (bytes : InputBytes) → Exposes before.inputs bytes → ended ≡ status.Done → IsWhole words bytes (run_of words bytes) before after ended at
   -- It ended well, or it stopped for some reason and said so.
   pub reason : EndsWell before after ended at ⊎ ((why : StopReason) × StopsFor why before after ended at)
-  -- Words that are not of the form, or any feed beside them, are refused, and no others. Nothing is read then or given to the DVI file, also
+  -- Words that are not of the form, or feeds whose number or names do not fit them, are refused, and no others. Nothing is read then or given to the DVI file, also
   -- if the line that says so could not be written.
   pub words_refused : ended ≡ status.Words → fits_form words (names_of before.inputs) ≡ false
   pub words_first : fits_form words (names_of before.inputs) ≡ false → ((ended ≡ status.Words) ⊎ ((ended ≡ status.WriteFault) ⊎ (ended ≡ status.Memory))) × (after.inputs ≡ before.inputs) × (after.dvi ≡ before.dvi)
-  -- No source is read after refused words, or after a source that was refused or failed. Feeds are not read.
+  -- No source or feed is read after refused words, or after one that was refused or failed.
   pub in_order : AreReadInOrder words before.inputs after.inputs
   -- A run that stopped at its words or inputs gave nothing to the DVI file.
   pub before_dvi : IsBeforeDvi ended → after.dvi ≡ before.dvi

@@ -1,13 +1,17 @@
 -- A whole run as a function of the words of the command line, the names of the fonts' feeds and the bytes of the inputs: its status, its place,
 -- the bytes of its DVI file and the lines that it prints.
-use Rattle.std.specs.Prelude.{ℕ, ◌^◌, ◌==◌, ◌-◌, nat_lt, ◌&&◌, Bool, false, if◌then◌else◌, List, [], ◌∷◌, ◌++◌, map, length, Option, None, Result, Ok, Err}
-use Rattle.ntx_num.specs.Answer.{result_and_then}
+use Rattle.std.specs.Prelude.{ℕ, ◌^◌, ◌==◌, ◌+◌, ◌-◌, nat_lt, nat_le, ◌&&◌, Bool, false, if◌then◌else◌, ℤ, List, [], ◌∷◌, ◌++◌, map, length, Option, None, Result, Ok, Err}
+use Rattle.std.specs.List.{list_all}
+use Rattle.ntx_num.specs.Answer.{result_and_then, result_map}
 use Rattle.ntx_words.specs.declared.words.BadWords.{BadWords}
 use Rattle.ntx_words.specs.CommandLine.{CommandLine, command_line}
 use Rattle.ntx_doc.specs.declared.command.Command.{Command}
 use Rattle.ntx_doc.specs.declared.fault.DocFault.{DocFault}
 use Rattle.ntx_doc.specs.declared.fault.DocWhy.TheVariants as doc_why
 use Rattle.ntx_doc.specs.Document.{document_of}
+use Rattle.ntx_tfm.specs.Font.{FontTables, font_of}
+use Rattle.ntx_tfm.specs.declared.fault.FontFault.{FontFault}
+use Rattle.ntx_tfm.specs.declared.fault.FontFault.TheVariants as font_fault
 use Rattle.ntx_syntax.specs.declared.fault.SyntaxWhy.TheVariants as syntax_why
 use Rattle.ntx_dvi.specs.Writer.{Writer, new_writer}
 use Rattle.ntx_dvi.specs.Written.{written}
@@ -45,14 +49,30 @@ lines_of ending = ending.printed ++ ending.fault_line
 
 -- ---- words
 
--- The words are of the form of the command line, and name no font.
-abbrev pub names_no_font : Result CommandLine BadWords → Bool
-names_no_font (Ok line) = length line.sizes == 0
-names_no_font (Err refusal) = false
+-- A printed character of ASCII other than the space.
+abbrev pub is_visible : ℕ → Bool
+is_visible byte = nat_le 33 byte && nat_le byte 126
 
--- The words name as many fonts as there are feeds: none.
+-- A feed's name has 1 to 255 bytes, each from 33 to 126.
+abbrev pub is_feed_name : List ℕ → Bool
+is_feed_name name = nat_le 1 (length name) && nat_le (length name) 255 && list_all is_visible name
+
+-- There is a feed for each font that the words name, and each feed has a name.
+abbrev pub has_feeds : Result CommandLine BadWords → List (List ℕ) → Bool
+has_feeds (Ok line) names = length names == length line.sizes && list_all is_feed_name names
+has_feeds (Err refusal) names = false
+
+-- The words are of the form of the command line, and the feeds' names fit them.
 unfoldable pub fits_form : List (List ℕ) → List (List ℕ) → Bool
-fits_form words names = names_no_font (command_line words) && length names == 0
+fits_form words names = has_feeds (command_line words) names
+
+abbrev pub sizes_of : Result CommandLine BadWords → List (Option ℤ)
+sizes_of (Ok line) = line.sizes
+sizes_of (Err refusal) = []
+
+-- The size of each font that the words name, in scaled points. None is the font's design size.
+unfoldable pub font_sizes : List (List ℕ) → List (Option ℤ)
+font_sizes words = sizes_of (command_line words)
 
 -- ---- inputs
 
@@ -64,9 +84,10 @@ abbrev pub document_stop : Result (List Command) DocFault → Result (List Comma
 document_stop (Ok commands) = Ok commands
 document_stop (Err fault) = Err (stop.Document fault)
 
-abbrev pub read_document : List ℕ → Result (List Command) StopReason
-read_document bytes =
-    if nat_lt max_document (length bytes) then Err (stop.Document (record { line = 0; why = doc_why.Size })) else document_stop (document_of bytes 0)
+-- The document, beside so many fonts.
+abbrev pub read_document : ℕ → List ℕ → Result (List Command) StopReason
+read_document fonts bytes =
+    if nat_lt max_document (length bytes) then Err (stop.Document (record { line = 0; why = doc_why.Size })) else document_stop (document_of bytes fonts)
 
 -- An input that has to be empty.
 abbrev pub read_empty : StopReason → List ℕ → Result (Unit {0}) StopReason
@@ -79,12 +100,41 @@ read_script bytes = read_empty (stop.Script (record { line = 0; why = syntax_why
 abbrev pub read_patterns : List ℕ → Result (Unit {0}) StopReason
 read_patterns bytes = read_empty stop.Patterns bytes
 
--- The commands of the document, or the first refusal: of the document, the script, the patterns.
-abbrev pub read_inputs : InputBytes → Result (List Command) StopReason
-read_inputs bytes =
-    result_and_then (read_document bytes.document) (λ commands.
+-- the most bytes of a font
+abbrev pub max_font : ℕ
+max_font = 2 ^ 18
+
+abbrev pub font_stop : ℕ → Result FontTables FontFault → Result FontTables StopReason
+font_stop k (Ok tables) = Ok tables
+font_stop k (Err fault) = Err (stop.Font k fault)
+
+-- The k-th font, counted from 1, with this size and name.
+abbrev pub read_font : ℕ → Option ℤ → List ℕ → List ℕ → Result FontTables StopReason
+read_font k size name bytes =
+    if nat_lt max_font (length bytes) then Err (stop.Font k font_fault.TooLarge) else font_stop k (font_of bytes name size)
+
+-- The fonts from the k-th on, or the refusal of the first that is refused.
+abbrev pub read_fonts : ℕ → List (Option ℤ) → List FontBytes → Result (List FontTables) StopReason
+read_fonts k [] fonts = Ok []
+read_fonts k (size ∷ sizes) [] = Ok []
+read_fonts k (size ∷ sizes) (font ∷ fonts) =
+    result_and_then (read_font k size font.name font.bytes) (λ tables. result_map (λ others. tables ∷ others) (read_fonts (k + 1) sizes fonts))
+
+-- what the inputs say
+pub record Job : Type 0 where
+  pub commands : List Command
+  pub fonts : List FontTables
+
+abbrev pub job_of : List Command → List FontTables → Job
+job_of commands fonts = record { commands = commands; fonts = fonts }
+
+-- What the inputs say, or the first refusal: of the document, the script, the patterns, the fonts in their order.
+abbrev pub read_inputs : List (Option ℤ) → InputBytes → Result Job StopReason
+read_inputs sizes bytes =
+    result_and_then (read_document (length bytes.fonts) bytes.document) (λ commands.
     result_and_then (read_script bytes.script) (λ _.
-    result_and_then (read_patterns bytes.patterns) (λ _. Ok commands)))
+    result_and_then (read_patterns bytes.patterns) (λ _.
+    result_map (job_of commands) (read_fonts 1 sizes bytes.fonts))))
 
 -- ---- the file
 
@@ -113,10 +163,11 @@ abbrev pub file_ending : Result Writer Writer → Ending
 file_ending (Ok w) = ended_well w.waiting
 file_ending (Err w) = stopped stop.DviFull w.waiting
 
-abbrev pub ending_of : Result (List Command) StopReason → Ending
-ending_of (Ok commands) = file_ending (file_of commands)
+abbrev pub ending_of : Result Job StopReason → Ending
+ending_of (Ok job) = file_ending (file_of job.commands)
 ending_of (Err why) = stopped why []
 
--- The words are refused before anything is read.
+-- The words and the feeds' names are refused before anything is read.
 abbrev pub run_of : List (List ℕ) → InputBytes → Ending
-run_of words bytes = if fits_form words (map (λ font. font.name) bytes.fonts) then ending_of (read_inputs bytes) else stopped stop.Words []
+run_of words bytes =
+    if fits_form words (map (λ font. font.name) bytes.fonts) then ending_of (read_inputs (font_sizes words) bytes) else stopped stop.Words []

@@ -2,6 +2,7 @@
 use Rattle.std.specs.Prelude.{ℕ, List, [], ◌∷◌, ◌++◌, Option, Some, None, codes, decimal}
 use Rattle.ntx_doc.specs.Why as document
 use Rattle.ntx_syntax.specs.Why as script
+use Rattle.ntx_tfm.specs.FaultNames as font
 use Rattle.ntx_run.specs.declared.stop.StopReason.{StopReason}
 use Rattle.ntx_run.specs.declared.stop.StopReason.TheVariants as stop
 use Rattle.ntx_run.specs.declared.outcome.Outcome.{Outcome}
@@ -17,6 +18,7 @@ outcome_of stop.Words = record { status = status.Words; place = None }
 outcome_of (stop.Document fault) = record { status = status.Document; place = Some (place.Doc fault) }
 outcome_of (stop.Script fault) = record { status = status.Script; place = Some (place.Syntax fault) }
 outcome_of stop.Patterns = record { status = status.Patterns; place = None }
+outcome_of (stop.Font k fault) = record { status = status.Font; place = Some (place.FontAt k fault) }
 outcome_of (stop.Read input) = record { status = status.ReadFault; place = Some (place.Input input) }
 outcome_of stop.Write = record { status = status.WriteFault; place = None }
 outcome_of stop.Memory = record { status = status.Memory; place = None }
@@ -34,6 +36,7 @@ IsBeforeDvi status.Words = Unit {0}
 IsBeforeDvi status.Document = Unit {0}
 IsBeforeDvi status.Script = Unit {0}
 IsBeforeDvi status.Patterns = Unit {0}
+IsBeforeDvi status.Font = Unit {0}
 IsBeforeDvi status.ReadFault = Unit {0}
 IsBeforeDvi status.Done = ⊥
 IsBeforeDvi status.WriteFault = ⊥
@@ -44,6 +47,7 @@ abbrev pub which_text : Which → List ℕ
 which_text which.Document = codes "document"
 which_text which.Script = codes "script"
 which_text which.Patterns = codes "patterns"
+which_text (which.Font k) = codes "font " ++ decimal k
 
 -- a line with its line feed
 abbrev line : List ℕ → List ℕ
@@ -55,6 +59,7 @@ line_of stop.Words = line (codes "! Words")
 line_of (stop.Document fault) = line (codes "! Document line " ++ decimal fault.line ++ codes " " ++ document.why_text fault.why)
 line_of (stop.Script fault) = line (codes "! Script line " ++ decimal fault.line ++ codes " " ++ script.why_text fault.why)
 line_of stop.Patterns = line (codes "! Patterns line 0")
+line_of (stop.Font k fault) = line (codes "! Font " ++ decimal k ++ codes " " ++ font.name_of fault)
 line_of (stop.Read input) = line (codes "! ReadFault " ++ which_text input)
 line_of stop.Write = []
 line_of stop.Memory = []

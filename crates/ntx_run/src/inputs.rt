@@ -1,25 +1,41 @@
 //! Reading the inputs.
 
-ghost use Rattle.std.specs.Prelude.{◌≡◌, ◌≤◌, IfOk, [], Some, Option, List, ℕ};
+ghost use Rattle.std.specs.Prelude.{◌≡◌, ◌≤◌, IfOk, [], Some, Option, List, ℕ, map, length};
 ghost use Rattle.ntx_num.specs.Answer.{result_map};
 ghost use Rattle.ntx_doc.specs.Shape.{IsBoxOfRules};
-ghost use Rattle.ntx_run.specs.Run.{read_document, read_empty};
+ghost use Rattle.ntx_run.specs.Run.{job_of, read_document, read_empty};
+ghost use Rattle.ntx_run.specs.inner.Words.{CanBeRead};
 ghost use Rattle.ntx_run.specs.inner.Parts.{IsRefusalOf, ReadsInput, ReadsInputs};
 
+use crate::fonts::read_fonts;
 use crate::outcome::Which;
 use crate::stop::StopReason;
 use ntx_doc::{Command, DocFault, DocWhy, read_doc};
-use ntx_io::{ReadWhy, Source, read_all};
+use ntx_io::{Feed, ReadWhy, Source, read_all};
 use ntx_num::Fail;
 use ntx_syntax::{SyntaxFault, SyntaxWhy};
+use ntx_tfm::Font;
 use std::alloc::Global;
 
 /// The most bytes of a document.
 const MAX_DOCUMENT: u64 = 1 << 24;
 
-/// Reads the document.
-fn read_document<D: Source>(alloc: Global, source: &mut D) -> Result<Vec<Command>, StopReason>
-    ensures reads { ReadsInput Which.Document read_document (D.input source.old) (D.input source.new) (result_map (λ commands. commands.items) result) }
+/// What the inputs say.
+#[derive(Drop)]
+pub struct Job {
+    /// The commands of the document.
+    pub commands: Vec<Command>,
+    /// The fonts. No command names one yet.
+    pub fonts: Vec<Font>,
+}
+
+/// Reads the document, beside so many fonts.
+fn read_document<D: Source>(
+    alloc: Global,
+    source: &mut D,
+    fonts: u64,
+) -> Result<Vec<Command>, StopReason>
+    ensures reads { ReadsInput Which.Document (read_document fonts) (D.input source.old) (D.input source.new) (result_map (λ commands. commands.items) result) }
     ensures shape { IfOk result (λ commands. IsBoxOfRules commands.items) }
 {
     let bytes = match read_all(alloc, source, MAX_DOCUMENT) {
@@ -33,7 +49,7 @@ fn read_document<D: Source>(alloc: Global, source: &mut D) -> Result<Vec<Command
             }));
         }
     };
-    match read_doc(alloc, bytes.as_slice(), 0) {
+    match read_doc(alloc, bytes.as_slice(), fonts) {
         Ok(commands) => Ok(commands),
         Err(Fail::NoMemory) => Err(StopReason::Memory),
         Err(Fail::Is(fault)) => Err(StopReason::Document(fault)),
@@ -58,25 +74,29 @@ fn read_empty<S: Source>(
     }
 }
 
-/// Reads the document, the script and the patterns, in this order, up to the first that is refused.
+/// Reads the document, the script, the patterns and the fonts, in this order, up to the first that is refused.
 pub fn read_inputs<D: Source, S: Source, P: Source>(
     alloc: Global,
     document: &mut D,
     script: &mut S,
     patterns: &mut P,
-) -> Result<Vec<Command>, StopReason>
-    ensures reads { ReadsInputs
-        (record { document = D.input document.old; script = S.input script.old; patterns = P.input patterns.old })
-        (record { document = D.input document.new; script = S.input script.new; patterns = P.input patterns.new })
-        (result_map (λ commands. commands.items) result) }
-    ensures shape { IfOk result (λ commands. IsBoxOfRules commands.items) }
+    sizes: &[Option<i64>],
+    feeds: &mut [Box<dyn Feed>],
+) -> Result<Job, StopReason>
+    requires { CanBeRead sizes.now (map (λ font. font.name) (map (λ feed. named feed) feeds.old)) }
+    ensures reads { ReadsInputs sizes.now
+        (record { document = D.input document.old; script = S.input script.old; patterns = P.input patterns.old; fonts = map (λ feed. named feed) feeds.old })
+        (record { document = D.input document.new; script = S.input script.new; patterns = P.input patterns.new; fonts = map (λ feed. named feed) feeds.new })
+        (result_map (λ job. job_of job.commands.items job.fonts.items) result) }
+    ensures shape { IfOk result (λ job. IsBoxOfRules job.commands.items) }
 {
-    let commands = read_document(alloc, document)?;
+    let commands = read_document(alloc, document, feeds.len() as u64)?;
     let no_script = SyntaxFault {
         line: 0,
         why: SyntaxWhy::Size,
     };
     read_empty(alloc, script, Which::Script, StopReason::Script(no_script))?;
     read_empty(alloc, patterns, Which::Patterns, StopReason::Patterns)?;
-    Ok(commands)
+    let fonts = read_fonts(alloc, sizes, feeds)?;
+    Ok(Job { commands, fonts })
 }

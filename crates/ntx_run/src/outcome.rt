@@ -2,13 +2,14 @@
 
 use ntx_doc::DocFault;
 use ntx_syntax::SyntaxFault;
+use ntx_tfm::FontFault;
 
 /// How a run ended, with the number that is the status of the process.
 #[derive(Clone, Copy, Debug, PartialEq, Eq)]
 pub enum Status {
     /// All was read and the DVI file is whole.
     Done = 0,
-    /// The command line is not of its form, or there are fonts.
+    /// The command line is not of its form, or the number or the names of the feeds do not fit it.
     Words = 2,
     /// The document is refused, for a line of it or for more than 2^24 bytes.
     Document = 3,
@@ -16,6 +17,8 @@ pub enum Status {
     Script = 4,
     /// The patterns are refused, since they are not empty.
     Patterns = 5,
+    /// A font is refused, for a fault of its file or for more than 2^18 bytes.
+    Font = 6,
     /// A source failed.
     ReadFault = 9,
     /// A sink failed.
@@ -35,6 +38,8 @@ pub enum Which {
     Script,
     /// The hyphenation patterns.
     Patterns,
+    /// The font of this number, counted from 1.
+    Font(u64),
 }
 
 /// Where a run stopped.
@@ -44,6 +49,8 @@ pub enum Place {
     Doc(DocFault),
     /// A line of the script, and what is wrong there. A script that is not empty has line 0, and why `Size`.
     Syntax(SyntaxFault),
+    /// The number of a font, counted from 1, and what is wrong with it.
+    FontAt(u64, FontFault),
     /// The input whose source failed.
     Input(Which),
 }
@@ -53,6 +60,6 @@ pub enum Place {
 pub struct Outcome {
     /// How it ended.
     pub status: Status,
-    /// Where it stopped. The statuses `Document`, `Script` and `ReadFault` have a place, and no others.
+    /// Where it stopped. The statuses `Document`, `Script`, `Font` and `ReadFault` have a place, and no others.
     pub place: Option<Place>,
 }

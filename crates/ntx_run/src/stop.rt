@@ -1,12 +1,13 @@
 //! Why a run stops before its end.
 
 ghost use Rattle.std.specs.Prelude.{◌≡◌, IfOk, string_bytes};
-ghost use Rattle.ntx_run.specs.StopReason.{outcome_of, line_of, which_text};
+ghost use Rattle.ntx_run.specs.StopReason.{outcome_of, line_of};
 
 use crate::outcome::{Outcome, Place, Status, Which};
 use ntx_doc::DocFault;
 use ntx_num::NoMemory;
 use ntx_syntax::SyntaxFault;
+use ntx_tfm::FontFault;
 use std::alloc::Global;
 
 /// Why a run stops before its end.
@@ -20,6 +21,8 @@ pub enum StopReason {
     Script(SyntaxFault),
     /// The patterns are refused.
     Patterns,
+    /// The font of this number, counted from 1, is refused.
+    Font(u64, FontFault),
     /// The source of this input failed.
     Read(Which),
     /// A sink failed.
@@ -40,19 +43,6 @@ impl From<NoMemory> for StopReason {
     }
 }
 
-impl Which {
-    /// The name of the input, as a fault line prints it.
-    fn name(&self) -> &'static str
-        ensures { result.now ≡ which_text self.now }
-    {
-        match self {
-            Which::Document => "document",
-            Which::Script => "script",
-            Which::Patterns => "patterns",
-        }
-    }
-}
-
 impl StopReason {
     /// The status and the place of a run that stops for this reason.
     pub fn outcome(&self) -> Outcome
@@ -63,6 +53,7 @@ impl StopReason {
             StopReason::Document(fault) => (Status::Document, Some(Place::Doc(*fault))),
             StopReason::Script(fault) => (Status::Script, Some(Place::Syntax(*fault))),
             StopReason::Patterns => (Status::Patterns, None),
+            StopReason::Font(k, fault) => (Status::Font, Some(Place::FontAt(*k, *fault))),
             StopReason::Read(which) => (Status::ReadFault, Some(Place::Input(*which))),
             StopReason::Write => (Status::WriteFault, None),
             StopReason::Memory => (Status::Memory, None),
@@ -80,6 +71,7 @@ impl StopReason {
             StopReason::Document(fault) => document_line(alloc, fault)?,
             StopReason::Script(fault) => script_line(alloc, fault)?,
             StopReason::Patterns => String::from_str(alloc, "! Patterns line 0\n")?,
+            StopReason::Font(k, fault) => font_line(alloc, *k, *fault)?,
             StopReason::Read(which) => read_line(alloc, which)?,
             StopReason::Write | StopReason::Memory => String::new(alloc),
             StopReason::DviFull => String::from_str(alloc, "! DviFull\n")?,
@@ -106,10 +98,23 @@ fn script_line(alloc: Global, fault: &SyntaxFault) -> Result<String, NoMemory>
     Ok(format!(in alloc; "! Script line {line} {why}\n")?)
 }
 
+/// The fault line of a refused font.
+fn font_line(alloc: Global, k: u64, fault: FontFault) -> Result<String, NoMemory>
+    ensures { IfOk result (λ line. string_bytes line ≡ line_of (StopReason.Font k fault)) }
+{
+    let why = fault.name();
+    Ok(format!(in alloc; "! Font {k} {why}\n")?)
+}
+
 /// The fault line of a source that failed.
 fn read_line(alloc: Global, which: &Which) -> Result<String, NoMemory>
     ensures { IfOk result (λ line. string_bytes line ≡ line_of (StopReason.Read which.now)) }
 {
-    let name = which.name();
-    Ok(format!(in alloc; "! ReadFault {name}\n")?)
+    let line = match which {
+        Which::Document => String::from_str(alloc, "! ReadFault document\n")?,
+        Which::Script => String::from_str(alloc, "! ReadFault script\n")?,
+        Which::Patterns => String::from_str(alloc, "! ReadFault patterns\n")?,
+        Which::Font(k) => format!(in alloc; "! ReadFault font {k}\n")?,
+    };
+    Ok(line)
 }

@@ -1,11 +1,10 @@
-use Rattle.ntx.proofs.Paths.{no_paths, no_fit}
+use Rattle.std.proofs.Common.{rules}
+use Rattle.ntx.proofs.Feeds.{refused_with_made, some_font}
 use Rattle.ntx.proofs.typeset.Goals as goal
-
-pub returns-in-len4-clause-only : goal.returns-in-len4-clause-only
-returns-in-len4-clause-only g c = λ refused. no_fit _ _ _ (c.run.ensures.words_refused refused) c.new-fonts.ensures.items
-
-pub returns-clause-refused : goal.returns-clause-refused
-returns-clause-refused g c = λ paths. (c.run-in_default.ensures.words_first (no_paths _ _ _ paths c.new-fonts.ensures.items)).0
+use Rattle.ntx.proofs.typeset.Goals.{then-not-is_empty+else-loop-path-test, else-not-is_empty}
 
 pub returns-clause-only : goal.returns-clause-only
-returns-clause-only g c = λ refused. no_fit _ _ _ (c.run-in_default.ensures.words_refused refused) c.new-fonts.ensures.items
+returns-clause-only c = λ ended. elim c.if-not-is_empty.branch [
+  | then-not-is_empty+else-loop-path-test w ↦ some_font _ _ c.in-Ok.ensures (let is = c.is_empty.ensures in let holds = w.if-not-is_empty.true in search rules)
+  | else-not-is_empty w ↦ refused_with_made (λ v. v.items) _ _ _ _ w.feeds-is c.new-feeds.ensures.items (c.run.ensures.words_refused ended)
+]

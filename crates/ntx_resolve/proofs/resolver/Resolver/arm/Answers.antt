@@ -1,0 +1,28 @@
+use Rattle.std.proofs.Common.{◌≡◌, ◌+◌, ◌∙◌, refl, sym, ap, subst, [], ◌∷◌, length, map, None, Some, arith}
+use Rattle.ntx_syntax.specs.declared.tree.StatKind.TheVariants as stat
+use Rattle.ntx_syntax.specs.declared.tree.Block as tree-block
+use Rattle.ntx_syntax.specs.declared.tree.FunctionBody as tree-body
+use Rattle.ntx_syntax.specs.declared.tree.IfArm as tree-arm
+use Rattle.ntx_resolve.specs.declared.code.StatKind.TheVariants as code-stat
+use Rattle.ntx_resolve.specs.HasCode as code
+use Rattle.ntx_resolve.specs.Limit as limit
+use Rattle.ntx_resolve.specs.Scopes as scopes
+use Rattle.ntx_resolve.specs.inner.Closed.{IsClosed, IsArm}
+use Rattle.ntx_resolve.proofs.KindExcess as kinds
+use Rattle.ntx_resolve.proofs.Allowing.{allowed, not_allowed}
+use Rattle.ntx_resolve.proofs.Resolving.{said, ok, ok_in, stayed, err_by, last, last_here, last_err, last_err_by, no_memory_by, done}
+use Rattle.ntx_resolve.proofs.Extending.{err_here, first_err_here, longer_after, longer_from, closed, enclosed, repeated, repeated_err, locals-entered, locals-declared, room}
+use Rattle.ntx_resolve.proofs.Rolls.{arm_made}
+use Rattle.ntx_resolve.proofs.resolver.Resolver.arm.Goals as goal
+
+pub returns-in_err-condition : goal.returns-in_err-condition
+returns-in_err-condition g c = said (kinds.arm c.args.arm.now (scopes.locals c.args.state.now.scope)) (err_by _ _ c.from_residual.ensures.1 c.in_err-condition.ensures)
+
+pub leave-requires-clause-declared : goal.leave-requires-clause-declared
+leave-requires-clause-declared g c = let l = longer_after c.in_ok-block.ensures in omega (arith, l)
+
+pub returns-in_err-block : goal.returns-in_err-block
+returns-in_err-block g c = said (kinds.arm c.args.arm.now (scopes.locals c.args.state.now.scope)) (ok_in (λ s. limit.excess_of_block (tree-arm.out-IfArm c.args.arm.now).block (scopes.locals s)) c.in_ok-condition.ensures (err_here _ c.from_residual-in_err-block.ensures.1 c.in_err-block.ensures))
+
+pub returns : goal.returns
+returns g c = said (kinds.arm c.args.arm.now (scopes.locals c.args.state.now.scope)) (ok_in (λ s. limit.excess_of_block (tree-arm.out-IfArm c.args.arm.now).block (scopes.locals s)) c.in_ok-condition.ensures (last (closed _ c.in_ok-block.ensures refl _ _ c.mark-mark.ensures.names c.mark-mark.ensures.from c.leave.ensures) (λ s all block condition. arm_made c.args.arm.now condition block)))
