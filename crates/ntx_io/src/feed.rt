@@ -89,6 +89,13 @@ fn without_tfm(file: &str) -> &str
     }
 }
 
+/// The name of the font whose file has this path: the part after the last `/`, without an ending `.tfm`.
+pub fn font_name(path: &str) -> &str
+    ensures { IsFontName path.now result.now }
+{
+    without_tfm(last_part(path))
+}
+
 /// A feed over a file: a [`FileSource`], named after the file. If the file cannot be opened, every read fails: so it is written, and no clause
 /// says it.
 #[derive(Drop)]
@@ -98,8 +105,7 @@ pub struct FileFeed<F> {
 }
 
 impl<F: Read + Drop> FileFeed<F> {
-    /// A feed over the file at `path`, with no fault yet, also if the file cannot be opened. Its name is the part of the path after the last
-    /// `/`, without an ending `.tfm`.
+    /// A feed over the file at `path`, with no fault yet, also if the file cannot be opened. Its name is that of [`font_name`].
     pub fn open<R: Files<File = F>>(
         rt: &R,
         alloc: Global,
@@ -108,10 +114,8 @@ impl<F: Read + Drop> FileFeed<F> {
         ensures name { IfOk result (λ feed. IsFontName path.now (string_bytes feed.name)) }
         ensures faults { IfOk result (λ feed. feed.source.faults ≡ 0) }
     {
-        let file = last_part(path);
-        let name = without_tfm(file);
         Ok(FileFeed {
-            name: String::from_str(alloc, name)?,
+            name: String::from_str(alloc, font_name(path))?,
             source: FileSource::open(rt, path),
         })
     }
@@ -136,7 +140,7 @@ impl<F: Read + Drop> Feed for FileFeed<F> {
     }
 }
 
-/// All bytes of the feed to its end, if they are at most `limit`. What is said of [`read_all`](crate::read_all) is said of it too, and that the feed's name stays.
+/// All bytes of the feed to its end, if they are at most `limit`. It promises what [`read_all`](crate::read_all) promises, and that the feed's name stays.
 ///
 /// # Refusals
 ///

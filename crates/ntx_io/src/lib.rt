@@ -13,7 +13,7 @@ mod outside;
 mod tests;
 mod whole;
 
-pub use feed::{FileFeed, MemFeed, read_feed};
+pub use feed::{FileFeed, MemFeed, font_name, read_feed};
 pub use file::{FileSink, FileSource, StdoutSink};
 pub use memory::{MemSink, MemSource, NullSink};
 pub use outside::{Failed, Feed, Sink, Source};
