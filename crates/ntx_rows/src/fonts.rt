@@ -1,6 +1,7 @@
 //! Runs with fonts.
 
 use crate::job::{BOX, BOX_FILE, FILES, FontFile, Given, Job, of_document};
+use ntx_patterns::PatternFault;
 use ntx_run::{Place, Status, Which};
 use ntx_tfm::FontFault;
 use std::alloc::{AllocError, Global};
@@ -151,6 +152,10 @@ fn fonts_are_read_in_order_after_the_patterns(rt: HostRuntime) -> Result<(), Fai
     assert_eq!(rt;
         patterns.lines.as_slice(),
         b"! Patterns line 0\n".as_slice()
+    );
+    assert_eq!(rt;
+        patterns.outcome.place,
+        Some(Place::Pattern(PatternFault { line: 0 }))
     );
     Ok(())
 }

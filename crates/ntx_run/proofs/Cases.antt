@@ -44,7 +44,7 @@ input_refusal which.Script why refusal = subst IsInputRefusal (sym refusal.1) (r
   no_words = λ e. (cc);
   no_read = λ e. (cc);
 })
-input_refusal which.Patterns why refusal = subst IsInputRefusal (sym refusal) (record {
+input_refusal which.Patterns why refusal = subst IsInputRefusal (sym refusal.1) (record {
   apart = record { no_done = λ e. (cc); no_write = λ e. (cc); no_memory = λ e. (cc) };
   no_words = λ e. (cc);
   no_read = λ e. (cc);
@@ -140,7 +140,7 @@ module _ (words : List (List ℕ)) (before after : Outside) where
   refusal_reports which.Script why outcome refusal reports =
       subst (λ w. WritesLine w before.lines after.lines outcome) (sym refusal.1) (subst (λ w. Reports w before.lines after.lines outcome) refusal.1 reports)
   refusal_reports which.Patterns why outcome refusal reports =
-      subst (λ w. WritesLine w before.lines after.lines outcome) (sym refusal) (subst (λ w. Reports w before.lines after.lines outcome) refusal reports)
+      subst (λ w. WritesLine w before.lines after.lines outcome) (sym refusal.1) (subst (λ w. Reports w before.lines after.lines outcome) refusal.1 reports)
   refusal_reports (which.Font k) why outcome refusal reports =
       subst (λ w. WritesLine w before.lines after.lines outcome) (sym refusal.1) (subst (λ w. Reports w before.lines after.lines outcome) refusal.1 reports)
 

@@ -47,7 +47,7 @@ has_line stop.Memory apart = absurd (apart.no_memory refl)
 has_line stop.Words apart = λ e. (cc)
 has_line (stop.Document fault) apart = λ e. (cc)
 has_line (stop.Script fault) apart = λ e. (cc)
-has_line stop.Patterns apart = λ e. (cc)
+has_line (stop.Patterns fault) apart = λ e. (cc)
 has_line (stop.Font k fault) apart = λ e. (cc)
 has_line (stop.Read input) apart = λ e. (cc)
 has_line stop.DviFull apart = λ e. (cc)
@@ -59,7 +59,7 @@ module _ (words : List (List ℕ)) (before after : Outside) where
   prints_why stop.Words outcome line = record { adds = line.adds; kept = line.kept }
   prints_why (stop.Document fault) outcome line = record { adds = line.adds; kept = line.kept }
   prints_why (stop.Script fault) outcome line = record { adds = line.adds; kept = line.kept }
-  prints_why stop.Patterns outcome line = record { adds = line.adds; kept = line.kept }
+  prints_why (stop.Patterns fault) outcome line = record { adds = line.adds; kept = line.kept }
   prints_why (stop.Font k fault) outcome line = record { adds = line.adds; kept = line.kept }
   prints_why (stop.Read input) outcome line = record { adds = line.adds; kept = line.kept }
   prints_why stop.DviFull outcome line = record { printed = []; is_printed = refl; adds = line.adds; kept = line.kept }

@@ -162,7 +162,7 @@ abbrev pub PrintsWhy : StopReason → Output → Output → Type 0
 PrintsWhy stop.Words before after = PrintsAlone (line_of stop.Words) before after
 PrintsWhy (stop.Document fault) before after = PrintsAlone (line_of (stop.Document fault)) before after
 PrintsWhy (stop.Script fault) before after = PrintsAlone (line_of (stop.Script fault)) before after
-PrintsWhy stop.Patterns before after = PrintsAlone (line_of stop.Patterns) before after
+PrintsWhy (stop.Patterns fault) before after = PrintsAlone (line_of (stop.Patterns fault)) before after
 PrintsWhy (stop.Font k fault) before after = PrintsAlone (line_of (stop.Font k fault)) before after
 PrintsWhy (stop.Read input) before after = PrintsAlone (line_of (stop.Read input)) before after
 PrintsWhy stop.Write before after = Unit {0}
@@ -241,7 +241,7 @@ BreaksOff words before after =
 
 -- What a run does, and how it ends.
 pub record Runs (words : List (List ℕ)) (before after : Outside) (ended : Status) (at : Option Place) : Type 0 where
-  -- If the sources expose their bytes and no count of faults rose, the run ends as defined, unless memory ran out.
+  -- If the sources and feeds expose their bytes and no count of faults rose, the run ends as defined, unless memory ran out.
   pub ends : (bytes : InputBytes) → Exposes before.inputs bytes → NoneRose (counts before) (counts after) → ended ≢ status.Memory → EndsAs (run_of words bytes) before after ended at
   -- If it ended well and the sources expose their bytes, all was read and all was written.
   pub whole : (bytes : InputBytes) → Exposes before.inputs bytes → ended ≡ status.Done → IsWhole words bytes (run_of words bytes) before after ended at

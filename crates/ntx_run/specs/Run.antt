@@ -98,7 +98,7 @@ abbrev pub read_script : List ℕ → Result (Unit {0}) StopReason
 read_script bytes = read_empty (stop.Script (record { line = 0; why = syntax_why.Size })) bytes
 
 abbrev pub read_patterns : List ℕ → Result (Unit {0}) StopReason
-read_patterns bytes = read_empty stop.Patterns bytes
+read_patterns bytes = read_empty (stop.Patterns (record { line = 0 })) bytes
 
 -- the most bytes of a font
 abbrev pub max_font : ℕ

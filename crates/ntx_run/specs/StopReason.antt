@@ -17,7 +17,7 @@ abbrev pub outcome_of : StopReason → Outcome
 outcome_of stop.Words = record { status = status.Words; place = None }
 outcome_of (stop.Document fault) = record { status = status.Document; place = Some (place.Doc fault) }
 outcome_of (stop.Script fault) = record { status = status.Script; place = Some (place.Syntax fault) }
-outcome_of stop.Patterns = record { status = status.Patterns; place = None }
+outcome_of (stop.Patterns fault) = record { status = status.Patterns; place = Some (place.Pattern fault) }
 outcome_of (stop.Font k fault) = record { status = status.Font; place = Some (place.FontAt k fault) }
 outcome_of (stop.Read input) = record { status = status.ReadFault; place = Some (place.Input input) }
 outcome_of stop.Write = record { status = status.WriteFault; place = None }
@@ -58,7 +58,7 @@ abbrev pub line_of : StopReason → List ℕ
 line_of stop.Words = line (codes "! Words")
 line_of (stop.Document fault) = line (codes "! Document line " ++ decimal fault.line ++ codes " " ++ document.why_text fault.why)
 line_of (stop.Script fault) = line (codes "! Script line " ++ decimal fault.line ++ codes " " ++ script.why_text fault.why)
-line_of stop.Patterns = line (codes "! Patterns line 0")
+line_of (stop.Patterns fault) = line (codes "! Patterns line " ++ decimal fault.line)
 line_of (stop.Font k fault) = line (codes "! Font " ++ decimal k ++ codes " " ++ font.name_of fault)
 line_of (stop.Read input) = line (codes "! ReadFault " ++ which_text input)
 line_of stop.Write = []

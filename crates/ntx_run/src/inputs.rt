@@ -13,6 +13,7 @@ use crate::stop::StopReason;
 use ntx_doc::{Command, DocFault, DocWhy, read_doc};
 use ntx_io::{Feed, ReadWhy, Source, read_all};
 use ntx_num::Fail;
+use ntx_patterns::PatternFault;
 use ntx_syntax::{SyntaxFault, SyntaxWhy};
 use ntx_tfm::Font;
 use std::alloc::Global;
@@ -96,7 +97,13 @@ pub fn read_inputs<D: Source, S: Source, P: Source>(
         why: SyntaxWhy::Size,
     };
     read_empty(alloc, script, Which::Script, StopReason::Script(no_script))?;
-    read_empty(alloc, patterns, Which::Patterns, StopReason::Patterns)?;
+    let no_patterns = PatternFault { line: 0 };
+    read_empty(
+        alloc,
+        patterns,
+        Which::Patterns,
+        StopReason::Patterns(no_patterns),
+    )?;
     let fonts = read_fonts(alloc, sizes, feeds)?;
     Ok(Job { commands, fonts })
 }

@@ -1,6 +1,7 @@
 //! How a run ends.
 
 use ntx_doc::DocFault;
+use ntx_patterns::PatternFault;
 use ntx_syntax::SyntaxFault;
 use ntx_tfm::FontFault;
 
@@ -19,7 +20,7 @@ pub enum Status {
     Patterns = 5,
     /// A font is refused, for a fault of its file or for more than 2^18 bytes.
     Font = 6,
-    /// A source failed.
+    /// A source or a feed failed.
     ReadFault = 9,
     /// A sink failed.
     WriteFault = 10,
@@ -49,6 +50,8 @@ pub enum Place {
     Doc(DocFault),
     /// A line of the script, and what is wrong there. A script that is not empty has line 0, and why `Size`.
     Syntax(SyntaxFault),
+    /// A line of the patterns. Patterns that are not empty have line 0.
+    Pattern(PatternFault),
     /// The number of a font, counted from 1, and what is wrong with it.
     FontAt(u64, FontFault),
     /// The input whose source failed.
@@ -60,6 +63,6 @@ pub enum Place {
 pub struct Outcome {
     /// How it ended.
     pub status: Status,
-    /// Where it stopped. The statuses `Document`, `Script`, `Font` and `ReadFault` have a place, and no others.
+    /// Where it stopped. The statuses `Document`, `Script`, `Patterns`, `Font` and `ReadFault` have a place, and no others.
     pub place: Option<Place>,
 }

@@ -72,18 +72,19 @@ fn run_over_feeds<D: Source, S: Source, P: Source, O: Sink, L: Sink>(
 ///
 /// # Refusals
 ///
-/// - `Words`: [`read_words`](ntx_words::read_words) refuses the words, there are not as many feeds as FONT words, or a feed's name has not
-///   1 to 255 bytes, each from 33 to 126;
+/// - `Words`: [`read_words`](ntx_words::read_words) refuses the words, there are not as many feeds as FONT words, or a feed's name does not
+///   have 1 to 255 bytes, each from 33 to 126;
 /// - `Document`: the document has more than 2^24 bytes, with line 0 and `Size`, or `read_doc` refuses it, with its fault;
 /// - `Script`: the script is not empty, with line 0 and `Size`;
-/// - `Patterns`: the patterns are not empty;
+/// - `Patterns`: the patterns are not empty, with line 0;
 /// - `Font`: a font has more than 2^18 bytes, with `TooLarge`, or [`read_font`](ntx_tfm::read_font) refuses it, with its fault; the place has
 ///   the font's number, counted from 1;
 /// - `DviFull`: the DVI file would be longer than 2^31-1 bytes.
 ///
-/// That just these are refused is said of the words always, and of the others if the sources and feeds expose their bytes and no count of
-/// faults rose. `ReadFault` is a source or feed that failed, `WriteFault` a sink that failed and did not take all that is defined, and
-/// `Memory` running out of memory; of these three the last two may stand for any refusal, and the first for any but that of the words.
+/// That exactly these are refused is promised of the words always, and of the others if the sources and feeds expose their bytes and no
+/// count of faults rose. `ReadFault` is a source or feed that failed, `WriteFault` a sink that failed and did not take all that is defined,
+/// and `Memory` running out of memory. Any refusal may be replaced by `WriteFault` or `Memory`. Any but that of the words may be replaced by
+/// `ReadFault`.
 pub fn run<D: Source, S: Source, P: Source, O: Sink, L: Sink>(
     alloc: Global,
     words: &[String],

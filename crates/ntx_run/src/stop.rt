@@ -6,6 +6,7 @@ ghost use Rattle.ntx_run.specs.StopReason.{outcome_of, line_of};
 use crate::outcome::{Outcome, Place, Status, Which};
 use ntx_doc::DocFault;
 use ntx_num::NoMemory;
+use ntx_patterns::PatternFault;
 use ntx_syntax::SyntaxFault;
 use ntx_tfm::FontFault;
 use std::alloc::Global;
@@ -13,17 +14,17 @@ use std::alloc::Global;
 /// Why a run stops before its end.
 #[derive(Clone, Copy, Debug, PartialEq, Eq)]
 pub enum StopReason {
-    /// The command line is not of its form.
+    /// The command line is not of its form, or the number or the names of the feeds do not fit it.
     Words,
     /// The document is refused.
     Document(DocFault),
     /// The script is refused.
     Script(SyntaxFault),
     /// The patterns are refused.
-    Patterns,
+    Patterns(PatternFault),
     /// The font of this number, counted from 1, is refused.
     Font(u64, FontFault),
-    /// The source of this input failed.
+    /// The source or feed of this input failed.
     Read(Which),
     /// A sink failed.
     Write,
@@ -52,7 +53,7 @@ impl StopReason {
             StopReason::Words => (Status::Words, None),
             StopReason::Document(fault) => (Status::Document, Some(Place::Doc(*fault))),
             StopReason::Script(fault) => (Status::Script, Some(Place::Syntax(*fault))),
-            StopReason::Patterns => (Status::Patterns, None),
+            StopReason::Patterns(fault) => (Status::Patterns, Some(Place::Pattern(*fault))),
             StopReason::Font(k, fault) => (Status::Font, Some(Place::FontAt(*k, *fault))),
             StopReason::Read(which) => (Status::ReadFault, Some(Place::Input(*which))),
             StopReason::Write => (Status::WriteFault, None),
@@ -70,7 +71,7 @@ impl StopReason {
             StopReason::Words => String::from_str(alloc, "! Words\n")?,
             StopReason::Document(fault) => document_line(alloc, fault)?,
             StopReason::Script(fault) => script_line(alloc, fault)?,
-            StopReason::Patterns => String::from_str(alloc, "! Patterns line 0\n")?,
+            StopReason::Patterns(fault) => patterns_line(alloc, fault)?,
             StopReason::Font(k, fault) => font_line(alloc, *k, *fault)?,
             StopReason::Read(which) => read_line(alloc, which)?,
             StopReason::Write | StopReason::Memory => String::new(alloc),
@@ -96,6 +97,14 @@ fn script_line(alloc: Global, fault: &SyntaxFault) -> Result<String, NoMemory>
     let line = fault.line;
     let why = fault.why.name();
     Ok(format!(in alloc; "! Script line {line} {why}\n")?)
+}
+
+/// The fault line of refused patterns.
+fn patterns_line(alloc: Global, fault: &PatternFault) -> Result<String, NoMemory>
+    ensures { IfOk result (λ line. string_bytes line ≡ line_of (StopReason.Patterns fault.now)) }
+{
+    let line = fault.line;
+    Ok(format!(in alloc; "! Patterns line {line}\n")?)
 }
 
 /// The fault line of a refused font.

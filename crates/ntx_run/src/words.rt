@@ -27,8 +27,8 @@ fn are_visible(bytes: &[u8]) -> bool
     bytes.iter().all(|byte| is_visible(*byte))
 }
 
-/// Whether a feed may have this name.
-fn is_feed_name(name: &str) -> bool
+/// Whether a feed may have this name: 1 to 255 bytes, each a printed character of ASCII other than the space.
+pub fn is_feed_name(name: &str) -> bool
     ensures { result ≡ is_feed_name name.now }
 {
     let length = name.len();

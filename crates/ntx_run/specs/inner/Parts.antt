@@ -8,6 +8,7 @@ use Rattle.ntx_dvi.specs.declared.full.DviFull.{DviFull}
 use Rattle.ntx_dvi.specs.Writer.{Writer}
 use Rattle.ntx_doc.specs.declared.command.Command.{Command}
 use Rattle.ntx_doc.specs.declared.fault.DocFault.{DocFault}
+use Rattle.ntx_patterns.specs.declared.fault.PatternFault.{PatternFault}
 use Rattle.ntx_syntax.specs.declared.fault.SyntaxFault.{SyntaxFault}
 use Rattle.ntx_tfm.specs.Font.{FontTables}
 use Rattle.ntx_tfm.specs.declared.fault.FontFault.{FontFault}
@@ -26,7 +27,7 @@ use Rattle.ntx_run.specs.Outside.{Inputs}
 abbrev pub IsRefusalOf : Which → StopReason → Type 0
 IsRefusalOf which.Document why = (fault : DocFault) × (why ≡ stop.Document fault)
 IsRefusalOf which.Script why = (fault : SyntaxFault) × (why ≡ stop.Script fault)
-IsRefusalOf which.Patterns why = why ≡ stop.Patterns
+IsRefusalOf which.Patterns why = (fault : PatternFault) × (why ≡ stop.Patterns fault)
 IsRefusalOf (which.Font k) why = (fault : FontFault) × (why ≡ stop.Font k fault)
 
 -- An input that is refused, if it exposes its bytes as this function refuses them.
@@ -138,7 +139,7 @@ Reports stop.Memory before after outcome = HasNoLine stop.Memory before after ou
 Reports stop.Words before after outcome = WritesLine stop.Words before after outcome
 Reports (stop.Document fault) before after outcome = WritesLine (stop.Document fault) before after outcome
 Reports (stop.Script fault) before after outcome = WritesLine (stop.Script fault) before after outcome
-Reports stop.Patterns before after outcome = WritesLine stop.Patterns before after outcome
+Reports (stop.Patterns fault) before after outcome = WritesLine (stop.Patterns fault) before after outcome
 Reports (stop.Font k fault) before after outcome = WritesLine (stop.Font k fault) before after outcome
 Reports (stop.Read input) before after outcome = WritesLine (stop.Read input) before after outcome
 Reports stop.DviFull before after outcome = WritesLine stop.DviFull before after outcome
