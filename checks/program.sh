@@ -129,9 +129,11 @@ ends 'a font that is refused' 6 '! Font 2 Short\n' document script patterns dvi 
 has 'a font that is refused' dvi ''
 ends 'no font' 9 '! ReadFault font 1\n' document script patterns dvi U.tfm
 cp T.tfm 'T U.tfm'
-ends 'a font whose name has a space' 2 '! Words\n' document script patterns dvi 'T U.tfm'
+printf 'x' >dvi
+ends 'a font whose name has a space' 2 '! Words\n' document script patterns dvi T.tfm 'T U.tfm'
 ends 'a font without a name' 2 '! Words\n' document script patterns dvi .tfm
 ends 'a font without a path' 2 '! Words\n' document script patterns dvi @5
+has 'fonts whose names are refused' dvi 78
 cd ..
 
 # ---- words

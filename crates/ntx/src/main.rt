@@ -18,9 +18,11 @@ ghost use Rattle.ntx.specs.Fonts.{names_no_font};
 #[cfg(test)]
 mod tests;
 
-use ntx_io::{Feed, FileFeed, FileSink, FileSource, MemSource, NullSink, Sink, StdoutSink};
+use ntx_io::{
+    Feed, FileFeed, FileSink, FileSource, MemSource, NullSink, Sink, StdoutSink, font_name,
+};
 use ntx_num::{Fail, NoMemory};
-use ntx_run::{Outcome, Status, run};
+use ntx_run::{Outcome, Status, is_feed_name, run};
 use ntx_words::read_words;
 use std::alloc::Global;
 use std::io::{self, ErrorKind};
@@ -90,8 +92,15 @@ fn ended(status: Status) -> Outcome
     }
 }
 
-/// Typesets the document that the words name. If they name none, no file is opened. If the standard descriptors cannot be taken, no
-/// document is typeset, and the status is that of a write fault.
+/// Whether the fonts of these files can be named after them.
+fn are_named(paths: &[String]) -> bool {
+    paths
+        .iter()
+        .all(|path| is_feed_name(font_name(path.as_str())))
+}
+
+/// Typesets the document that the words name. If they name none, or a font whose name no feed may have, no file is opened. If the
+/// standard descriptors cannot be taken, no document is typeset, and the status is that of a write fault.
 fn typeset(rt: &HostRuntime, words: &[String]) -> Outcome
     ensures refused { IsErr (command_line (map string_bytes words.now)) →
         (result.status ≡ Status.Words) ⊎ ((result.status ≡ Status.WriteFault) ⊎ (result.status ≡ Status.Memory)) }
@@ -107,6 +116,9 @@ fn typeset(rt: &HostRuntime, words: &[String]) -> Outcome
     let [doc, script, patterns, dvi, fonts @ ..] = line.paths.as_slice() else {
         return refuse(alloc, words, &mut lines);
     };
+    if !are_named(fonts) {
+        return refuse(alloc, words, &mut lines);
+    }
     let Ok(_standard) = Standard::taken(rt) else {
         return ended(Status::WriteFault);
     };
