@@ -1,8 +1,8 @@
--- What code a script has (Lua 5.3 Reference Manual, section 3.5): the code is the tree, but that each use of a name says which variable it is, and that each
--- body of a function is the number of a function of the code.
+-- What code a script has (Lua 5.3 Reference Manual, section 3.5): the code is the tree, except that each use of a name says which variable it is, and each body
+-- of a function is the number of a function of the code.
 --     HasCode chunk code     the script has this code
--- The rules below read `IsExp functions scope e c`: in this scope the expression has this code. A block, and what stands among the statements of one, leaves
--- the scope for what follows.
+-- The rules below read `IsExp functions scope e c`: in this scope the expression has this code. `IsBlock` and `IsStats` also say the scope at their end, and
+-- `IsKind` the scope in which the next statement stands.
 --     the scope of a local variable begins after its `local` statement, so `local x = x` gives the value of an older x
 --     a `local function` is in scope in its own body
 --     the condition of a `repeat` is in the scope of its block's names

@@ -1,7 +1,7 @@
--- Where a script has more local variables than it may (Lua 5.3 Reference Manual, section 3.5, has the scopes; the number is that of PUC-Lua 5.3).
+-- Where a function of a script has more named local variables than it may (Lua 5.3 Reference Manual, section 3.5, has the scopes; the number is that of PUC-Lua 5.3).
 -- A function may have 200 named local variables in scope at once. Its parameters are among them, and so are those that a later one of the same name hides; what a
--- loop keeps without a name is not. The names of a `local`, of a `local function` and of a loop stand before what belongs to them, so in the order of the
--- text they come first.
+-- loop keeps without a name is not. The names of a `local`, of a `local function` and of a loop stand before the values and the body of the statement,
+-- so they come first in the order of the text.
 --     excess_of_chunk chunk      the line of the first name of the script that is one too many
 --     excess_of_block, ...       the same of its parts; where they can declare a name of their own, with this many local variables in scope
 use Rattle.std.specs.Prelude.{ℕ, ◌+◌, nat_lt, List, [], ◌∷◌, map, length, Option, None, Some, if◌then◌else◌}
@@ -46,18 +46,18 @@ abbrev pub in_else : Option (ℕ → Option ℕ) → ℕ → Option ℕ
 in_else None n = None
 in_else (Some o) n = o n
 
--- The first of these names that is one too many, if this many are in scope already.
+-- The line of the first of these names that is one too many, if this many are in scope already.
 abbrev pub excess_of_names : ℕ → List LocalName → Option ℕ
 excess_of_names n [] = None
 excess_of_names n (name ∷ names) = if nat_lt n max_locals then excess_of_names (n + 1) names else Some name.line
 
 -- ---- the parts of a script
 
--- an expression, and what cannot declare a name but in a function
+-- an expression, or another part that declares names only inside a function
 abbrev pub Inner : Type 0
 Inner = Option ℕ
 
--- a block, with so many local variables in scope
+-- a block, from the number of local variables of its function in scope where it begins
 abbrev pub Outer : Type 0
 Outer = ℕ → Option ℕ
 

@@ -15,7 +15,7 @@ pub record Scope : Type 0 where
   pub names : List (List ℕ)
   pub from : ℕ
 
--- This place has the last of the names that is this one.
+-- The name stands at this place, and at no later one.
 pub record IsLast (name : List ℕ) (names : List (List ℕ)) (place : ℕ) : Type 0 where
   pub is : slice_get names place ≡ Some name
   pub last : (later : ℕ) → place < later → slice_get names later ≢ Some name

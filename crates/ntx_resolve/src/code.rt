@@ -21,7 +21,8 @@ pub enum Variable {
 /// The code of a whole script.
 #[derive(Drop)]
 pub struct Code {
-    /// The functions of the script, each by its number.
+    /// Functions by number: the code of a body stands at the number that the code has in its place. Nothing else in the list is
+    /// ever used.
     pub functions: Items<Function>,
     /// What the script does.
     pub block: Block,

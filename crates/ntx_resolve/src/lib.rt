@@ -2,7 +2,7 @@
 //!
 //! `specs/Scopes.antt` says which variable a name is, by Lua's rules of scope (Lua 5.3 Reference Manual, section 3.5).
 //! `specs/HasCode.antt` says what code a script has: its tree, in which each use of a name says which variable it is.
-//! `specs/Limit.antt` says where a function has more local variables than it may. [`Scope`] keeps the names in scope.
+//! `specs/Limit.antt` says where a function has more local variables than it may.
 //!
 //! The crate stands on `ntx_syntax` for faults and the types of trees, on `ntx_num` for answers, and on `sqlite_items` for the
 //! lists and boxes in trees.
@@ -27,10 +27,7 @@ pub use code::{
     Block, Call, Code, Exp, Field, Function, Head, IfArm, Operation, Prefix, Return, Stat,
     StatKind, Suffix, Var, Variable,
 };
-pub use resolver::Resolver;
-pub use scope::{Mark, Scope};
 pub use script::resolve;
-pub use state::State;
 
 #[cfg(test)]
 mod tests;

@@ -1,4 +1,4 @@
-//! What resolves expressions and statements takes the resolver of blocks as a parameter, so that each is by itself.
+//! The methods that resolve expressions and statements take the resolver of blocks as a parameter, so that each is proved by itself.
 
 ghost use Rattle.std.specs.Prelude.{◌≡◌, ◌<◌};
 ghost use Rattle.ntx_syntax.specs.declared.tree.Block.{size-Block};

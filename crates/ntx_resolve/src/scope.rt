@@ -89,7 +89,7 @@ impl Scope {
         self.from = self.names.len();
     }
 
-    /// Goes back to a mark: names declared since are no longer in scope.
+    /// Goes back to a mark: names declared since are no longer in scope. The mark counts no more names than are in scope.
     pub fn leave(&mut self, mark: Mark)
         requires within { mark.from ≤ mark.names }
         requires declared { mark.names ≤ length self.old.names }
@@ -137,7 +137,7 @@ impl Scope {
         self.names[place].as_slice() == name
     }
 
-    /// Declares these names.
+    /// Declares these names. If memory runs out, nothing is promised of the scope.
     pub fn declare(&mut self, alloc: Global, names: &[LocalName]) -> Result<(), AllocError>
         ensures { OnOk result (self.new ≡ scopes.declare self.old names.now) }
     {
@@ -147,7 +147,7 @@ impl Scope {
         Ok(())
     }
 
-    /// Declares this name.
+    /// Declares this name. If memory runs out, nothing is promised of the scope.
     pub fn declare_one(&mut self, alloc: Global, local: &LocalName) -> Result<(), AllocError>
         ensures { OnOk result (self.new ≡ scopes.declare self.old (local.now ∷ [])) }
     {

@@ -39,7 +39,7 @@ fn block_of(
 /// # Refusals
 ///
 /// Locals, with the line of the name, at the first name in the order of the text that would be the 201st named local variable
-/// of its function in scope.
+/// of its function in scope. Parameters count, and so does a name that a later one hides. What a loop keeps without a name does not.
 pub fn resolve(alloc: Global, chunk: &Chunk) -> Result<Code, Fail<SyntaxFault>>
     ensures { Resolved chunk.now result }
 {

@@ -1,5 +1,5 @@
--- What a look at the limit says.
---     Allows excess result     nothing is refused if there is no name too many; else its fault
+-- What the test of the limit answers: Ok if no name is one too many, and otherwise the fault of the first that is.
+--     Allows excess result
 use Rattle.std.specs.Prelude.{◌≡◌, ℕ, Option, None, Some, Result, Ok, Err}
 use Rattle.ntx_num.specs.declared.answer.Fail.{Fail}
 use Rattle.ntx_num.specs.declared.answer.Fail.TheVariants.{NoMemory, Is}

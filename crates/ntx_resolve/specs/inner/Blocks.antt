@@ -1,4 +1,4 @@
--- What resolves blocks, as it is asked of what is given.
+-- What a resolver of blocks that is handed in has to keep to.
 use Rattle.std.specs.Prelude.{◌<◌, ℕ, Result}
 use Rattle.std.specs.declared.alloc.Global.{Global}
 use denote.Ref.{MutBor, Bor}
