@@ -33,7 +33,7 @@ on_store step state = result_map (λ after. (after.0, (after.1, state.1))) (step
 abbrev pub gives : (StoreState → Result (List Value) LuaWhy) → StoreState → Result (List Value × StoreState) LuaWhy
 gives answer store = result_map (λ values. (values, store)) (answer store)
 
--- the text with these bytes, which is made where it was not
+-- the text with these bytes, which is made if it is new
 abbrev pub gives_text : (StoreState → Result (List ℕ) LuaWhy) → StoreState → Result (List Value × StoreState) LuaWhy
 gives_text answer store = do
   bytes ← answer store
@@ -65,8 +65,8 @@ called MathAbs args = on_store (gives (λ _. math_abs args))
 called MathMax args = on_store (gives (λ _. math_max args))
 called MathMin args = on_store (gives (λ _. math_min args))
 
--- The call gives the values and the state that are stated, or makes the refusal and changes nothing. Where memory ran out nothing more
--- was printed, and the store is one in which old texts, tables and functions stay valid.
+-- The call gives the values and the state that are stated, or makes the refusal and changes nothing. If memory ran out, nothing more
+-- was printed; old texts, tables and functions stay valid and texts keep their bytes, but what tables hold may have changed.
 abbrev pub Calls : Result (List Value) (Fail LuaWhy) → LibState → LibState → Result (List Value × LibState) LuaWhy → Type 0
 Calls (Ok values) old new step = step ≡ Ok (values, new)
 Calls (Err (Is why)) old new step = (step ≡ Err why) × (new ≡ old)

@@ -1,6 +1,6 @@
 -- Lists in tables: what a table holds at 1 to its border (Lua 5.3 Reference Manual, section 6.6). Where this differs from the manual:
 -- the border is the least one; `table.insert` takes any number of arguments, appends with at most two and drops those after the third;
--- `table.remove` takes no place 0 and leaves what is there, and gives nil for an empty list; `table.concat` joins the whole list.
+-- `table.remove` refuses place 0; without a place, an empty list gives nil, and what stands at 0 stays; `table.concat` joins the whole list.
 --     insert_at, remove_at     a table with a value put in, or taken out, at a place
 --     elements entries         what it holds from 1 to its border
 --     table_insert, table_remove, table_concat
@@ -85,7 +85,7 @@ abbrev pub table_insert : List Value → StoreState → Result (List Value × St
 table_insert args store =
     table_of (argument args 0) >>= λ t. result_map (λ entries. ([], with_table store t entries)) (inserted (state.table_of store t) args)
 
--- The place at which a value is taken out: the border if it is nil, which is 0 where there is nothing at 1.
+-- The place at which a value is taken out. If the argument is nil, it is the border, which is 0 if there is nothing at 1.
 abbrev pub removal_place : Entries → Value → Result ℕ LuaWhy
 removal_place entries Nil = Ok (border_of entries)
 removal_place entries place = integer_of place >>= place_in entries

@@ -1,5 +1,6 @@
--- Printed bytes (Lua 5.3 Reference Manual, section 6.1, `print`).
---     PrintedState         the bytes that were printed
+-- Printed bytes (Lua 5.3 Reference Manual, section 6.1, `print`). Where this differs from the manual: `print` never calls a global
+-- `tostring`; it shows each value by `shown`.
+--     PrintedState         the bytes that wait to be taken, and how many were printed in all
 --     print_step bytes out     what is there after more were printed, or the refusal
 use Rattle.std.specs.Prelude.{ℕ, ◌+◌, ◌≤◌, ◌^◌, nat_le, if◌then◌else◌, List, [], ◌∷◌, ◌++◌, map, length, Result, Ok, Err}
 use Rattle.ntx_values.specs.State.{StoreState}

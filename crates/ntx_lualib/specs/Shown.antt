@@ -1,5 +1,5 @@
 -- Values as texts (Lua 5.3 Reference Manual, section 6.1, `tostring` and `type`). Tables and functions have no address here, and a
--- node has its name.
+-- node has its name. Where this differs from the manual: a missing argument of `tostring` and `type` is nil, and no error.
 --     shown store v        the bytes that `tostring` gives
 --     type_name v          the bytes that `type` gives
 --     joined between parts     parts with a text between each two

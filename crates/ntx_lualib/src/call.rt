@@ -26,9 +26,11 @@ use std::alloc::Global;
 ///
 /// # Refusals
 ///
-/// The sort and the value of each argument are tested from the left, with BadArgument. Then come TextsFull, if the text that is
-/// the value does not fit the store, TablesFull, if `table.insert` would make a 65537th key, and PrintFull, if `print` would pass
-/// 2^24 bytes in all. A refusal changes nothing. If memory runs out, nothing more was printed, but a list may be moved in part.
+/// BadArgument if an argument, an element of `table.concat` or a `%` of `string.format` is not one that the function takes; the
+/// first from the left decides. After that, TextsFull if the text that is the value is new and has more than 2^20 bytes, or all
+/// texts would have more than 2^24; TablesFull if `table.insert` would make a 65537th key of the table; PrintFull if `print`
+/// would pass 2^24 bytes in all. A refusal changes nothing. If memory runs out, nothing more was printed, but what tables hold may
+/// have changed.
 pub fn call_lib(
     alloc: Global,
     store: &mut Store,

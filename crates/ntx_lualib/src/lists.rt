@@ -101,7 +101,7 @@ fn place_at(store: &Store, table: TableId, args: &[Value]) -> Result<usize, Fail
     Ok(p as usize)
 }
 
-/// Puts the last argument in, at the end or at a place.
+/// Puts a value in: the second argument at the end, or with more than two arguments the third at a place.
 fn insert(store: &mut Store, table: TableId, args: &[Value]) -> Result<(), Fail<LuaWhy>>
     requires table { IsOf store.old (Value.Table table) }
     requires of { AreOf store.old args.now }

@@ -43,7 +43,7 @@ impl Printed {
         })
     }
 
-    /// The bytes that were printed and not yet taken. They are taken by this. It takes no memory.
+    /// Takes the bytes that were printed and not yet taken. No bytes wait after it, and the count of all stays. It takes no memory.
     pub fn take(&mut self) -> Vec<u8>
         ensures bytes { result.items ≡ self.old.waiting }
         ensures after { self.new ≡ record self.old { waiting = [] } }
