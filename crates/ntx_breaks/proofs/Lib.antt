@@ -6,3 +6,6 @@ pub mod SearchLemmas
 pub mod PlaceLemmas
 pub mod ChainLemmas
 pub mod PassLemmas
+pub mod FinalLemmas
+pub mod EndLemmas
+pub mod LawLemmas

@@ -54,7 +54,7 @@ push_is : (P : State → Type 0) → IsNumberFree P → (most : ℤ) (states : L
 push_is P free most states None h = nothing_more P states
 push_is P free most states (Some s) h = push_if P (int_le s.total most) states (record s { number = length states }) (free s (length states) h)
 
-class_is : (P : State → Type 0) → IsNumberFree P → (most : ℤ) (candidates : List State) (class : ℕ) (states : List State) → All P candidates → Extends P states (add_class most candidates class states)
+pub class_is : (P : State → Type 0) → IsNumberFree P → (most : ℤ) (candidates : List State) (class : ℕ) (states : List State) → All P candidates → Extends P states (add_class most candidates class states)
 class_is P free most candidates class states all =
     push_is P free most states (least_of (of_class class candidates)) (least_is P (of_class class candidates) (All-filter (λ (s : State). nat_eq s.class class) P candidates all))
 

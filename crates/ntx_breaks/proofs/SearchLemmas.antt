@@ -19,7 +19,7 @@ use Rattle.ntx_breaks.proofs.FilterLemmas.{states_of_ways, alive_more}
 
 -- ---- the states before a place
 
-later : (places : List ℕ) (n j d : ℕ) → AllPairs (λ (a b : ℕ). a < b) places → n < j → j < length places → get_or places n 0 < get_or places j d
+pub later : (places : List ℕ) (n j d : ℕ) → AllPairs (λ (a b : ℕ). a < b) places → n < j → j < length places → get_or places n 0 < get_or places j d
 later places n j d h lt end =
     let inside : n < length places = omega arith in
     let e : get_or places n 0 ≡ get_or places n d = get_or_default places n 0 d inside in
@@ -41,7 +41,7 @@ rest_more places n states more h before ext =
     (All-weaker (IsMade (get_or places n 0)) (IsBeforeRest places (n + 1)) (new_rest places n h) ext.made ext.each))
 
 -- the places so far are at most the last of them
-earlier_below : (places : List ℕ) (n : ℕ) → AllPairs (λ (a b : ℕ). a < b) places → n < length places → All (λ m. m ≤ get_or places n 0) (take n places)
+pub earlier_below : (places : List ℕ) (n : ℕ) → AllPairs (λ (a b : ℕ). a < b) places → n < length places → All (λ m. m ≤ get_or places n 0) (take n places)
 earlier_below places n h lt = λ i d less.
     let size : length (take n places) ≡ n = length-take-le n places (omega arith) in
     let at : i < n = omega (arith, size, less) in

@@ -1,6 +1,6 @@
 -- What a line costs, in demerits ("TeX: The Program", section 859).
 --     hyphen_demerits params items from to       for two hyphenated lines in a row, and for a hyphenated last line but one
---     class_demerits params before class         for two lines in a row of which one is much looser than the other
+--     class_demerits params before class         for two lines in a row if one is much looser than the other
 --     line_cost params items from before to line for the line between two places that comes to these numbers, after a line of class `before`
 --     cost params items from before to extra     the same, with the numbers that the line has
 use Rattle.std.specs.Prelude.{ℕ, ◌+◌, nat_lt, ℤ, pos, ◌+ℤ◌, Bool, ◌&&◌, ◌||◌, if◌then◌else◌, List}

@@ -10,5 +10,7 @@ pub mod States
 pub mod Making
 -- the breaks that are chosen
 pub mod Chosen
+-- each paragraph has breaks
+pub mod Laws
 -- for private calls: bounds within which the numbers of states stay
 pub mod inner

@@ -3,7 +3,7 @@
 --                                       last one has its line without demerits, however bad it is
 --     candidates_at                     the states that may be made: one for each line that is wanted
 --     least_of candidates               the one with the least total, the last of equal ones
---     add_states params candidates states      for each class the least candidate, if it is not worse than the least of all by more than adjdemerits
+--     add_states params candidates states      for each class the least candidate, if it is not worse than the least of all by more than the absolute value of adjdemerits
 use Rattle.std.specs.Prelude.{ℕ, ◌-◌, nat_eq, nat_lt, ℤ, pos, ◌+ℤ◌, int_lt, int_le, unsigned_abs, Bool, ◌&&◌, not, if◌then◌else◌, Option, Some, None, List, [], ◌∷◌, ◌++◌, length, take, drop, map}
 use Rattle.std.specs.List.{filter, fold, list_all, list_any}
 use Rattle.ntx_item.specs.declared.item.Item.{Item}

@@ -1,4 +1,4 @@
--- The passes over a paragraph ("TeX: The Program", sections 863 and 864): one without hyphens, one with them, and one with emergency stretch.
+-- The passes over a paragraph ("TeX: The Program", sections 863 and 864): one without regular discretionaries, one with them, and one with emergency stretch.
 --     passes_of params                  the passes in which breaks are looked for, in order
 use Rattle.std.specs.Prelude.{ℤ, pos, int_lt, int_le, true, false, if◌then◌else◌, List, [], ◌∷◌, ◌++◌}
 use Rattle.ntx_item.specs.Settings.{Settings}

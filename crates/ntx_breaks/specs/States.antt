@@ -4,7 +4,7 @@
 --     way_to params items pass to state the line from a state to a place
 --     falls forced way                  whether the state ends with that line: the place is forced, or the line is too wide
 --     is_wanted pass way                whether the line is within the pass's threshold
---     is_alive params items pass earlier state    whether a line from the state may end after all these places: at none of them the state falls
+--     is_alive params items pass earlier state    whether a line from the state may end after all these places: none of them ends the state
 --     alive_states, ways_at
 use Rattle.std.specs.Prelude.{ℕ, nat_le, pos, int_lt, int_le, Bool, ◌||◌, not, List, map}
 use Rattle.std.specs.List.{filter, list_all}

@@ -23,15 +23,16 @@ use std::alloc::Global;
 /// Where the lines of a paragraph end.
 #[derive(Debug, PartialEq, Eq, Drop)]
 pub struct Breaks {
-    /// The places where the lines end, in ascending order; the last is the end of the paragraph.
+    /// The places where the lines end, from the first line to the last.
     pub places: Vec<u64>,
-    /// The pass that found them: 1 without hyphens, 2 with them, 3 with emergency stretch.
+    /// The pass that found them: 1 without regular discretionaries, which come from hyphenation, 2 with them, 3 with emergency
+    /// stretch.
     pub pass: u8,
     /// The demerits of all lines, without those of the lines that the artificial rule gave.
     pub demerits: i64,
     /// Whether the artificial rule gave a line in that pass, for lack of another.
     pub artificial: bool,
-    /// Whether it gave one whose badness is above the tolerance.
+    /// Whether it gave one whose badness is above the threshold of the pass, which is `tolerance`, or 10000 if that is less.
     pub last_resort: bool,
 }
 
@@ -197,9 +198,10 @@ fn first_answer(
     last_answer(alloc, items, params, totals)
 }
 
-/// The breaks of a paragraph with the least demerits ("TeX: The Program", sections 813 to 890). It refuses nothing. In order, it tries a
-/// pass without hyphens, whose lines have a badness of at most `pretolerance`, unless that is below 0; one with hyphens and `tolerance`;
-/// and one that stretches each line by `emergencystretch` as well, unless that is 0 or less. The first pass in which lines lead to the end
+/// Where the lines of a paragraph end, as `breaks_of` says: TeX's search for few demerits ("TeX: The Program", sections 813 to 890). That
+/// no other breaks have fewer is not proved. It refuses nothing. In order, it tries a pass without regular discretionaries, whose lines
+/// have a badness of at most `pretolerance`, unless that is below 0; one with them and `tolerance`; and one that stretches each line by
+/// `emergencystretch` as well, unless that is 0 or less. The first pass in which lines lead to the end
 /// decides.
 pub fn break_items(alloc: Global, items: &[Item], params: &Params) -> Result<Breaks, NoMemory>
     requires { AreItemsInRange items.now }

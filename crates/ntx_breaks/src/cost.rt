@@ -34,7 +34,7 @@ fn are_far_apart(a: u8, b: u8) -> bool
     u16::from(a) + 1 < u16::from(b) || u16::from(b) + 1 < u16::from(a)
 }
 
-/// Demerits of two lines in a row of which one is much looser than the other.
+/// Demerits of two lines in a row if one is much looser than the other.
 fn class_demerits(params: &Params, before: u8, class: u8) -> i64
     ensures value { result ≡ costs.class_demerits params.now before class }
     ensures bound { unsigned_abs result ≤ 100000000 }
@@ -63,7 +63,7 @@ fn own_demerits(items: &[Item], params: &Params, to: u64, b: i64) -> i64
     )
 }
 
-/// The demerits of a line between two places, at the second of which a line may end, after a line of class `before`.
+/// The demerits of a line between two places, after a line of class `before`. A line may end at the second place.
 pub(crate) fn line_cost(
     items: &[Item],
     params: &Params,

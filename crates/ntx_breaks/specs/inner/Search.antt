@@ -25,7 +25,7 @@ pub record ArePlaces (params : Settings) (items : List Item) (places : List ℕ)
 abbrev pub found_seen : Search → Found
 found_seen s = record { states = s.states.items; artificial = s.artificial; last_resort = s.last_resort }
 
--- a list of states with further ones behind it
+-- a list of states with further ones after it
 pub record Extends (P : State → Type 0) (states more : List State) : Type 0 where
   pub made : List State
   pub is : more ≡ states ++ made
