@@ -6,9 +6,6 @@ use Rattle.ntx_run.proofs.inputs.read_inputs.Goals as goal
 pub read_empty-requires : goal.read_empty-requires
 read_empty-requires g c = (_, refl)
 
-pub read_empty-2-requires : goal.read_empty-2-requires
-read_empty-2-requires g c = (_, refl)
-
 pub returns-in_err-commands-clause-reads : goal.returns-in_err-commands-clause-reads
 returns-in_err-commands-clause-reads g c =
     let p = err_from_is_err_and c.from_residual.result c.from_residual.ensures.1 in
