@@ -18,7 +18,7 @@ use Rattle.ntx_ship.specs.declared.piece.Piece.TheVariants.{Push}
 use Rattle.ntx_ship.specs.declared.place.Place.{Place}
 use Rattle.ntx_ship.specs.declared.station.Station.{Station}
 use Rattle.ntx_ship.specs.Placed.{Pieces, Placer, joined, rule_mark, grouped, node_pieces, row_pieces, row_at, list_pieces}
-use Rattle.ntx_ship.specs.Adding.{Adds, closed, after}
+use Rattle.ntx_ship.specs.inner.Adding.{Adds, closed, after}
 use Rattle.ntx_ship.proofs.Groups.{closes, refuses}
 
 -- ---- one call

@@ -9,7 +9,7 @@ use Rattle.ntx_nodes.specs.declared.trouble.Trouble.{Trouble}
 use Rattle.ntx_ship.specs.declared.piece.Piece.{Piece}
 use Rattle.ntx_ship.specs.declared.piece.Piece.TheVariants.{Push, Pop}
 use Rattle.ntx_ship.specs.Placed.{Pieces, grouped}
-use Rattle.ntx_ship.specs.Adding.{after, closed}
+use Rattle.ntx_ship.specs.inner.Adding.{after, closed}
 
 choice : (b : Bool) (x y : List Piece) → b ≡ true → (if b then x else y) ≡ x
 choice true x y e = refl

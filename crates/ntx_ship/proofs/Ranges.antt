@@ -13,7 +13,7 @@ use Rattle.ntx_nodes.proofs.Oks.{at_Ok}
 use Rattle.ntx_pack.specs.GlueSet.{glue_set_in, box_glue}
 use Rattle.ntx_pack.proofs.CodeNumbers.{answer_settable}
 use Rattle.ntx_view.proofs.Measures.{measures_at}
-use Rattle.ntx_ship.specs.Reach.{HasRatio, HasRanges}
+use Rattle.ntx_ship.specs.inner.Reach.{HasRatio, HasRanges}
 
 ratio_at : (heap : Heap) (n : ℕ) (node : Node) (c : Contents) → IsLawful heap → map.get heap.nodes n ≡ Some node → node.fields.contents ≡ c → HasRatio c
 ratio_at heap n node (contents.Hlist b) lawful is same =

@@ -21,7 +21,7 @@ use Rattle.ntx_pack.proofs.OutputLemmas.{running_in_range}
 use Rattle.ntx_pack.proofs.TotalLemmas.{sum_more}
 use Rattle.ntx_ship.specs.declared.place.Place.{Place}
 use Rattle.ntx_ship.specs.Placed.{own_size, moved}
-use Rattle.ntx_ship.specs.Reach.{IsPlaced}
+use Rattle.ntx_ship.specs.inner.Reach.{IsPlaced}
 
 -- one place less far is a place as far
 pub is_placed : (most more : ℕ) (here : Place) → IsPlaced most here → most ≤ more → IsPlaced more here

@@ -25,7 +25,7 @@ use Rattle.ntx_ship.specs.declared.list.Inside.{Inside}
 use Rattle.ntx_ship.specs.declared.place.Place.{Place}
 use Rattle.ntx_ship.specs.declared.station.Station.{Station}
 use Rattle.ntx_ship.specs.Placed.{own_size, moved, stations, row_at}
-use Rattle.ntx_ship.specs.Reach.{AreItemsOf}
+use Rattle.ntx_ship.specs.inner.Reach.{AreItemsOf}
 
 abbrev pub Row : Type 0
 Row = Result (List Station) Trouble

@@ -16,7 +16,8 @@ use Rattle.ntx_dvi.specs.Written.{Writes}
 use Rattle.ntx_dvi.proofs.Writing.{writes_none}
 use Rattle.ntx_ship.specs.Placed.{Page}
 use Rattle.ntx_ship.specs.Operations.{page_operations}
-use Rattle.ntx_ship.specs.Shipping.{Ships, refused_as, full_as}
+use Rattle.ntx_ship.specs.Shipping.{Ships}
+use Rattle.ntx_ship.specs.inner.Refusals.{refused_as, full_as}
 
 -- the operations of a page, or its refusal
 abbrev pub written_as : List FontTables → Writer → Result Page Trouble → Result (List Operation) Trouble

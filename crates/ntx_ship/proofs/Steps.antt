@@ -21,8 +21,8 @@ use Rattle.ntx_ship.specs.declared.place.Place.{Place}
 use Rattle.ntx_ship.specs.declared.station.Station.{Station}
 use Rattle.ntx_ship.specs.Placed.{Placer, glyph_mark, rule_mark, grouped, reference, top, corner, hlist_inside, vlist_inside, part_inside, node_pieces, row_at, list_pieces}
 use Rattle.std.specs.List.{All}
-use Rattle.ntx_ship.specs.Reach.{IsPlaced, StandsWithin, reach}
-use Rattle.ntx_ship.specs.Adding.{Adds}
+use Rattle.ntx_ship.specs.inner.Reach.{IsPlaced, StandsWithin, reach}
+use Rattle.ntx_ship.specs.inner.Adding.{Adds}
 use Rattle.ntx_ship.proofs.Adds.{list_refused, adds_nothing, adds_no_memory}
 
 -- A list whose nodes cannot be found is refused so.

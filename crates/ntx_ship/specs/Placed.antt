@@ -1,7 +1,8 @@
--- Where the marks of a page stand ("TeX: The Program", sections 619 to 637, of which leaders and insertions are left out).
+-- Where the marks of a page stand ("TeX: The Program", sections 619 to 641, without leaders and whatsits).
 --     placed heap fonts page      the marks of a page with the places where they stand, or why it cannot be shipped
 -- An hlist puts its nodes along its baseline from the left to the right, and a vlist from its top down. A box in an hlist is moved down by its shift, one
--- in a vlist to the right. Glue is as large as the box's ratio makes it. A rule that has no height and depth, or no width, is no mark.
+-- in a vlist to the right. Glue is as large as the box's ratio makes it. A rule whose width, or whose height and depth together, is not above 0
+-- is no mark.
 use Rattle.std.specs.Prelude.{ℕ, zero, suc, ◌+◌, ℤ, pos, ◌+ℤ◌, ◌-ℤ◌, int_lt, Bool, ◌&&◌, if◌then◌else◌, List, [], ◌∷◌, ◌++◌, Option, Some, unwrap_or, Result, Ok, Err}
 use Rattle.ntx_num.specs.Answer.{result_map, result_and_then}
 use Rattle.ntx_num.specs.Dimension.{is_dimension}
@@ -152,7 +153,7 @@ pub record Page : Type 0 where
   pub width : ℤ
   pub pieces : List Piece
 
--- as many levels of lists there are in a page whose lists are accepted
+-- A page whose lists are accepted has at most so many levels of lists.
 abbrev pub max_levels : ℕ
 max_levels = max_depth + 1
 

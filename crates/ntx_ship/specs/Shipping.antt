@@ -6,7 +6,6 @@ use Rattle.ntx_num.specs.declared.answer.Fail.TheVariants.{NoMemory, Is}
 use Rattle.ntx_nodes.specs.Heap.{Heap}
 use Rattle.ntx_nodes.specs.declared.trouble.Trouble.{Trouble}
 use Rattle.ntx_tfm.specs.Font.{FontTables}
-use Rattle.ntx_dvi.specs.declared.full.DviFull.{DviFull}
 use Rattle.ntx_dvi.specs.Operation.{Operation}
 use Rattle.ntx_dvi.specs.Progress.{Progress}
 use Rattle.ntx_dvi.specs.Writer.{Writer}
@@ -38,15 +37,3 @@ pub record Ships (result : Result (Unit {0}) (Fail ShipFault)) (old new : Writer
 abbrev pub FreesAs : Result (Unit {0}) (Fail ShipFault) → Heap → Heap → Result (Unit {0} × Heap) Trouble → Type 0
 FreesAs (Ok a) old new step = step ≡ Ok (a, new)
 FreesAs (Err _) old new step = new ≡ old
-
--- ---- refusals
-
--- of the page
-abbrev pub refused_as : Fail Trouble → Fail ShipFault
-refused_as (Is why) = Is (fault.Trouble why)
-refused_as NoMemory = NoMemory
-
--- of the DVI file
-abbrev pub full_as : Fail DviFull → Fail ShipFault
-full_as (Is full) = Is fault.DviFull
-full_as NoMemory = NoMemory

@@ -4,7 +4,7 @@ ghost use Rattle.std.specs.Prelude.{◌≡◌, ◌≤◌, ◌≤ℤ◌, ◌^◌,
 ghost use Rattle.ntx_num.specs.Answer.{result_map};
 ghost use Rattle.ntx_num.specs.Dimension.{IsDimension};
 ghost use Rattle.ntx_ship.specs.Placed.{may_stand, glyph_mark, rule_mark};
-ghost use Rattle.ntx_ship.specs.Reach.{IsPlaced};
+ghost use Rattle.ntx_ship.specs.inner.Reach.{IsPlaced};
 
 use crate::piece::{GlyphMark, Piece, RuleMark};
 use crate::place::{Place, narrowed, sum};

@@ -6,7 +6,7 @@ ghost use Rattle.ntx_num.specs.Dimension.{IsDimension};
 ghost use Rattle.ntx_pack.specs.Output.{IsRatio};
 ghost use Rattle.ntx_ship.specs.Drawable.{AreDrawable};
 ghost use Rattle.ntx_ship.specs.Placed.{list_pieces, max_levels, page_in, placed};
-ghost use Rattle.ntx_ship.specs.Reach.{IsPlaced, HasRanges, list_reach};
+ghost use Rattle.ntx_ship.specs.inner.Reach.{IsPlaced, HasRanges, list_reach};
 
 use crate::list::{Inside, in_hlist, in_vlist};
 use crate::piece::Piece;
@@ -123,12 +123,12 @@ fn page_in<N: Nodes>(
     }
 }
 
-/// Where the marks of a page stand ("TeX: The Program", sections 619 to 637). `page` is an hlist or a vlist, whose upper left corner is that of
+/// Where the marks of a page stand ("TeX: The Program", sections 619 to 641). `page` is an hlist or a vlist, whose upper left corner is that of
 /// the page; its own shift is not looked at. The number of a glyph's font is its place in `fonts`, counted from 0.
 ///
 /// # Refusals
 ///
-/// - Those of `items` of `ntx_view`: what a walk through all lists of the page refuses, and then `NoChar`.
+/// - Those of `items` of `ntx_view`: what a walk from `page` through its lists and along what follows it refuses, and then `NoChar`.
 /// - `WrongKind` if `page` is no box.
 /// - `Dimension` if the place of a mark, or the end of its width, is beyond 2^30 - 1 scaled points in absolute value.
 pub fn placed<N: Nodes>(

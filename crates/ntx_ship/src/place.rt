@@ -2,7 +2,7 @@
 
 ghost use Rattle.std.specs.Prelude.{◌≡◌, ◌≤◌, ◌^◌, ◌+ℤ◌, unsigned_abs};
 ghost use Rattle.ntx_ship.specs.Placed.{moved, reference, top, corner};
-ghost use Rattle.ntx_ship.specs.Reach.{IsPlaced};
+ghost use Rattle.ntx_ship.specs.inner.Reach.{IsPlaced};
 
 use ntx_nodes::{BoxFields, RuleFields};
 use ntx_pack::Direction;

@@ -8,9 +8,9 @@ ghost use Rattle.ntx_view.specs.Measured.{HasMeasures};
 ghost use Rattle.ntx_view.specs.View.{char_size, no_size};
 ghost use Rattle.ntx_ship.specs.declared.piece.Piece.{Piece};
 ghost use Rattle.ntx_ship.specs.declared.piece.Piece.TheVariants.{Push};
-ghost use Rattle.ntx_ship.specs.Adding.{Adds, closed};
+ghost use Rattle.ntx_ship.specs.inner.Adding.{Adds, closed};
 ghost use Rattle.ntx_ship.specs.Placed.{glyph_mark, rule_mark, corner, grouped, node_pieces, row_pieces, row_at, list_pieces, Pieces};
-ghost use Rattle.ntx_ship.specs.Reach.{IsPlaced, StandsWithin, reach};
+ghost use Rattle.ntx_ship.specs.inner.Reach.{IsPlaced, StandsWithin, reach};
 
 use crate::list::{Inside, in_hlist, in_part, in_vlist};
 use crate::mark::{glyph_mark, rule_mark};
@@ -101,7 +101,7 @@ fn place_rule(
     add_rule(corner, height, r.width, pieces)
 }
 
-/// Ends a box that began where the pieces were as many as this, or takes its beginning away if they still are.
+/// Ends a box: appends its pop, or removes its push if nothing was added after it.
 fn close(pieces: &mut Vec<Piece>, full: usize) -> Result<(), NoMemory>
     ensures { OnOk result (pieces.new.items ≡ closed full pieces.old.items) }
 {
@@ -193,7 +193,7 @@ fn place_node<N: Nodes>(
     }
 }
 
-/// Puts nodes that stand so at the end of the pieces, which are a list that has so many levels of lists, itself included.
+/// Appends the pieces of these stations. Their list has so many levels, itself included.
 #[cycle(placing)]
 #[tactic(auto, using(crate::proofs::Adds::row_ended))]
 fn place_row<N: Nodes>(

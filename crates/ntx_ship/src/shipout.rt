@@ -6,7 +6,8 @@ ghost use Rattle.ntx_lists.specs.Trees.{flush_list_step};
 ghost use Rattle.ntx_dvi.specs.Fonts.{AreKnown};
 ghost use Rattle.ntx_dvi.specs.Writer.{IsBetweenPages};
 ghost use Rattle.ntx_ship.specs.Operations.{definition_at};
-ghost use Rattle.ntx_ship.specs.Shipping.{Ships, FreesAs, operations_of, refused_as, full_as};
+ghost use Rattle.ntx_ship.specs.Shipping.{Ships, FreesAs, operations_of};
+ghost use Rattle.ntx_ship.specs.inner.Refusals.{refused_as, full_as};
 
 use crate::fault::ShipFault;
 use crate::page::placed;

@@ -8,7 +8,7 @@ ghost use Rattle.ntx_item.specs.Items.{AreItemsInRange};
 ghost use Rattle.ntx_pack.specs.Output.{IsRatio};
 ghost use Rattle.ntx_view.specs.Measured.{IsMeasured};
 ghost use Rattle.ntx_ship.specs.Placed.{stations};
-ghost use Rattle.ntx_ship.specs.Reach.{IsPlaced, HasRanges, StandsWithin, AreItemsOf};
+ghost use Rattle.ntx_ship.specs.inner.Reach.{IsPlaced, HasRanges, StandsWithin, AreItemsOf};
 
 use crate::list::Inside;
 use crate::place::Place;

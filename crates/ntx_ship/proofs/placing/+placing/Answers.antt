@@ -4,7 +4,7 @@ use Rattle.std.proofs.lemmas.Result.{err_from_is_err_and}
 use Rattle.ntx_nodes.specs.Heap.{Heap}
 use Rattle.ntx_ship.specs.declared.station.Station.{Station}
 use Rattle.ntx_ship.specs.Placed.{row_pieces, node_pieces, list_pieces}
-use Rattle.ntx_ship.specs.Adding.{Adds}
+use Rattle.ntx_ship.specs.inner.Adding.{Adds}
 use Rattle.ntx_ship.proofs.Adds.{list_too_deep, list_row, row_more}
 use Rattle.ntx_ship.proofs.Steps.{list_error, node_hlist, node_vlist, node_rule, node_glyph, node_disc, node_other, suc_less, no_station, row_fits}
 use Rattle.ntx_ship.proofs.placing.+placing.Goals as goal

@@ -1,7 +1,7 @@
 -- What holds while the nodes of a list are placed.
 use Rattle.std.proofs.Common.{◌≡◌, ◌+◌, ◌-◌, ◌*◌}
 use Rattle.ntx_ship.specs.Placed.{row_pieces, list_pieces}
-use Rattle.ntx_ship.specs.Adding.{after}
+use Rattle.ntx_ship.specs.inner.Adding.{after}
 use Rattle.ntx_ship.proofs.Adds.{row_from}
 use Rattle.ntx_ship.proofs.placing.+placing.Given as goal
 

@@ -4,7 +4,7 @@ use Rattle.std.specs.Prelude.{Result}
 use Rattle.ntx_num.specs.declared.answer.Fail.{Fail}
 use Rattle.ntx_nodes.specs.declared.trouble.Trouble.{Trouble}
 use Rattle.ntx_ship.specs.declared.piece.Piece.TheVariants.{Push}
-use Rattle.ntx_ship.specs.Adding.{Adds}
+use Rattle.ntx_ship.specs.inner.Adding.{Adds}
 use Rattle.ntx_ship.proofs.Adds.{box_refused}
 use Rattle.ntx_ship.proofs.placing.end_box.Goals as goal
 

@@ -9,7 +9,7 @@ use Rattle.ntx_item.specs.declared.item.Item.{Item}
 use Rattle.ntx_item.specs.Items.{AreItemsInRange}
 use Rattle.ntx_view.specs.Measured.{IsMeasured}
 use Rattle.ntx_ship.specs.Placed.{stations}
-use Rattle.ntx_ship.specs.Reach.{AreItemsOf}
+use Rattle.ntx_ship.specs.inner.Reach.{AreItemsOf}
 use Rattle.ntx_ship.proofs.Rows.{refused_by_items, refused_by_walk, row_found, items_named}
 use Rattle.ntx_ship.proofs.placing.row_of.Goals as goal
 

@@ -11,7 +11,7 @@ use Rattle.ntx_pack.specs.Output.{move}
 use Rattle.ntx_pack.specs.declared.glue_set.GlueSet.{GlueSet}
 use Rattle.ntx_ship.specs.declared.station.Station.{Station}
 use Rattle.ntx_ship.specs.Placed.{moved}
-use Rattle.ntx_ship.specs.Reach.{StandsWithin}
+use Rattle.ntx_ship.specs.inner.Reach.{StandsWithin}
 use Rattle.ntx_ship.proofs.Rows.{stations_next, stations_end, stations_stop}
 use Rattle.ntx_ship.proofs.Reaches.{is_placed, total_within, nearer, near_enough, running_more}
 use Rattle.ntx_ship.proofs.Marks.{exact}

@@ -4,7 +4,7 @@ use Rattle.std.specs.List.{All}
 use Rattle.ntx_tfm.specs.Font.{FontTables}
 use Rattle.ntx_pack.specs.Output.{running}
 use Rattle.ntx_ship.specs.Placed.{stations}
-use Rattle.ntx_ship.specs.Reach.{IsPlaced, StandsWithin, AreItemsOf}
+use Rattle.ntx_ship.specs.inner.Reach.{IsPlaced, StandsWithin, AreItemsOf}
 use Rattle.ntx_ship.proofs.Rows.{stand_after}
 use Rattle.ntx_ship.proofs.Reaches.{so_far}
 use Rattle.ntx_ship.proofs.station.stations.Given as goal

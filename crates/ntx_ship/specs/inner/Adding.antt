@@ -21,6 +21,6 @@ AddsAs (Err NoMemory) old new pieces = Unit {0}
 pub record Adds (result : Result (Unit {0}) (Fail Trouble)) (old new : List Piece) (pieces : Pieces) : Type 0 where
   pub done : AddsAs result old new pieces
 
--- The pieces with the end of a box, or without its beginning if they are no more than that many.
+-- Ends a box: appends its pop, or removes its push if nothing was added after it.
 abbrev pub closed : ℕ → List Piece → List Piece
 closed full pieces = if nat_eq (length pieces) full then take (length pieces - 1) pieces else pieces ++ Pop ∷ []

@@ -17,11 +17,11 @@ pub record IsPlaced (most : ℕ) (at : Place) : Type 0 where
   pub h : unsigned_abs at.h ≤ most
   pub v : unsigned_abs at.v ≤ most
 
--- as far can the nodes of one list stand from its beginning
+-- The nodes of one list stand at most so far from its beginning.
 abbrev pub list_reach : ℕ
 list_reach = 2 ^ 52
 
--- as far can a list stand that has so many levels of lists below it, itself included
+-- A list with so many levels of lists, itself included, stands at most so far from the page's corner.
 abbrev pub reach : ℕ → ℕ
 reach levels = (102 - levels) * list_reach
 
