@@ -1,5 +1,4 @@
-//! Pages against places and bytes worked out by hand from TeX's rules.
+//! Pages against places worked out by hand from TeX's rules.
 
 mod lists;
 mod pages;
-mod ships;
