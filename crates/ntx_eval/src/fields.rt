@@ -1,0 +1,99 @@
+//! Fields of tables and of nodes.
+
+use crate::evaluator::{Evaluator, at_line, fault, first};
+use crate::machine::Machine;
+use crate::{Host, ScriptStop};
+use ntx_num::Fail;
+use ntx_resolve::Function;
+use ntx_values::{LuaWhy, Primitive, Value};
+use sqlite_items::Items;
+use std::alloc::Global;
+
+impl<
+    'a,
+    H: Host,
+    C: Fn(
+        Global,
+        &[Function],
+        u64,
+        u64,
+        &mut Machine,
+        &mut H,
+        Value,
+        &[Value],
+        u64,
+    ) -> Result<Items<Value>, Fail<ScriptStop>>,
+> Evaluator<'a, H, C> {
+    /// What a value has at a key.
+    pub fn read_field(
+        &self,
+        m: &mut Machine,
+        host: &mut H,
+        of: Value,
+        key: Value,
+        line: u64,
+    ) -> Result<Value, Fail<ScriptStop>> {
+        match of {
+            Value::Table(t) => Ok(m.store.get(t, key)),
+            Value::Node(_) => self.read_node_field(m, host, of, key, line),
+            _ => Err(fault(line, LuaWhy::WrongType)),
+        }
+    }
+
+    /// A field of a node, whose key is a text.
+    fn read_node_field(
+        &self,
+        m: &mut Machine,
+        host: &mut H,
+        node: Value,
+        key: Value,
+        line: u64,
+    ) -> Result<Value, Fail<ScriptStop>> {
+        match key {
+            Value::Text(_) => {
+                let values = self.host_call(m, host, Primitive::NodeGet, &[node, key], line)?;
+                Ok(first(&values))
+            }
+            _ => Err(fault(line, LuaWhy::WrongType)),
+        }
+    }
+
+    /// Sets what a value has at a key.
+    pub fn write_field(
+        &self,
+        m: &mut Machine,
+        host: &mut H,
+        of: Value,
+        key: Value,
+        v: Value,
+        line: u64,
+    ) -> Result<(), Fail<ScriptStop>> {
+        match of {
+            Value::Table(t) => match m.store.set(t, key, v) {
+                Ok(()) => Ok(()),
+                Err(fail) => Err(at_line(line, fail)),
+            },
+            Value::Node(_) => self.write_node_field(m, host, of, key, v, line),
+            _ => Err(fault(line, LuaWhy::WrongType)),
+        }
+    }
+
+    /// Sets a field of a node, whose key is a text.
+    fn write_node_field(
+        &self,
+        m: &mut Machine,
+        host: &mut H,
+        node: Value,
+        key: Value,
+        v: Value,
+        line: u64,
+    ) -> Result<(), Fail<ScriptStop>> {
+        match key {
+            Value::Text(_) => {
+                self.host_call(m, host, Primitive::NodeSet, &[node, key, v], line)?;
+                Ok(())
+            }
+            _ => Err(fault(line, LuaWhy::WrongType)),
+        }
+    }
+}
