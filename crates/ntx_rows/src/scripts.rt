@@ -19,6 +19,7 @@ use std::process::Abort;
 use std::test;
 
 /// What comes of a script.
+#[derive(Drop)]
 struct Came {
     /// What was printed.
     printed: Vec<u8>,
