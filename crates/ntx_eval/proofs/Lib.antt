@@ -7,3 +7,4 @@ pub mod RelatedTrees
 pub mod RelatedCalls
 pub mod Steps
 pub mod WorkedProofs
+pub mod Running

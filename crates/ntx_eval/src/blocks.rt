@@ -1,6 +1,6 @@
 //! Blocks, loops and choices.
 
-use crate::evaluator::{Evaluator, fault, first, second_at};
+use crate::evaluator::{Evaluator, fault, first, nth};
 use crate::frame::{Flow, Frame};
 use crate::machine::Machine;
 use crate::stats::onward;
@@ -91,7 +91,7 @@ impl<
         frame: &Frame,
         last: &Return,
     ) -> Result<Flow, Fail<ScriptStop>> {
-        self.charge(m, last.line)?;
+        self.charge(m, host, last.line)?;
         let values = self.values(m, host, frame, last.line, last.values.as_slice())?;
         Ok(Flow::Returned(values))
     }
@@ -108,7 +108,7 @@ impl<
         if matches!(&stat.kind, StatKind::Empty) {
             return Ok(Flow::Onward);
         }
-        self.charge(m, stat.line)?;
+        self.charge(m, host, stat.line)?;
         self.kind(m, host, frame, stat.line, &stat.kind)
     }
 
@@ -200,7 +200,7 @@ impl<
         block: &Block,
     ) -> Result<Flow, Fail<ScriptStop>> {
         loop {
-            self.charge(m, line)?;
+            self.charge(m, host, line)?;
             if !self.holds(m, host, frame, line, condition)? {
                 return Ok(Flow::Onward);
             }
@@ -228,7 +228,7 @@ impl<
             let flow = self.open_block(m, host, frame, block)?;
             match flow {
                 Flow::Onward => {
-                    self.charge(m, line)?;
+                    self.charge(m, host, line)?;
                     let ends = self.holds(m, host, frame, line, condition)?;
                     frame.locals.truncate(count);
                     if ends {
@@ -324,7 +324,7 @@ impl<
         let count = frame.locals.len();
         let mut next = Some(start);
         loop {
-            self.charge(m, line)?;
+            self.charge(m, host, line)?;
             match next {
                 None => return Ok(Flow::Onward),
                 Some(i) => {
@@ -359,11 +359,11 @@ impl<
     ) -> Result<Flow, Fail<ScriptStop>> {
         let values = self.values(m, host, frame, line, exps)?;
         let iterator = first(&values);
-        let walked = second_at(&values, 1);
+        let walked = nth(values.as_slice(), 1);
         let count = frame.locals.len();
-        let mut control = second_at(&values, 2);
+        let mut control = nth(values.as_slice(), 2);
         loop {
-            self.charge(m, line)?;
+            self.charge(m, host, line)?;
             let values = self.entered(m, host, iterator, &[walked, control], line)?;
             control = first(&values);
             if control.is_nil() {

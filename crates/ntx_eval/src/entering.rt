@@ -1,11 +1,10 @@
 //! What a call does once it was paid for.
 
-use crate::evaluator::{Evaluator, at_line, fault};
+use crate::evaluator::{Evaluator, fault, faulting};
 use crate::frame::{Flow, Frame};
 use crate::machine::Machine;
 use crate::variables::declare_all;
 use crate::{Host, ScriptStop};
-use ntx_lualib::call_lib;
 use ntx_num::Fail;
 use ntx_resolve::Function;
 use ntx_values::{FuncId, LibFn, LuaWhy, Primitive, Value};
@@ -26,16 +25,12 @@ pub fn results_of(alloc: Global, flow: Flow) -> Items<Value> {
 
 /// Calls a function of the library.
 fn library_call(
-    alloc: Global,
     m: &mut Machine,
     f: LibFn,
     args: &[Value],
     line: u64,
 ) -> Result<Items<Value>, Fail<ScriptStop>> {
-    match call_lib(alloc, &mut m.store, &mut m.printed, f, args) {
-        Ok(values) => Ok(Items::from_vec(values)),
-        Err(fail) => Err(at_line(line, fail)),
-    }
+    faulting(line, m.call_lib(f, args))
 }
 
 impl<
@@ -120,7 +115,7 @@ pub fn enter<H: Host>(
             }
             .run_function(m, host, f, args, line)
         }
-        Value::Prim(Primitive::Lib(f)) => library_call(alloc, m, f, args, line),
+        Value::Prim(Primitive::Lib(f)) => library_call(m, f, args, line),
         Value::Prim(primitive) => Evaluator {
             alloc,
             functions,

@@ -1,10 +1,10 @@
 //! Expressions.
 
-use crate::evaluator::{Evaluator, at_line, fault, first};
+use crate::evaluator::{Evaluator, fault, faulting, first};
 use crate::frame::Frame;
 use crate::machine::Machine;
 use crate::variables::read_variable;
-use crate::{Host, ScriptStop, binary, is_decided, unary};
+use crate::{Host, ScriptStop, is_decided};
 use ntx_num::Fail;
 use ntx_resolve::{Exp, Field, Function, Head, Operation, Prefix, Suffix};
 use ntx_syntax::UnaryOp;
@@ -42,7 +42,7 @@ impl<
             Exp::False => Ok(Value::Bool(false)),
             Exp::True => Ok(Value::Bool(true)),
             Exp::Numeral(n) => Ok(Value::Int(*n)),
-            Exp::Text(bytes) => self.text(m, bytes.as_slice(), line),
+            Exp::Text(bytes) => self.text(m, host, bytes.as_slice(), line),
             Exp::Function(body) => self.function(m, frame, *body),
             Exp::Prefix(prefix) => self.prefix(m, host, frame, line, prefix),
             Exp::Table(fields) => self.table(m, host, frame, line, fields.as_slice()),
@@ -116,10 +116,7 @@ impl<
         for other in others {
             if !is_decided(other.operator, v) {
                 let w = self.one(m, host, frame, line, &other.operand)?;
-                v = match binary(self.alloc, &mut m.store, other.operator, v, w) {
-                    Ok(v) => v,
-                    Err(fail) => return Err(at_line(line, fail)),
-                };
+                v = faulting(line, m.binary(other.operator, v, w))?;
             }
         }
         Ok(v)
@@ -160,7 +157,7 @@ impl<
                 self.read_field(m, host, v, key, line)
             }
             Suffix::Field(name) => {
-                let key = self.text(m, name.as_slice(), line)?;
+                let key = self.text(m, host, name.as_slice(), line)?;
                 self.read_field(m, host, v, key, line)
             }
             Suffix::Call(arguments) => {
@@ -221,10 +218,7 @@ impl<
         line: u64,
         fields: &[Field],
     ) -> Result<Value, Fail<ScriptStop>> {
-        let t = match m.store.new_table() {
-            Ok(t) => t,
-            Err(fail) => return Err(at_line(line, fail)),
-        };
+        let t = faulting(line, m.new_table())?;
         let mut number = 1i64;
         let mut left = fields.len();
         for field in fields {
@@ -236,7 +230,7 @@ impl<
                     self.write_field(m, host, Value::Table(t), key, v, line)?;
                 }
                 Field::Named(name, v) => {
-                    let key = self.text(m, name.as_slice(), line)?;
+                    let key = self.text(m, host, name.as_slice(), line)?;
                     let v = self.one(m, host, frame, line, v.get())?;
                     self.write_field(m, host, Value::Table(t), key, v, line)?;
                 }
@@ -280,7 +274,7 @@ impl<
         op: UnaryOp,
         v: Value,
     ) -> Result<Value, Fail<ScriptStop>> {
-        match unary(&m.store, op, v) {
+        match m.unary(op, v) {
             Ok(v) => Ok(v),
             Err(why) => Err(fault(line, why)),
         }
@@ -298,10 +292,7 @@ impl<
         if v.is_nil() {
             return Ok(());
         }
-        match m.store.set(t, Value::Int(number), v) {
-            Ok(()) => Ok(()),
-            Err(fail) => Err(at_line(line, fail)),
-        }
+        faulting(line, m.set(t, Value::Int(number), v))
     }
 
     /// Sets the values at the numbers from one on.

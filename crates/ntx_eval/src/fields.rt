@@ -1,6 +1,6 @@
 //! Fields of tables and of nodes.
 
-use crate::evaluator::{Evaluator, at_line, fault, first};
+use crate::evaluator::{Evaluator, fault, faulting, first};
 use crate::machine::Machine;
 use crate::{Host, ScriptStop};
 use ntx_num::Fail;
@@ -34,7 +34,7 @@ impl<
         line: u64,
     ) -> Result<Value, Fail<ScriptStop>> {
         match of {
-            Value::Table(t) => Ok(m.store.get(t, key)),
+            Value::Table(t) => Ok(m.get(t, key)),
             Value::Node(_) => self.read_node_field(m, host, of, key, line),
             _ => Err(fault(line, LuaWhy::WrongType)),
         }
@@ -69,10 +69,7 @@ impl<
         line: u64,
     ) -> Result<(), Fail<ScriptStop>> {
         match of {
-            Value::Table(t) => match m.store.set(t, key, v) {
-                Ok(()) => Ok(()),
-                Err(fail) => Err(at_line(line, fail)),
-            },
+            Value::Table(t) => faulting(line, m.set(t, key, v)),
             Value::Node(_) => self.write_node_field(m, host, of, key, v, line),
             _ => Err(fault(line, LuaWhy::WrongType)),
         }

@@ -47,7 +47,7 @@ impl<
                 HostStep::Fail(why) => return Err(host_fault(line, why)),
                 HostStep::Call(f, args) => {
                     let values = self.call(m, host, f, args.as_slice(), line)?;
-                    step = host.resume(&mut m.store, values.as_slice())?;
+                    step = m.resume(host, values.as_slice())?;
                 }
             }
         }
@@ -62,7 +62,7 @@ impl<
         args: &[Value],
         line: u64,
     ) -> Result<Items<Value>, Fail<ScriptStop>> {
-        let step = host.begin(&mut m.store, primitive, args)?;
+        let step = m.begin(host, primitive, args)?;
         self.follow(m, host, step, line)
     }
 }

@@ -2,11 +2,9 @@
 
 use crate::machine::Machine;
 use crate::texts::make_texts;
-use ntx_lualib::Printed;
 use ntx_num::Fail;
 use ntx_resolve::Code;
 use ntx_values::{LibFn, LuaWhy, Primitive, Store, TableId, Value};
-use sqlite_items::Items;
 use std::alloc::Global;
 
 /// The functions that are globals, in the order in which the globals are walked.
@@ -106,13 +104,5 @@ pub fn opened(alloc: Global, code: &Code, budget: u64) -> Result<Machine, Fail<L
     library(&mut store, globals, b"math", &MATH)?;
     types(&mut store)?;
     make_texts(&mut store, code)?;
-    Ok(Machine {
-        alloc,
-        store,
-        globals,
-        cells: Items::new(alloc),
-        closures: Items::new(alloc),
-        printed: Printed::new(alloc)?,
-        charges: budget,
-    })
+    Ok(Machine::new(alloc, store, globals, budget)?)
 }

@@ -60,7 +60,7 @@ impl<
             }
             Var::Field(of, name) => {
                 let t = self.prefix(m, host, frame, line, of.get())?;
-                let key = self.text(m, name.as_slice(), line)?;
+                let key = self.text(m, host, name.as_slice(), line)?;
                 Ok(Some((t, key)))
             }
         }
@@ -206,10 +206,10 @@ impl<
         others: &[Name],
     ) -> Result<(Value, Value), Fail<ScriptStop>> {
         let mut v = from;
-        let mut key = self.text(m, name.as_slice(), line)?;
+        let mut key = self.text(m, host, name.as_slice(), line)?;
         for next in others {
             v = self.read_field(m, host, v, key, line)?;
-            key = self.text(m, next.as_slice(), line)?;
+            key = self.text(m, host, next.as_slice(), line)?;
         }
         Ok((v, key))
     }

@@ -1,6 +1,6 @@
 //! Variables.
 
-use crate::evaluator::at_line;
+use crate::evaluator::{faulting, nth};
 use crate::frame::Frame;
 use crate::machine::Machine;
 use crate::ScriptStop;
@@ -18,6 +18,29 @@ fn cell_of(m: &Machine, frame: &Frame, variable: Variable) -> Option<usize> {
     }
 }
 
+/// The text of a name.
+fn key_of(m: &mut Machine, name: &[u8], line: u64) -> Result<Value, Fail<ScriptStop>> {
+    faulting(line, m.text(name))
+}
+
+/// What the globals hold at a name.
+fn read_global(m: &mut Machine, name: &[u8], line: u64) -> Result<Value, Fail<ScriptStop>> {
+    let key = key_of(m, name, line)?;
+    Ok(m.get(m.globals(), key))
+}
+
+/// Sets what the globals hold at a name.
+fn write_global(
+    m: &mut Machine,
+    name: &[u8],
+    v: Value,
+    line: u64,
+) -> Result<(), Fail<ScriptStop>> {
+    let key = key_of(m, name, line)?;
+    let globals = m.globals();
+    faulting(line, m.set(globals, key, v))
+}
+
 /// What a variable holds.
 pub fn read_variable(
     m: &mut Machine,
@@ -28,10 +51,7 @@ pub fn read_variable(
 ) -> Result<Value, Fail<ScriptStop>> {
     match cell_of(m, frame, variable) {
         Some(cell) => Ok(m.read(cell)),
-        None => match m.read_global(name) {
-            Ok(v) => Ok(v),
-            Err(fail) => Err(at_line(line, fail)),
-        },
+        None => read_global(m, name, line),
     }
 }
 
@@ -49,10 +69,7 @@ pub fn write_variable(
             m.write(cell, v);
             Ok(())
         }
-        None => match m.write_global(name, v) {
-            Ok(()) => Ok(()),
-            Err(fail) => Err(at_line(line, fail)),
-        },
+        None => write_global(m, name, v, line),
     }
 }
 
@@ -72,7 +89,7 @@ pub fn declare_all(
 ) -> Result<(), Fail<ScriptStop>> {
     let mut place = 0usize;
     for _ in names {
-        declare(m, locals, values.get(place).copied().unwrap_or(Value::Nil))?;
+        declare(m, locals, nth(values, place))?;
         place += 1;
     }
     Ok(())

@@ -49,7 +49,7 @@ impl Vm {
         Evaluator {
             alloc: self.alloc,
             functions: self.code.functions.as_slice(),
-            most: self.machine.charges,
+            most: self.machine.charges(),
             level: 0,
             enter: enter::<H>,
             host: PhantomData,
@@ -72,7 +72,7 @@ impl Vm {
         Evaluator {
             alloc: self.alloc,
             functions: self.code.functions.as_slice(),
-            most: self.machine.charges,
+            most: self.machine.charges(),
             level: 0,
             enter: enter::<H>,
             host: PhantomData,
@@ -93,7 +93,7 @@ impl Vm {
         Evaluator {
             alloc: self.alloc,
             functions: self.code.functions.as_slice(),
-            most: self.machine.charges,
+            most: self.machine.charges(),
             level: 0,
             enter: enter::<H>,
             host: PhantomData,
@@ -103,11 +103,11 @@ impl Vm {
 
     /// The bytes that were printed and not yet taken. They are taken by this.
     pub fn take_printed(&mut self) -> Vec<u8> {
-        self.machine.printed.take()
+        self.machine.take_printed()
     }
 
     /// The store.
     pub fn store(&self) -> &Store {
-        &self.machine.store
+        self.machine.store()
     }
 }

@@ -1,6 +1,7 @@
 -- How a call of the program is tied to what code does.
 --     Meets result m host ending          the answer and the machine and the host after it are this ending
 --     Runs fits result old new action     from an old machine and host to new ones the call does the action
+--     faults_at line result               a refusal as a fault at a line
 --     Enters                              what is asked of what enters a function
 use Rattle.std.specs.Prelude.{◌≡◌, ℕ, ◌<◌, ◌≤◌, List, Result, Ok, Err, IfOk}
 use Rattle.std.specs.declared.alloc.Global.{Global}
@@ -18,13 +19,25 @@ use Rattle.ntx_eval.specs.Ending.{Action, Ending}
 use Rattle.ntx_eval.specs.Setting.{Setting}
 use Rattle.ntx_eval.specs.inner.Machine.{MachineState, Kept, state_of, lifted}
 use Rattle.ntx_eval.specs.inner.Entering.{enter_at, setting_at}
+use Rattle.ntx_values.specs.declared.why.LuaWhy.{LuaWhy}
+use Rattle.ntx_eval.specs.declared.frame.Frame.{Frame}
+use Rattle.ntx_eval.specs.inner.Places.{Spot}
 use Rattle.ntx_eval.specs.declared.stop.ScriptStop.{ScriptStop}
+use Rattle.ntx_eval.specs.declared.stop.ScriptStop.TheVariants as stopped
 
 -- Unless memory ran out, the ending is this answer and this state.
 abbrev pub Meets : {S A : Type 0} → Result A (Fail ScriptStop) → MachineState → S → Ending (Kept S) A → Type 0
 Meets (Ok a) m host ending = ending ≡ (Ok a, state_of m host)
 Meets (Err (Is why)) m host ending = ending ≡ (Err why, state_of m host)
 Meets (Err NoMemory) m host ending = Unit {0}
+
+abbrev pub fault_at : ℕ → Fail LuaWhy → Fail ScriptStop
+fault_at line NoMemory = NoMemory
+fault_at line (Is why) = Is (stopped.Fault (record { line = line; why = why }))
+
+abbrev pub faults_at : {A : Type 0} → ℕ → Result A (Fail LuaWhy) → Result A (Fail ScriptStop)
+faults_at line (Ok a) = Ok a
+faults_at line (Err fail) = Err (fault_at line fail)
 
 -- Steps never rise, numbers of the store stay valid, and the host's state fits the store as before.
 pub record Runs {S A : Type 0} (fits : S → StoreState → Type 0) (result : Result A (Fail ScriptStop)) (old : MachineState) (host : S) (new : MachineState) (after : S)
@@ -48,3 +61,11 @@ pub record Enters {H S : Type 0} (state : H → S) (fits : S → StoreState → 
   pub runs : (alloc : Global) (m m' : MutBor MachineState) (h h' : MutBor H) (f : Value) (args : Bor (List Value)) (line : ℕ) (r : Result (List Value) (Fail ScriptStop))
       → post alloc functions most level m h f args line r m' h'
       → Runs fits r m.now (state h.now) m'.now (state h'.now) (enter_at functions.now world most level f args.now line) × IfOk r (AreOf m'.now.store)
+
+-- where a frame is at a line
+abbrev pub spot_of : Frame → ℕ → Spot
+spot_of frame line = record { function = frame.function; locals = frame.locals.items; line = line }
+
+-- what the parts of code are given by an evaluator
+abbrev pub run_of : {S : Type 0} → (Primitive → List Value → S → StoreState → Answered S) → (List Value → S → StoreState → Answered S) → Bor (List Function) → ℕ → ℕ → Setting (Kept S)
+run_of begin resume functions most level = setting_at functions.now (world_of begin resume) most level
