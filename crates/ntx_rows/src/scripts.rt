@@ -149,18 +149,18 @@ fn long(
 
 /// Long flat scripts: how each begins, its part, how often the part stands, how it ends, the steps, and what is printed.
 static LONG: [(&str, &str, u64, &str, u64, &str); 5] = [
-    ("print(0", " + 1", 20000, ")", 2, "20000\n"),
-    ("local t = {} t.t = t print(t", ".t", 20000, " == t)", 4, "true\n"),
-    ("local a = 0 ", "a = a + 1 ", 20000, "print(a)", 20003, "20000\n"),
+    ("print(0", " + 1", 2000, ")", 2, "2000\n"),
+    ("local t = {} t.t = t print(t", ".t", 2000, " == t)", 4, "true\n"),
+    ("local a = 0 ", "a = a + 1 ", 2000, "print(a)", 2003, "2000\n"),
     (
         "local a = 1 if a == 0 then ",
         "elseif a == 2 then ",
-        20000,
+        2000,
         "else print(a) end",
         4,
         "1\n",
     ),
-    ("local t = {", "1, ", 20000, "} print(#t)", 3, "20000\n"),
+    ("local t = {", "1, ", 2000, "} print(#t)", 3, "2000\n"),
 ];
 
 #[test]
