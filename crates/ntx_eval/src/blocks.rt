@@ -4,7 +4,6 @@ use crate::evaluator::{Evaluator, fault, first, nth};
 use crate::frame::{Flow, Frame};
 use crate::machine::Machine;
 use crate::stats::onward;
-use crate::variables::{declare, declare_all};
 use crate::{Host, ScriptStop, is_true};
 use ntx_num::Fail;
 use ntx_resolve::{Block, Exp, Function, IfArm, Return, Stat, StatKind};
@@ -168,7 +167,7 @@ impl<
                 path.as_slice(),
                 *body,
             )),
-            StatKind::LocalFunction(_, body) => onward(self.local_function(m, frame, *body)),
+            StatKind::LocalFunction(_, body) => onward(self.local_function(m, host, frame, line, *body)),
             StatKind::Local(names, exps) => {
                 onward(self.local(m, host, frame, line, names.as_slice(), exps.as_slice()))
             }
@@ -331,7 +330,7 @@ impl<
                     if !is_within_limit(limit, step, i) {
                         return Ok(Flow::Onward);
                     }
-                    declare(m, &mut frame.locals, Value::Int(i))?;
+                    self.declare(m, host, &mut frame.locals, Value::Int(i))?;
                     let flow = self.open_block(m, host, frame, block)?;
                     frame.locals.truncate(count);
                     match flow {
@@ -369,7 +368,7 @@ impl<
             if control.is_nil() {
                 return Ok(Flow::Onward);
             }
-            declare_all(m, &mut frame.locals, names, values.as_slice())?;
+            self.declare_all(m, host, &mut frame.locals, names, values.as_slice())?;
             let flow = self.open_block(m, host, frame, block)?;
             frame.locals.truncate(count);
             match flow {

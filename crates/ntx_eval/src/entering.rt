@@ -3,7 +3,6 @@
 use crate::evaluator::{Evaluator, fault, faulting};
 use crate::frame::{Flow, Frame};
 use crate::machine::Machine;
-use crate::variables::declare_all;
 use crate::{Host, ScriptStop};
 use ntx_num::Fail;
 use ntx_resolve::Function;
@@ -79,7 +78,7 @@ impl<
             function: Some(f),
             locals: Vec::new(self.alloc),
         };
-        declare_all(m, &mut frame.locals, function.parameters.as_slice(), args)?;
+        self.declare_all(m, host, &mut frame.locals, function.parameters.as_slice(), args)?;
         let flow = self.open_block(m, host, &mut frame, &function.block)?;
         Ok(results_of(self.alloc, flow))
     }

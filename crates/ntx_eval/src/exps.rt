@@ -1,14 +1,24 @@
 //! Expressions.
 
-use crate::evaluator::{Evaluator, fault, faulting, first};
+ghost use Rattle.std.specs.Prelude.{◌≡◌, ◌≤◌, ◌<◌, ℕ, pos, map, ◌∷◌, [], IfOk};
+ghost use Rattle.ntx_values.specs.State.{IsOf, AreOf};
+ghost use Rattle.ntx_values.specs.declared.value.Value.TheVariants as value;
+ghost use Rattle.ntx_resolve.specs.declared.code.Exp.TheVariants as exp;
+ghost use Rattle.ntx_eval.specs.Expressions.{first_of};
+ghost use Rattle.ntx_eval.specs.Operators as operators;
+ghost use Rattle.ntx_eval.specs.Variables as variables;
+ghost use Rattle.ntx_eval.specs.inner.Exps as code;
+ghost use Rattle.ntx_eval.specs.inner.Places as places;
+ghost use Rattle.ntx_eval.specs.inner.Runs.{Runs, Enters, run_of, world_of, spot_of};
+
+use crate::evaluator::{Evaluator, fault, faulting};
 use crate::frame::Frame;
 use crate::machine::Machine;
-use crate::variables::read_variable;
 use crate::{Host, ScriptStop, is_decided};
-use ntx_num::Fail;
-use ntx_resolve::{Exp, Field, Function, Head, Operation, Prefix, Suffix};
-use ntx_syntax::UnaryOp;
-use ntx_values::{TableId, Value};
+use ntx_num::{Fail, NoMemory};
+use ntx_resolve::{Exp, Function, Operation};
+use ntx_syntax::{BinaryOp, UnaryOp};
+use ntx_values::Value;
 use sqlite_items::Items;
 use std::alloc::Global;
 
@@ -36,15 +46,24 @@ impl<
         frame: &Frame,
         line: u64,
         exp: &Exp,
-    ) -> Result<Value, Fail<ScriptStop>> {
+    ) -> Result<Value, Fail<ScriptStop>>
+        requires enters { Enters H.state H.Fits (world_of H.begin_step H.resume_step) self.now.functions self.now.most self.now.level (C.pre self.now.enter) (C.post self.now.enter) }
+        requires fits { H.Fits (H.state host.old) m.old.store }
+        requires most { m.old.charges ≤ self.now.most }
+        ensures runs { Runs H.Fits result m.old (H.state host.old) m.new (H.state host.new) (first_of (code.exp_code (run_of H.begin_step H.resume_step self.now.functions self.now.most self.now.level) exp.now (spot_of frame.now line))) }
+        ensures of { IfOk result (IsOf m.new.store) }
+    {
         match exp {
             Exp::Nil => Ok(Value::Nil),
             Exp::False => Ok(Value::Bool(false)),
             Exp::True => Ok(Value::Bool(true)),
             Exp::Numeral(n) => Ok(Value::Int(*n)),
             Exp::Text(bytes) => self.text(m, host, bytes.as_slice(), line),
-            Exp::Function(body) => self.function(m, frame, *body),
-            Exp::Prefix(prefix) => self.prefix(m, host, frame, line, prefix),
+            Exp::Function(body) => self.function(m, host, frame, line, *body),
+            Exp::Prefix(prefix) => {
+                let v = self.head(m, host, frame, line, &prefix.head)?;
+                self.suffixes(m, host, frame, line, v, prefix.suffixes.as_slice())
+            }
             Exp::Table(fields) => self.table(m, host, frame, line, fields.as_slice()),
             Exp::Binary(operand, others) => {
                 let v = self.one(m, host, frame, line, operand.get())?;
@@ -52,7 +71,7 @@ impl<
             }
             Exp::Unary(op, operand) => {
                 let v = self.one(m, host, frame, line, operand.get())?;
-                self.unary(m, line, *op, v)
+                self.unary(m, host, line, *op, v)
             }
         }
     }
@@ -66,12 +85,18 @@ impl<
         frame: &Frame,
         line: u64,
         exp: &Exp,
-    ) -> Result<Items<Value>, Fail<ScriptStop>> {
+    ) -> Result<Items<Value>, Fail<ScriptStop>>
+        requires enters { Enters H.state H.Fits (world_of H.begin_step H.resume_step) self.now.functions self.now.most self.now.level (C.pre self.now.enter) (C.post self.now.enter) }
+        requires fits { H.Fits (H.state host.old) m.old.store }
+        requires most { m.old.charges ≤ self.now.most }
+        ensures runs { Runs H.Fits result m.old (H.state host.old) m.new (H.state host.new) (code.exp_code (run_of H.begin_step H.resume_step self.now.functions self.now.most self.now.level) exp.now (spot_of frame.now line)) }
+        ensures of { IfOk result (AreOf m.new.store) }
+    {
         match exp {
             Exp::Prefix(prefix) => self.prefix_values(m, host, frame, line, prefix),
             _ => {
                 let v = self.one(m, host, frame, line, exp)?;
-                self.single(v)
+                Ok(self.single(v)?)
             }
         }
     }
@@ -85,18 +110,24 @@ impl<
         frame: &Frame,
         line: u64,
         exps: &[Exp],
-    ) -> Result<Items<Value>, Fail<ScriptStop>> {
+    ) -> Result<Items<Value>, Fail<ScriptStop>>
+        requires enters { Enters H.state H.Fits (world_of H.begin_step H.resume_step) self.now.functions self.now.most self.now.level (C.pre self.now.enter) (C.post self.now.enter) }
+        requires fits { H.Fits (H.state host.old) m.old.store }
+        requires most { m.old.charges ≤ self.now.most }
+        ensures runs { Runs H.Fits result m.old (H.state host.old) m.new (H.state host.new) (code.exps_code (run_of H.begin_step H.resume_step self.now.functions self.now.most self.now.level) exps.now (spot_of frame.now line)) }
+        ensures of { IfOk result (AreOf m.new.store) }
+    {
         let mut values = Items::new(self.alloc);
-        let mut left = exps.len();
-        for exp in exps {
-            left -= 1;
-            if left == 0 {
+        let mut exps = exps;
+        while let Some((exp, others)) = exps.split_first() {
+            if others.is_empty() {
                 let more = self.many(m, host, frame, line, exp)?;
                 values.append(more)?;
             } else {
                 let v = self.one(m, host, frame, line, exp)?;
                 values.push(v)?;
             }
+            exps = others;
         }
         Ok(values)
     }
@@ -111,204 +142,90 @@ impl<
         line: u64,
         operand: Value,
         others: &[Operation],
-    ) -> Result<Value, Fail<ScriptStop>> {
+    ) -> Result<Value, Fail<ScriptStop>>
+        requires enters { Enters H.state H.Fits (world_of H.begin_step H.resume_step) self.now.functions self.now.most self.now.level (C.pre self.now.enter) (C.post self.now.enter) }
+        requires fits { H.Fits (H.state host.old) m.old.store }
+        requires most { m.old.charges ≤ self.now.most }
+        requires operand { IsOf m.old.store operand }
+        ensures runs { Runs H.Fits result m.old (H.state host.old) m.new (H.state host.new) (code.operations (map (code.operation_code (run_of H.begin_step H.resume_step self.now.functions self.now.most self.now.level)) others.now) operand (spot_of frame.now line)) }
+        ensures of { IfOk result (IsOf m.new.store) }
+    {
         let mut v = operand;
-        for other in others {
+        let mut others = others;
+        while let Some((other, rest)) = others.split_first() {
             if !is_decided(other.operator, v) {
                 let w = self.one(m, host, frame, line, &other.operand)?;
-                v = faulting(line, m.binary(other.operator, v, w))?;
+                v = self.binary(m, host, line, other.operator, v, w)?;
             }
+            others = rest;
         }
         Ok(v)
     }
 
-    /// The value of a prefix's head.
-    #[cycle(exps)]
-    fn head(
+    /// What an operator gives of two operands.
+    fn binary(
         &self,
         m: &mut Machine,
         host: &mut H,
-        frame: &Frame,
         line: u64,
-        head: &Head,
-    ) -> Result<Value, Fail<ScriptStop>> {
-        match head {
-            Head::Name(name, variable) => {
-                read_variable(m, frame, name.as_slice(), *variable, line)
-            }
-            Head::Parenthesized(exp) => self.one(m, host, frame, line, exp.get()),
-        }
-    }
-
-    /// The first value of what stands after a prefix, applied to the value before it.
-    #[cycle(exps)]
-    fn suffix(
-        &self,
-        m: &mut Machine,
-        host: &mut H,
-        frame: &Frame,
-        line: u64,
-        v: Value,
-        suffix: &Suffix,
-    ) -> Result<Value, Fail<ScriptStop>> {
-        match suffix {
-            Suffix::Index(key) => {
-                let key = self.one(m, host, frame, line, key.get())?;
-                self.read_field(m, host, v, key, line)
-            }
-            Suffix::Field(name) => {
-                let key = self.text(m, host, name.as_slice(), line)?;
-                self.read_field(m, host, v, key, line)
-            }
-            Suffix::Call(arguments) => {
-                let values = self.values(m, host, frame, line, arguments.as_slice())?;
-                let results = self.call(m, host, v, values.as_slice(), line)?;
-                Ok(first(&results))
-            }
-        }
-    }
-
-    /// The first value of a prefix.
-    #[cycle(exps)]
-    pub fn prefix(
-        &self,
-        m: &mut Machine,
-        host: &mut H,
-        frame: &Frame,
-        line: u64,
-        prefix: &Prefix,
-    ) -> Result<Value, Fail<ScriptStop>> {
-        let mut v = self.head(m, host, frame, line, &prefix.head)?;
-        for suffix in prefix.suffixes.as_slice() {
-            v = self.suffix(m, host, frame, line, v, suffix)?;
-        }
-        Ok(v)
-    }
-
-    /// All values of a prefix: those of a call, if it ends in one.
-    #[cycle(exps)]
-    fn prefix_values(
-        &self,
-        m: &mut Machine,
-        host: &mut H,
-        frame: &Frame,
-        line: u64,
-        prefix: &Prefix,
-    ) -> Result<Items<Value>, Fail<ScriptStop>> {
-        let mut v = self.head(m, host, frame, line, &prefix.head)?;
-        let mut left = prefix.suffixes.len();
-        for suffix in prefix.suffixes.as_slice() {
-            left -= 1;
-            if let (0, Suffix::Call(arguments)) = (left, suffix) {
-                let values = self.values(m, host, frame, line, arguments.as_slice())?;
-                return self.call(m, host, v, values.as_slice(), line);
-            }
-            v = self.suffix(m, host, frame, line, v, suffix)?;
-        }
-        self.single(v)
-    }
-
-    /// A new table with these fields.
-    #[cycle(exps)]
-    fn table(
-        &self,
-        m: &mut Machine,
-        host: &mut H,
-        frame: &Frame,
-        line: u64,
-        fields: &[Field],
-    ) -> Result<Value, Fail<ScriptStop>> {
-        let t = faulting(line, m.new_table())?;
-        let mut number = 1i64;
-        let mut left = fields.len();
-        for field in fields {
-            left -= 1;
-            match field {
-                Field::Keyed(key, v) => {
-                    let key = self.one(m, host, frame, line, key.get())?;
-                    let v = self.one(m, host, frame, line, v.get())?;
-                    self.write_field(m, host, Value::Table(t), key, v, line)?;
-                }
-                Field::Named(name, v) => {
-                    let key = self.text(m, host, name.as_slice(), line)?;
-                    let v = self.one(m, host, frame, line, v.get())?;
-                    self.write_field(m, host, Value::Table(t), key, v, line)?;
-                }
-                Field::Positional(exp) => {
-                    if left == 0 {
-                        let values = self.many(m, host, frame, line, exp)?;
-                        self.place_values(m, t, number, values.as_slice(), line)?;
-                    } else {
-                        let v = self.one(m, host, frame, line, exp)?;
-                        self.place_value(m, t, number, v, line)?;
-                        number += 1;
-                    }
-                }
-            }
-        }
-        Ok(Value::Table(t))
-    }
-
-    /// One value, as the only one.
-    fn single(&self, v: Value) -> Result<Items<Value>, Fail<ScriptStop>> {
-        let mut values = Items::new(self.alloc);
-        values.push(v)?;
-        Ok(values)
-    }
-
-    /// A new function with this body.
-    pub fn function(
-        &self,
-        m: &mut Machine,
-        frame: &Frame,
-        body: u64,
-    ) -> Result<Value, Fail<ScriptStop>> {
-        Ok(m.new_function(body, frame.function, frame.locals.as_slice())?)
+        op: BinaryOp,
+        a: Value,
+        b: Value,
+    ) -> Result<Value, Fail<ScriptStop>>
+        requires fits { H.Fits (H.state host.old) m.old.store }
+        requires first { IsOf m.old.store a }
+        requires second { IsOf m.old.store b }
+        ensures runs { Runs H.Fits result m.old (H.state host.old) m.new (H.state host.new) (variables.on_store line (operators.binary_step op a b)) }
+        ensures of { IfOk result (IsOf m.new.store) }
+    {
+        let _ = host;
+        faulting(line, m.binary(op, a, b))
     }
 
     /// What an operator gives of one operand.
     fn unary(
         &self,
         m: &mut Machine,
+        host: &mut H,
         line: u64,
         op: UnaryOp,
-        v: Value,
-    ) -> Result<Value, Fail<ScriptStop>> {
-        match m.unary(op, v) {
+        a: Value,
+    ) -> Result<Value, Fail<ScriptStop>>
+        requires fits { H.Fits (H.state host.old) m.old.store }
+        requires operand { IsOf m.old.store a }
+        ensures runs { Runs H.Fits result m.old (H.state host.old) m.new (H.state host.new) (variables.of_store line (operators.unary_of op a)) }
+        ensures of { IfOk result (IsOf m.new.store) }
+    {
+        let _ = host;
+        match m.unary(op, a) {
             Ok(v) => Ok(v),
             Err(why) => Err(fault(line, why)),
         }
     }
 
-    /// Sets the value at a number. Nil sets nothing.
-    fn place_value(
+    /// A new function with this body.
+    pub fn function(
         &self,
         m: &mut Machine,
-        t: TableId,
-        number: i64,
-        v: Value,
+        host: &mut H,
+        frame: &Frame,
         line: u64,
-    ) -> Result<(), Fail<ScriptStop>> {
-        if v.is_nil() {
-            return Ok(());
-        }
-        faulting(line, m.set(t, Value::Int(number), v))
+        body: u64,
+    ) -> Result<Value, Fail<ScriptStop>>
+        requires fits { H.Fits (H.state host.old) m.old.store }
+        ensures runs { Runs H.Fits result m.old (H.state host.old) m.new (H.state host.new) (places.new_function body (spot_of frame.now line)) }
+        ensures of { IfOk result (IsOf m.new.store) }
+    {
+        let _ = (host, line);
+        Ok(m.new_function(body, frame.function, frame.locals.as_slice())?)
     }
 
-    /// Sets the values at the numbers from one on.
-    fn place_values(
-        &self,
-        m: &mut Machine,
-        t: TableId,
-        from: i64,
-        values: &[Value],
-        line: u64,
-    ) -> Result<(), Fail<ScriptStop>> {
-        let mut number = from;
-        for v in values {
-            self.place_value(m, t, number, *v, line)?;
-            number += 1;
-        }
-        Ok(())
+    /// One value, as the only one.
+    pub fn single(&self, v: Value) -> Result<Items<Value>, NoMemory>
+        ensures { IfOk result (λ vs. vs ≡ v ∷ []) }
+    {
+        let mut values = Items::new(self.alloc);
+        values.push(v)?;
+        Ok(values)
     }
 }

@@ -1,5 +1,11 @@
 //! The steps of a host.
 
+ghost use Rattle.std.specs.Prelude.{◌≡◌, ◌≤◌, ◌∷◌, [], ℕ, IfOk};
+ghost use Rattle.ntx_values.specs.State.{IsOf, AreOf};
+ghost use Rattle.ntx_eval.specs.Host.{StepIsOf};
+ghost use Rattle.ntx_eval.specs.Setting as setting;
+ghost use Rattle.ntx_eval.specs.inner.Runs.{Runs, Enters, run_of, world_of, host_stop};
+
 use crate::evaluator::{Evaluator, fault};
 use crate::machine::Machine;
 use crate::{Host, HostStep, ScriptStop};
@@ -10,7 +16,9 @@ use sqlite_items::Items;
 use std::alloc::Global;
 
 /// Why a script stops where its host fails. There is no line outside the chunk and every function of the script.
-fn host_fault(line: u64, why: LuaWhy) -> Fail<ScriptStop> {
+fn host_fault(line: u64, why: LuaWhy) -> Fail<ScriptStop>
+    ensures { result ≡ host_stop why line }
+{
     if line == 0 {
         return Fail::Is(ScriptStop::Host(why));
     }
@@ -39,7 +47,14 @@ impl<
         host: &mut H,
         first: HostStep,
         line: u64,
-    ) -> Result<Items<Value>, Fail<ScriptStop>> {
+    ) -> Result<Items<Value>, Fail<ScriptStop>>
+        requires enters { Enters H.state H.Fits (world_of H.begin_step H.resume_step) self.now.functions self.now.most self.now.level (C.pre self.now.enter) (C.post self.now.enter) }
+        requires fits { H.Fits (H.state host.old) m.old.store }
+        requires most { m.old.charges ≤ self.now.most }
+        requires step { StepIsOf m.old.store first }
+        ensures runs { (k : ℕ) → m.old.charges ≤ k → Runs H.Fits result m.old (H.state host.old) m.new (H.state host.new) (setting.follow_at_most (run_of H.begin_step H.resume_step self.now.functions self.now.most self.now.level) k first line) }
+        ensures of { IfOk result (AreOf m.new.store) }
+    {
         let mut step = first;
         loop {
             match step {
@@ -61,7 +76,14 @@ impl<
         primitive: Primitive,
         args: &[Value],
         line: u64,
-    ) -> Result<Items<Value>, Fail<ScriptStop>> {
+    ) -> Result<Items<Value>, Fail<ScriptStop>>
+        requires enters { Enters H.state H.Fits (world_of H.begin_step H.resume_step) self.now.functions self.now.most self.now.level (C.pre self.now.enter) (C.post self.now.enter) }
+        requires fits { H.Fits (H.state host.old) m.old.store }
+        requires most { m.old.charges ≤ self.now.most }
+        requires args { AreOf m.old.store args.now }
+        ensures runs { Runs H.Fits result m.old (H.state host.old) m.new (H.state host.new) (setting.host_call (run_of H.begin_step H.resume_step self.now.functions self.now.most self.now.level) primitive args.now line) }
+        ensures of { IfOk result (AreOf m.new.store) }
+    {
         let step = m.begin(host, primitive, args)?;
         self.follow(m, host, step, line)
     }

@@ -21,8 +21,10 @@ mod laws;
 mod machine;
 mod opening;
 mod operators;
+mod prefixes;
 mod stats;
 mod stop;
+mod tables;
 #[cfg(test)]
 mod tests;
 mod texts;

@@ -3,7 +3,6 @@
 use crate::evaluator::Evaluator;
 use crate::frame::{Flow, Frame};
 use crate::machine::Machine;
-use crate::variables::{declare, declare_all, read_variable, write_variable};
 use crate::{Host, ScriptStop};
 use ntx_num::Fail;
 use ntx_resolve::{Call, Exp, Function, Var, Variable};
@@ -81,7 +80,7 @@ impl<
             Some((t, key)) => self.write_field(m, host, t, key, v, line),
             None => match var {
                 Var::Name(name, variable) => {
-                    write_variable(m, frame, name.as_slice(), *variable, v, line)
+                    self.write_variable(m, host, frame, name.as_slice(), *variable, v, line)
                 }
                 _ => Ok(()),
             },
@@ -146,11 +145,11 @@ impl<
         match (names, exps) {
             ([_], [exp]) => {
                 let v = self.one(m, host, frame, line, exp)?;
-                declare(m, &mut frame.locals, v)
+                self.declare(m, host, &mut frame.locals, v)
             }
             _ => {
                 let values = self.values(m, host, frame, line, exps)?;
-                declare_all(m, &mut frame.locals, names, values.as_slice())
+                self.declare_all(m, host, &mut frame.locals, names, values.as_slice())
             }
         }
     }
@@ -159,12 +158,14 @@ impl<
     pub fn local_function(
         &self,
         m: &mut Machine,
+        host: &mut H,
         frame: &mut Frame,
+        line: u64,
         body: u64,
     ) -> Result<(), Fail<ScriptStop>> {
         let cell = m.new_cell(Value::Nil)?;
         frame.locals.push(cell)?;
-        let f = self.function(m, frame, body)?;
+        let f = self.function(m, host, frame, line, body)?;
         m.write(cell, f);
         Ok(())
     }
@@ -183,13 +184,13 @@ impl<
     ) -> Result<(), Fail<ScriptStop>> {
         match path.split_first() {
             None => {
-                let f = self.function(m, frame, body)?;
-                write_variable(m, frame, name.as_slice(), variable, f, line)
+                let f = self.function(m, host, frame, line, body)?;
+                self.write_variable(m, host, frame, name.as_slice(), variable, f, line)
             }
             Some((next, others)) => {
-                let v = read_variable(m, frame, name.as_slice(), variable, line)?;
+                let v = self.read_variable(m, host, frame, name.as_slice(), variable, line)?;
                 let (t, key) = self.reach(m, host, line, v, next, others)?;
-                let f = self.function(m, frame, body)?;
+                let f = self.function(m, host, frame, line, body)?;
                 self.write_field(m, host, t, key, f, line)
             }
         }

@@ -44,14 +44,14 @@ abbrev pub suffixes : {S : Type 0} → List (SuffixCode S) → List Value → Ex
 suffixes [] vs spot = give vs
 suffixes (m ∷ ms) vs spot = m (first vs) spot >>= λ results. suffixes ms results spot
 
-abbrev pub place_value : {S : Type 0} → Setting (Kept S) → TableId → ℕ → Value → Spot → Action (Kept S) ℕ
-place_value run t n v spot =
+abbrev pub place_value : {S : Type 0} → Setting (Kept S) → TableId → ℕ → Value → ℕ → Action (Kept S) ℕ
+place_value run t n v line =
     if is_nil v then give (n + 1)
-    else write_field run (Table t) (Int (pos n)) v spot.line >> give (n + 1)
+    else write_field run (Table t) (Int (pos n)) v line >> give (n + 1)
 
-abbrev pub place_values : {S : Type 0} → Setting (Kept S) → TableId → ℕ → List Value → Spot → Action (Kept S) ℕ
-place_values run t n [] spot = give n
-place_values run t n (v ∷ vs) spot = place_value run t n v spot >>= λ next. place_values run t next vs spot
+abbrev pub place_values : {S : Type 0} → Setting (Kept S) → TableId → ℕ → List Value → ℕ → Action (Kept S) ℕ
+place_values run t n [] line = give n
+place_values run t n (v ∷ vs) line = place_value run t n v line >>= λ next. place_values run t next vs line
 
 abbrev pub fill : {S : Type 0} → List (FieldCode S) → TableId → ℕ → Spot → Action (Kept S) (Unit {0})
 fill [] t n spot = give tt
@@ -71,8 +71,8 @@ field_layer run (Field-F.Named name m) t n last spot = do
   v ← first_of (m spot)
   write_field run (Table t) k v spot.line
   give n
-field_layer run (Field-F.Positional m) t n true spot = m spot >>= λ vs. place_values run t n vs spot
-field_layer run (Field-F.Positional m) t n false spot = first_of (m spot) >>= λ v. place_value run t n v spot
+field_layer run (Field-F.Positional m) t n true spot = m spot >>= λ vs. place_values run t n vs spot.line
+field_layer run (Field-F.Positional m) t n false spot = first_of (m spot) >>= λ v. place_value run t n v spot.line
 
 abbrev pub head_layer : {S : Type 0} → Head-F (ExpCode S) (FieldCode S) (ExpCode S) (SuffixCode S) (OperationCode S) (ExpCode S) → ExpCode S
 head_layer (Head-F.Name name v) spot = one (read_variable name v spot)

@@ -33,10 +33,13 @@ abbrev pub upvalues : List Closure → Option FuncId → List ℕ
 upvalues closures None = []
 upvalues closures (Some f) = cells_of_closure (slice_get closures f.number)
 
+abbrev pub cell_in : Variable → Option FuncId → List ℕ → List Closure → Option ℕ
+cell_in (variable.Local place) function locals closures = slice_get locals place
+cell_in (variable.Upvalue place) function locals closures = slice_get (upvalues closures function) place
+cell_in variable.Global function locals closures = None
+
 abbrev pub cell_of : {S : Type 0} → Variable → Spot → State (Kept S) → Option ℕ
-cell_of (variable.Local place) spot s = slice_get spot.locals place
-cell_of (variable.Upvalue place) spot s = slice_get (upvalues s.host.closures spot.function) place
-cell_of variable.Global spot s = None
+cell_of v spot s = cell_in v spot.function spot.locals s.host.closures
 
 abbrev pub read_at : {S : Type 0} → List ℕ → ℕ → Option ℕ → Action (Kept S) Value
 read_at name line (Some cell) = read_cell cell

@@ -3,7 +3,7 @@
 --     Runs fits result old new action     from an old machine and host to new ones the call does the action
 --     faults_at line result               a refusal as a fault at a line
 --     Enters                              what is asked of what enters a function
-use Rattle.std.specs.Prelude.{◌≡◌, ℕ, ◌<◌, ◌≤◌, List, Result, Ok, Err, IfOk}
+use Rattle.std.specs.Prelude.{◌≡◌, ℕ, zero, suc, ◌<◌, ◌≤◌, List, Result, Ok, Err, IfOk}
 use Rattle.std.specs.declared.alloc.Global.{Global}
 use denote.Ref.{MutBor, Bor}
 use Rattle.ntx_num.specs.declared.answer.Fail.{Fail}
@@ -38,6 +38,11 @@ fault_at line (Is why) = Is (stopped.Fault (record { line = line; why = why }))
 abbrev pub faults_at : {A : Type 0} → ℕ → Result A (Fail LuaWhy) → Result A (Fail ScriptStop)
 faults_at line (Ok a) = Ok a
 faults_at line (Err fail) = Err (fault_at line fail)
+
+-- why a script stops where its host fails
+abbrev pub host_stop : LuaWhy → ℕ → Fail ScriptStop
+host_stop why zero = Is (stopped.Host why)
+host_stop why (suc line) = Is (stopped.Fault (record { line = suc line; why = why }))
 
 -- Steps never rise, numbers of the store stay valid, and the host's state fits the store as before.
 pub record Runs {S A : Type 0} (fits : S → StoreState → Type 0) (result : Result A (Fail ScriptStop)) (old : MachineState) (host : S) (new : MachineState) (after : S)
