@@ -1,34 +1,22 @@
-//! Blocks, loops and choices.
+//! Blocks, statements and choices.
 
-use crate::evaluator::{Evaluator, fault, first, nth};
+ghost use Rattle.std.specs.Prelude.{◌≡◌, ◌≤◌, ℕ, Some, option_map, length, take, map, IfOk, OnOk};
+ghost use Rattle.ntx_num.specs.Answer.{result_map};
+ghost use Rattle.ntx_eval.specs.inner.Code.{BlockCode};
+ghost use Rattle.ntx_eval.specs.inner.Exps as code;
+ghost use Rattle.ntx_eval.specs.inner.Stats as stats;
+ghost use Rattle.ntx_eval.specs.inner.Turns as turns;
+ghost use Rattle.ntx_eval.specs.inner.Runs.{Runs, Enters, FlowIsOf, run_of, world_of, spot_of};
+
+use crate::evaluator::Evaluator;
 use crate::frame::{Flow, Frame};
 use crate::machine::Machine;
-use crate::stats::onward;
 use crate::{Host, ScriptStop, is_true};
 use ntx_num::Fail;
 use ntx_resolve::{Block, Exp, Function, IfArm, Return, Stat, StatKind};
-use ntx_syntax::LocalName;
-use ntx_values::{LuaWhy, Value};
+use ntx_values::Value;
 use sqlite_items::{Boxed, Items};
 use std::alloc::Global;
-
-/// Whether a value of a numeric `for` is not beyond its limit.
-fn is_within_limit(limit: i64, step: i64, i: i64) -> bool {
-    if step < 0 { limit <= i } else { i <= limit }
-}
-
-/// The start, the limit and the step of a numeric `for`.
-fn range_of(start: Value, limit: Value, step: Value) -> Result<(i64, i64, i64), LuaWhy> {
-    match (start, limit, step) {
-        (Value::Int(start), Value::Int(limit), Value::Int(step)) => {
-            if step == 0 {
-                return Err(LuaWhy::ForStep);
-            }
-            Ok((start, limit, step))
-        }
-        _ => Err(LuaWhy::WrongType),
-    }
-}
 
 impl<
     'a,
@@ -53,13 +41,23 @@ impl<
         host: &mut H,
         frame: &mut Frame,
         block: &Block,
-    ) -> Result<Flow, Fail<ScriptStop>> {
-        for stat in block.stats.as_slice() {
+    ) -> Result<Flow, Fail<ScriptStop>>
+        requires enters { Enters H.state H.Fits (world_of H.begin_step H.resume_step) self.now.functions self.now.most self.now.level (C.pre self.now.enter) (C.post self.now.enter) }
+        requires fits { H.Fits (H.state host.old) m.old.store }
+        requires most { m.old.charges ≤ self.now.most }
+        ensures runs { (line : ℕ) → Runs H.Fits (result_map (λ flow. (flow, frame.new.locals.items)) result) m.old (H.state host.old) m.new (H.state host.new) (stats.block_code (run_of H.begin_step H.resume_step self.now.functions self.now.most self.now.level) block.now (spot_of frame.old line)) }
+        ensures of { IfOk result (FlowIsOf m.new.store) }
+        ensures function { OnOk result (frame.new.function ≡ frame.old.function) }
+        ensures kept { OnOk result (take (length frame.old.locals.items) frame.new.locals.items ≡ frame.old.locals.items) }
+    {
+        let mut stats = block.stats.as_slice();
+        while let Some((stat, others)) = stats.split_first() {
             match self.stat(m, host, frame, stat)? {
                 Flow::Onward => {}
                 Flow::Broken => return Ok(Flow::Broken),
                 Flow::Returned(values) => return Ok(Flow::Returned(values)),
             }
+            stats = others;
         }
         match &block.last {
             None => Ok(Flow::Onward),
@@ -69,13 +67,20 @@ impl<
 
     /// A block, whose names are in scope in it alone.
     #[cycle(blocks)]
-    fn block(
+    pub fn block(
         &self,
         m: &mut Machine,
         host: &mut H,
         frame: &mut Frame,
         block: &Block,
-    ) -> Result<Flow, Fail<ScriptStop>> {
+    ) -> Result<Flow, Fail<ScriptStop>>
+        requires enters { Enters H.state H.Fits (world_of H.begin_step H.resume_step) self.now.functions self.now.most self.now.level (C.pre self.now.enter) (C.post self.now.enter) }
+        requires fits { H.Fits (H.state host.old) m.old.store }
+        requires most { m.old.charges ≤ self.now.most }
+        ensures runs { (line : ℕ) → Runs H.Fits result m.old (H.state host.old) m.new (H.state host.new) (turns.block_in (stats.block_code (run_of H.begin_step H.resume_step self.now.functions self.now.most self.now.level) block.now) (spot_of frame.old line)) }
+        ensures of { IfOk result (FlowIsOf m.new.store) }
+        ensures frame { OnOk result (frame.new ≡ frame.old) }
+    {
         let count = frame.locals.len();
         let flow = self.open_block(m, host, frame, block)?;
         frame.locals.truncate(count);
@@ -89,13 +94,19 @@ impl<
         host: &mut H,
         frame: &Frame,
         last: &Return,
-    ) -> Result<Flow, Fail<ScriptStop>> {
+    ) -> Result<Flow, Fail<ScriptStop>>
+        requires enters { Enters H.state H.Fits (world_of H.begin_step H.resume_step) self.now.functions self.now.most self.now.level (C.pre self.now.enter) (C.post self.now.enter) }
+        requires fits { H.Fits (H.state host.old) m.old.store }
+        requires most { m.old.charges ≤ self.now.most }
+        ensures runs { (line : ℕ) → Runs H.Fits result m.old (H.state host.old) m.new (H.state host.new) (stats.return_code (run_of H.begin_step H.resume_step self.now.functions self.now.most self.now.level) last.now (spot_of frame.now line)) }
+        ensures of { IfOk result (FlowIsOf m.new.store) }
+    {
         self.charge(m, host, last.line)?;
         let values = self.values(m, host, frame, last.line, last.values.as_slice())?;
         Ok(Flow::Returned(values))
     }
 
-    /// A statement, after its charge.
+    /// A statement, with its charge.
     #[cycle(blocks)]
     fn stat(
         &self,
@@ -103,7 +114,15 @@ impl<
         host: &mut H,
         frame: &mut Frame,
         stat: &Stat,
-    ) -> Result<Flow, Fail<ScriptStop>> {
+    ) -> Result<Flow, Fail<ScriptStop>>
+        requires enters { Enters H.state H.Fits (world_of H.begin_step H.resume_step) self.now.functions self.now.most self.now.level (C.pre self.now.enter) (C.post self.now.enter) }
+        requires fits { H.Fits (H.state host.old) m.old.store }
+        requires most { m.old.charges ≤ self.now.most }
+        ensures runs { (line : ℕ) → Runs H.Fits (result_map (λ flow. (flow, frame.new.locals.items)) result) m.old (H.state host.old) m.new (H.state host.new) (stats.stat_code (run_of H.begin_step H.resume_step self.now.functions self.now.most self.now.level) stat.now (spot_of frame.old line)) }
+        ensures of { IfOk result (FlowIsOf m.new.store) }
+        ensures function { OnOk result (frame.new.function ≡ frame.old.function) }
+        ensures kept { OnOk result (take (length frame.old.locals.items) frame.new.locals.items ≡ frame.old.locals.items) }
+    {
         if matches!(&stat.kind, StatKind::Empty) {
             return Ok(Flow::Onward);
         }
@@ -120,13 +139,25 @@ impl<
         frame: &mut Frame,
         line: u64,
         kind: &StatKind,
-    ) -> Result<Flow, Fail<ScriptStop>> {
+    ) -> Result<Flow, Fail<ScriptStop>>
+        requires enters { Enters H.state H.Fits (world_of H.begin_step H.resume_step) self.now.functions self.now.most self.now.level (C.pre self.now.enter) (C.post self.now.enter) }
+        requires fits { H.Fits (H.state host.old) m.old.store }
+        requires most { m.old.charges ≤ self.now.most }
+        ensures runs { (does : BlockCode H.State) → stats.kind_code (run_of H.begin_step H.resume_step self.now.functions self.now.most self.now.level) kind.now ≡ Some does → Runs H.Fits (result_map (λ flow. (flow, frame.new.locals.items)) result) m.old (H.state host.old) m.new (H.state host.new) (does (spot_of frame.old line)) }
+        ensures of { IfOk result (FlowIsOf m.new.store) }
+        ensures function { OnOk result (frame.new.function ≡ frame.old.function) }
+        ensures kept { OnOk result (take (length frame.old.locals.items) frame.new.locals.items ≡ frame.old.locals.items) }
+    {
         match kind {
             StatKind::Empty => Ok(Flow::Onward),
             StatKind::Assign(vars, exps) => {
-                onward(self.assign(m, host, frame, line, vars.as_slice(), exps.as_slice()))
+                self.assign(m, host, frame, line, vars.as_slice(), exps.as_slice())?;
+                Ok(Flow::Onward)
             }
-            StatKind::Call(call) => onward(self.call_stat(m, host, frame, line, call.get())),
+            StatKind::Call(call) => {
+                self.call_stat(m, host, frame, line, call.get())?;
+                Ok(Flow::Onward)
+            }
             StatKind::Break => Ok(Flow::Broken),
             StatKind::Do(block) => self.block(m, host, frame, block.get()),
             StatKind::While(condition, block) => {
@@ -138,16 +169,10 @@ impl<
             StatKind::If(arms, otherwise) => {
                 self.choose(m, host, frame, line, arms.as_slice(), otherwise)
             }
-            StatKind::NumericFor(_, start, limit, step, block) => self.numeric_for(
-                m,
-                host,
-                frame,
-                line,
-                start.get(),
-                limit.get(),
-                step,
-                block.get(),
-            ),
+            StatKind::NumericFor(_, start, limit, step, block) => {
+                let range = self.range(m, host, frame, line, start.get(), limit.get(), step)?;
+                self.numeric_loop(m, host, frame, line, range, block.get())
+            }
             StatKind::GenericFor(names, exps, block) => self.generic_for(
                 m,
                 host,
@@ -157,93 +182,46 @@ impl<
                 exps.as_slice(),
                 block.get(),
             ),
-            StatKind::Function(name, variable, path, body) => onward(self.function_stat(
-                m,
-                host,
-                frame,
-                line,
-                name,
-                *variable,
-                path.as_slice(),
-                *body,
-            )),
-            StatKind::LocalFunction(_, body) => onward(self.local_function(m, host, frame, line, *body)),
+            StatKind::Function(name, variable, path, body) => {
+                self.function_stat(
+                    m,
+                    host,
+                    frame,
+                    line,
+                    name,
+                    *variable,
+                    path.as_slice(),
+                    *body,
+                )?;
+                Ok(Flow::Onward)
+            }
+            StatKind::LocalFunction(_, body) => {
+                self.local_function(m, host, frame, line, *body)?;
+                Ok(Flow::Onward)
+            }
             StatKind::Local(names, exps) => {
-                onward(self.local(m, host, frame, line, names.as_slice(), exps.as_slice()))
+                self.local(m, host, frame, line, names.as_slice(), exps.as_slice())?;
+                Ok(Flow::Onward)
             }
         }
     }
 
     /// Whether a condition holds.
-    fn holds(
+    pub fn holds(
         &self,
         m: &mut Machine,
         host: &mut H,
         frame: &Frame,
         line: u64,
         condition: &Exp,
-    ) -> Result<bool, Fail<ScriptStop>> {
+    ) -> Result<bool, Fail<ScriptStop>>
+        requires enters { Enters H.state H.Fits (world_of H.begin_step H.resume_step) self.now.functions self.now.most self.now.level (C.pre self.now.enter) (C.post self.now.enter) }
+        requires fits { H.Fits (H.state host.old) m.old.store }
+        requires most { m.old.charges ≤ self.now.most }
+        ensures runs { Runs H.Fits result m.old (H.state host.old) m.new (H.state host.new) (turns.holds (code.exp_code (run_of H.begin_step H.resume_step self.now.functions self.now.most self.now.level) condition.now) (spot_of frame.now line)) }
+    {
         let v = self.one(m, host, frame, line, condition)?;
         Ok(is_true(v))
-    }
-
-    /// `while exp do block end`
-    #[cycle(blocks)]
-    fn while_loop(
-        &self,
-        m: &mut Machine,
-        host: &mut H,
-        frame: &mut Frame,
-        line: u64,
-        condition: &Exp,
-        block: &Block,
-    ) -> Result<Flow, Fail<ScriptStop>> {
-        loop {
-            self.charge(m, host, line)?;
-            if !self.holds(m, host, frame, line, condition)? {
-                return Ok(Flow::Onward);
-            }
-            match self.block(m, host, frame, block)? {
-                Flow::Onward => {}
-                Flow::Broken => return Ok(Flow::Onward),
-                Flow::Returned(values) => return Ok(Flow::Returned(values)),
-            }
-        }
-    }
-
-    /// `repeat block until exp`. The names of the block are in scope in the condition.
-    #[cycle(blocks)]
-    fn repeat_loop(
-        &self,
-        m: &mut Machine,
-        host: &mut H,
-        frame: &mut Frame,
-        line: u64,
-        block: &Block,
-        condition: &Exp,
-    ) -> Result<Flow, Fail<ScriptStop>> {
-        let count = frame.locals.len();
-        loop {
-            let flow = self.open_block(m, host, frame, block)?;
-            match flow {
-                Flow::Onward => {
-                    self.charge(m, host, line)?;
-                    let ends = self.holds(m, host, frame, line, condition)?;
-                    frame.locals.truncate(count);
-                    if ends {
-                        return Ok(Flow::Onward);
-                    }
-                }
-                Flow::Broken => {
-                    frame.locals.truncate(count);
-                    return Ok(Flow::Onward);
-                }
-                Flow::Returned(values) => {
-                    frame.locals.truncate(count);
-                    return Ok(Flow::Returned(values));
-                }
-            }
-        }
     }
 
     /// The block of the first arm whose condition holds, and else that of `else`.
@@ -256,126 +234,24 @@ impl<
         line: u64,
         arms: &[IfArm],
         otherwise: &Option<Boxed<Block>>,
-    ) -> Result<Flow, Fail<ScriptStop>> {
-        for arm in arms {
+    ) -> Result<Flow, Fail<ScriptStop>>
+        requires enters { Enters H.state H.Fits (world_of H.begin_step H.resume_step) self.now.functions self.now.most self.now.level (C.pre self.now.enter) (C.post self.now.enter) }
+        requires fits { H.Fits (H.state host.old) m.old.store }
+        requires most { m.old.charges ≤ self.now.most }
+        ensures runs { Runs H.Fits result m.old (H.state host.old) m.new (H.state host.new) (stats.choose (map (stats.arm_code (run_of H.begin_step H.resume_step self.now.functions self.now.most self.now.level)) arms.now) (option_map (stats.block_code (run_of H.begin_step H.resume_step self.now.functions self.now.most self.now.level)) otherwise.now) (spot_of frame.old line)) }
+        ensures of { IfOk result (FlowIsOf m.new.store) }
+        ensures frame { OnOk result (frame.new ≡ frame.old) }
+    {
+        let mut arms = arms;
+        while let Some((arm, others)) = arms.split_first() {
             if self.holds(m, host, frame, line, &arm.condition)? {
                 return self.block(m, host, frame, &arm.block);
             }
+            arms = others;
         }
         match otherwise {
             None => Ok(Flow::Onward),
             Some(block) => self.block(m, host, frame, block.get()),
-        }
-    }
-
-    /// The step of a numeric `for`, which is 1 if none is written.
-    fn step_of(
-        &self,
-        m: &mut Machine,
-        host: &mut H,
-        frame: &Frame,
-        line: u64,
-        step: &Option<Boxed<Exp>>,
-    ) -> Result<Value, Fail<ScriptStop>> {
-        match step {
-            None => Ok(Value::Int(1)),
-            Some(exp) => self.one(m, host, frame, line, exp.get()),
-        }
-    }
-
-    /// `for Name = exp , exp [, exp] do block end`
-    #[cycle(blocks)]
-    fn numeric_for(
-        &self,
-        m: &mut Machine,
-        host: &mut H,
-        frame: &mut Frame,
-        line: u64,
-        start: &Exp,
-        limit: &Exp,
-        step: &Option<Boxed<Exp>>,
-        block: &Block,
-    ) -> Result<Flow, Fail<ScriptStop>> {
-        let start = self.one(m, host, frame, line, start)?;
-        let limit = self.one(m, host, frame, line, limit)?;
-        let step = self.step_of(m, host, frame, line, step)?;
-        match range_of(start, limit, step) {
-            Err(why) => Err(fault(line, why)),
-            Ok((start, limit, step)) => {
-                self.numeric_loop(m, host, frame, line, start, limit, step, block)
-            }
-        }
-    }
-
-    /// The turns of a numeric `for`.
-    #[cycle(blocks)]
-    fn numeric_loop(
-        &self,
-        m: &mut Machine,
-        host: &mut H,
-        frame: &mut Frame,
-        line: u64,
-        start: i64,
-        limit: i64,
-        step: i64,
-        block: &Block,
-    ) -> Result<Flow, Fail<ScriptStop>> {
-        let count = frame.locals.len();
-        let mut next = Some(start);
-        loop {
-            self.charge(m, host, line)?;
-            match next {
-                None => return Ok(Flow::Onward),
-                Some(i) => {
-                    if !is_within_limit(limit, step, i) {
-                        return Ok(Flow::Onward);
-                    }
-                    self.declare(m, host, &mut frame.locals, Value::Int(i))?;
-                    let flow = self.open_block(m, host, frame, block)?;
-                    frame.locals.truncate(count);
-                    match flow {
-                        Flow::Onward => {}
-                        Flow::Broken => return Ok(Flow::Onward),
-                        Flow::Returned(values) => return Ok(Flow::Returned(values)),
-                    }
-                    next = i.checked_add(step);
-                }
-            }
-        }
-    }
-
-    /// `for namelist in explist do block end`
-    #[cycle(blocks)]
-    fn generic_for(
-        &self,
-        m: &mut Machine,
-        host: &mut H,
-        frame: &mut Frame,
-        line: u64,
-        names: &[LocalName],
-        exps: &[Exp],
-        block: &Block,
-    ) -> Result<Flow, Fail<ScriptStop>> {
-        let values = self.values(m, host, frame, line, exps)?;
-        let iterator = first(&values);
-        let walked = nth(values.as_slice(), 1);
-        let count = frame.locals.len();
-        let mut control = nth(values.as_slice(), 2);
-        loop {
-            self.charge(m, host, line)?;
-            let values = self.entered(m, host, iterator, &[walked, control], line)?;
-            control = first(&values);
-            if control.is_nil() {
-                return Ok(Flow::Onward);
-            }
-            self.declare_all(m, host, &mut frame.locals, names, values.as_slice())?;
-            let flow = self.open_block(m, host, frame, block)?;
-            frame.locals.truncate(count);
-            match flow {
-                Flow::Onward => {}
-                Flow::Broken => return Ok(Flow::Onward),
-                Flow::Returned(values) => return Ok(Flow::Returned(values)),
-            }
         }
     }
 }

@@ -18,6 +18,7 @@ mod host;
 mod hosting;
 mod integers;
 mod laws;
+mod loops;
 mod machine;
 mod opening;
 mod operators;

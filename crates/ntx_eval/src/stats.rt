@@ -1,8 +1,15 @@
 //! Statements that run no other statement.
 
+ghost use Rattle.std.specs.Prelude.{◌≡◌, ◌≤◌, All, IfOk, OnOk};
+ghost use Rattle.ntx_num.specs.Answer.{result_map};
+ghost use Rattle.ntx_values.specs.State.{IsOf, AreOf};
+ghost use Rattle.ntx_eval.specs.inner.Stats as stats;
+ghost use Rattle.ntx_eval.specs.inner.Runs.{Runs, Enters, PlaceIsOf, run_of, world_of, spot_of};
+
 use crate::evaluator::Evaluator;
 use crate::frame::{Flow, Frame};
 use crate::machine::Machine;
+use crate::variables::split;
 use crate::{Host, ScriptStop};
 use ntx_num::Fail;
 use ntx_resolve::{Call, Exp, Function, Var, Variable};
@@ -10,6 +17,19 @@ use ntx_syntax::{LocalName, Name};
 use ntx_values::Value;
 use sqlite_items::Items;
 use std::alloc::Global;
+
+/// The first of several places and those after it, none of a name where there are none.
+fn split_places(
+    places: &[Option<(Value, Value)>],
+) -> (Option<(Value, Value)>, &[Option<(Value, Value)>])
+    ensures first { result.0 ≡ stats.first_place places.now }
+    ensures others { (result.1).now ≡ stats.other_places places.now }
+{
+    match places.split_first() {
+        None => (None, &[]),
+        Some((place, others)) => (*place, others),
+    }
+}
 
 impl<
     'a,
@@ -34,11 +54,15 @@ impl<
         frame: &Frame,
         line: u64,
         call: &Call,
-    ) -> Result<(), Fail<ScriptStop>> {
+    ) -> Result<Items<Value>, Fail<ScriptStop>>
+        requires enters { Enters H.state H.Fits (world_of H.begin_step H.resume_step) self.now.functions self.now.most self.now.level (C.pre self.now.enter) (C.post self.now.enter) }
+        requires fits { H.Fits (H.state host.old) m.old.store }
+        requires most { m.old.charges ≤ self.now.most }
+        ensures runs { Runs H.Fits result m.old (H.state host.old) m.new (H.state host.new) (stats.call_code (run_of H.begin_step H.resume_step self.now.functions self.now.most self.now.level) call.now (spot_of frame.now line)) }
+    {
         let f = self.prefix(m, host, frame, line, &call.function)?;
         let args = self.values(m, host, frame, line, call.arguments.as_slice())?;
-        self.call(m, host, f, args.as_slice(), line)?;
-        Ok(())
+        self.call(m, host, f, args.as_slice(), line)
     }
 
     /// The field that a variable is, as a value and a key, and none of a name.
@@ -49,7 +73,13 @@ impl<
         frame: &Frame,
         line: u64,
         var: &Var,
-    ) -> Result<Option<(Value, Value)>, Fail<ScriptStop>> {
+    ) -> Result<Option<(Value, Value)>, Fail<ScriptStop>>
+        requires enters { Enters H.state H.Fits (world_of H.begin_step H.resume_step) self.now.functions self.now.most self.now.level (C.pre self.now.enter) (C.post self.now.enter) }
+        requires fits { H.Fits (H.state host.old) m.old.store }
+        requires most { m.old.charges ≤ self.now.most }
+        ensures runs { Runs H.Fits result m.old (H.state host.old) m.new (H.state host.new) (stats.find_place (run_of H.begin_step H.resume_step self.now.functions self.now.most self.now.level) var.now (spot_of frame.now line)) }
+        ensures of { IfOk result (PlaceIsOf m.new.store) }
+    {
         match var {
             Var::Name(_, _) => Ok(None),
             Var::Index(of, key) => {
@@ -65,6 +95,31 @@ impl<
         }
     }
 
+    /// The places of variables, from the left.
+    fn places(
+        &self,
+        m: &mut Machine,
+        host: &mut H,
+        frame: &Frame,
+        line: u64,
+        vars: &[Var],
+    ) -> Result<Items<Option<(Value, Value)>>, Fail<ScriptStop>>
+        requires enters { Enters H.state H.Fits (world_of H.begin_step H.resume_step) self.now.functions self.now.most self.now.level (C.pre self.now.enter) (C.post self.now.enter) }
+        requires fits { H.Fits (H.state host.old) m.old.store }
+        requires most { m.old.charges ≤ self.now.most }
+        ensures runs { Runs H.Fits result m.old (H.state host.old) m.new (H.state host.new) (stats.find_places (run_of H.begin_step H.resume_step self.now.functions self.now.most self.now.level) vars.now (spot_of frame.now line)) }
+        ensures of { IfOk result (All (PlaceIsOf m.new.store)) }
+    {
+        let mut places = Items::new(self.alloc);
+        let mut vars = vars;
+        while let Some((var, others)) = vars.split_first() {
+            let place = self.place(m, host, frame, line, var)?;
+            places.push(place)?;
+            vars = others;
+        }
+        Ok(places)
+    }
+
     /// Assigns a value to a variable that was found.
     fn assign_to(
         &self,
@@ -75,7 +130,14 @@ impl<
         var: &Var,
         place: Option<(Value, Value)>,
         v: Value,
-    ) -> Result<(), Fail<ScriptStop>> {
+    ) -> Result<(), Fail<ScriptStop>>
+        requires enters { Enters H.state H.Fits (world_of H.begin_step H.resume_step) self.now.functions self.now.most self.now.level (C.pre self.now.enter) (C.post self.now.enter) }
+        requires fits { H.Fits (H.state host.old) m.old.store }
+        requires most { m.old.charges ≤ self.now.most }
+        requires place { PlaceIsOf m.old.store place }
+        requires value { IsOf m.old.store v }
+        ensures runs { Runs H.Fits result m.old (H.state host.old) m.new (H.state host.new) (stats.assign_to (run_of H.begin_step H.resume_step self.now.functions self.now.most self.now.level) var.now place v (spot_of frame.now line)) }
+    {
         match place {
             Some((t, key)) => self.write_field(m, host, t, key, v, line),
             None => match var {
@@ -96,7 +158,12 @@ impl<
         line: u64,
         vars: &[Var],
         exps: &[Exp],
-    ) -> Result<(), Fail<ScriptStop>> {
+    ) -> Result<(), Fail<ScriptStop>>
+        requires enters { Enters H.state H.Fits (world_of H.begin_step H.resume_step) self.now.functions self.now.most self.now.level (C.pre self.now.enter) (C.post self.now.enter) }
+        requires fits { H.Fits (H.state host.old) m.old.store }
+        requires most { m.old.charges ≤ self.now.most }
+        ensures runs { Runs H.Fits result m.old (H.state host.old) m.new (H.state host.new) (stats.assign_code (run_of H.begin_step H.resume_step self.now.functions self.now.most self.now.level) vars.now exps.now (spot_of frame.now line)) }
+    {
         match (vars, exps) {
             ([var], [exp]) => {
                 let place = self.place(m, host, frame, line, var)?;
@@ -116,18 +183,45 @@ impl<
         line: u64,
         vars: &[Var],
         exps: &[Exp],
-    ) -> Result<(), Fail<ScriptStop>> {
-        let mut places = Items::new(self.alloc);
-        for var in vars {
-            places.push(self.place(m, host, frame, line, var)?)?;
-        }
+    ) -> Result<(), Fail<ScriptStop>>
+        requires enters { Enters H.state H.Fits (world_of H.begin_step H.resume_step) self.now.functions self.now.most self.now.level (C.pre self.now.enter) (C.post self.now.enter) }
+        requires fits { H.Fits (H.state host.old) m.old.store }
+        requires most { m.old.charges ≤ self.now.most }
+        ensures runs { Runs H.Fits result m.old (H.state host.old) m.new (H.state host.new) (stats.assign_code (run_of H.begin_step H.resume_step self.now.functions self.now.most self.now.level) vars.now exps.now (spot_of frame.now line)) }
+    {
+        let places = self.places(m, host, frame, line, vars)?;
         let values = self.values(m, host, frame, line, exps)?;
-        let mut at = 0usize;
-        for var in vars {
-            let place = places.get(at).copied().unwrap_or(None);
-            let v = values.get(at).copied().unwrap_or(Value::Nil);
+        self.assign_each(m, host, frame, line, vars, places.as_slice(), values.as_slice())
+    }
+
+    /// Assigns the values to the variables that were found, from the left.
+    fn assign_each(
+        &self,
+        m: &mut Machine,
+        host: &mut H,
+        frame: &Frame,
+        line: u64,
+        vars: &[Var],
+        places: &[Option<(Value, Value)>],
+        values: &[Value],
+    ) -> Result<(), Fail<ScriptStop>>
+        requires enters { Enters H.state H.Fits (world_of H.begin_step H.resume_step) self.now.functions self.now.most self.now.level (C.pre self.now.enter) (C.post self.now.enter) }
+        requires fits { H.Fits (H.state host.old) m.old.store }
+        requires most { m.old.charges ≤ self.now.most }
+        requires places { All (PlaceIsOf m.old.store) places.now }
+        requires values { AreOf m.old.store values.now }
+        ensures runs { Runs H.Fits result m.old (H.state host.old) m.new (H.state host.new) (stats.assign_all (run_of H.begin_step H.resume_step self.now.functions self.now.most self.now.level) vars.now places.now values.now (spot_of frame.now line)) }
+    {
+        let mut vars = vars;
+        let mut places = places;
+        let mut values = values;
+        while let Some((var, others)) = vars.split_first() {
+            let (place, places_left) = split_places(places);
+            let (v, values_left) = split(values);
             self.assign_to(m, host, frame, line, var, place, v)?;
-            at += 1;
+            vars = others;
+            places = places_left;
+            values = values_left;
         }
         Ok(())
     }
@@ -141,7 +235,13 @@ impl<
         line: u64,
         names: &[LocalName],
         exps: &[Exp],
-    ) -> Result<(), Fail<ScriptStop>> {
+    ) -> Result<(), Fail<ScriptStop>>
+        requires enters { Enters H.state H.Fits (world_of H.begin_step H.resume_step) self.now.functions self.now.most self.now.level (C.pre self.now.enter) (C.post self.now.enter) }
+        requires fits { H.Fits (H.state host.old) m.old.store }
+        requires most { m.old.charges ≤ self.now.most }
+        ensures runs { Runs H.Fits (result_map (λ u. frame.new.locals.items) result) m.old (H.state host.old) m.new (H.state host.new) (stats.local_code (run_of H.begin_step H.resume_step self.now.functions self.now.most self.now.level) names.now exps.now (spot_of frame.old line)) }
+        ensures function { OnOk result (frame.new.function ≡ frame.old.function) }
+    {
         match (names, exps) {
             ([_], [exp]) => {
                 let v = self.one(m, host, frame, line, exp)?;
@@ -162,7 +262,11 @@ impl<
         frame: &mut Frame,
         line: u64,
         body: u64,
-    ) -> Result<(), Fail<ScriptStop>> {
+    ) -> Result<(), Fail<ScriptStop>>
+        requires fits { H.Fits (H.state host.old) m.old.store }
+        ensures runs { Runs H.Fits (result_map (λ u. frame.new.locals.items) result) m.old (H.state host.old) m.new (H.state host.new) (stats.local_function body (spot_of frame.old line)) }
+        ensures function { OnOk result (frame.new.function ≡ frame.old.function) }
+    {
         let cell = m.new_cell(Value::Nil)?;
         frame.locals.push(cell)?;
         let f = self.function(m, host, frame, line, body)?;
@@ -181,7 +285,12 @@ impl<
         variable: Variable,
         path: &[Name],
         body: u64,
-    ) -> Result<(), Fail<ScriptStop>> {
+    ) -> Result<(), Fail<ScriptStop>>
+        requires enters { Enters H.state H.Fits (world_of H.begin_step H.resume_step) self.now.functions self.now.most self.now.level (C.pre self.now.enter) (C.post self.now.enter) }
+        requires fits { H.Fits (H.state host.old) m.old.store }
+        requires most { m.old.charges ≤ self.now.most }
+        ensures runs { Runs H.Fits result m.old (H.state host.old) m.new (H.state host.new) (stats.function_code (run_of H.begin_step H.resume_step self.now.functions self.now.most self.now.level) name.now variable path.now body (spot_of frame.now line)) }
+    {
         match path.split_first() {
             None => {
                 let f = self.function(m, host, frame, line, body)?;
@@ -205,21 +314,22 @@ impl<
         from: Value,
         name: &Name,
         others: &[Name],
-    ) -> Result<(Value, Value), Fail<ScriptStop>> {
+    ) -> Result<(Value, Value), Fail<ScriptStop>>
+        requires enters { Enters H.state H.Fits (world_of H.begin_step H.resume_step) self.now.functions self.now.most self.now.level (C.pre self.now.enter) (C.post self.now.enter) }
+        requires fits { H.Fits (H.state host.old) m.old.store }
+        requires most { m.old.charges ≤ self.now.most }
+        requires value { IsOf m.old.store from }
+        ensures runs { Runs H.Fits result m.old (H.state host.old) m.new (H.state host.new) (stats.reach (run_of H.begin_step H.resume_step self.now.functions self.now.most self.now.level) from name.now others.now line) }
+        ensures of { IfOk result ((λ place. IsOf m.new.store place.0 × IsOf m.new.store place.1)) }
+    {
         let mut v = from;
         let mut key = self.text(m, host, name.as_slice(), line)?;
-        for next in others {
+        let mut others = others;
+        while let Some((next, rest)) = others.split_first() {
             v = self.read_field(m, host, v, key, line)?;
             key = self.text(m, host, next.as_slice(), line)?;
+            others = rest;
         }
         Ok((v, key))
-    }
-}
-
-/// That the next statement is next.
-pub fn onward(done: Result<(), Fail<ScriptStop>>) -> Result<Flow, Fail<ScriptStop>> {
-    match done {
-        Ok(()) => Ok(Flow::Onward),
-        Err(fail) => Err(fail),
     }
 }

@@ -30,7 +30,7 @@ fn cell_of(m: &Machine, frame: &Frame, variable: Variable) -> Option<usize>
 }
 
 /// The first of several values, nil if there are none, and those after it.
-fn split(values: &[Value]) -> (Value, &[Value])
+pub fn split(values: &[Value]) -> (Value, &[Value])
     ensures first { result.0 ≡ variables.first values.now }
     ensures others { (result.1).now ≡ variables.others values.now }
 {

@@ -3,7 +3,7 @@
 --     Runs fits result old new action     from an old machine and host to new ones the call does the action
 --     faults_at line result               a refusal as a fault at a line
 --     Enters                              what is asked of what enters a function
-use Rattle.std.specs.Prelude.{◌≡◌, ℕ, zero, suc, ◌<◌, ◌≤◌, List, Result, Ok, Err, IfOk}
+use Rattle.std.specs.Prelude.{◌≡◌, ℕ, zero, suc, ◌<◌, ◌≤◌, List, Option, None, Some, Result, Ok, Err, IfOk}
 use Rattle.std.specs.declared.alloc.Global.{Global}
 use denote.Ref.{MutBor, Bor}
 use Rattle.ntx_num.specs.declared.answer.Fail.{Fail}
@@ -21,7 +21,10 @@ use Rattle.ntx_eval.specs.inner.Machine.{MachineState, Kept, state_of, lifted}
 use Rattle.ntx_eval.specs.inner.Entering.{enter_at, setting_at}
 use Rattle.ntx_values.specs.declared.why.LuaWhy.{LuaWhy}
 use Rattle.ntx_eval.specs.declared.frame.Frame.{Frame}
+use Rattle.ntx_eval.specs.declared.frame.Flow.{Flow}
+use Rattle.ntx_eval.specs.declared.frame.Flow.TheVariants as flow
 use Rattle.ntx_eval.specs.inner.Places.{Spot}
+use Rattle.ntx_eval.specs.inner.Code.{FieldPlace}
 use Rattle.ntx_eval.specs.declared.stop.ScriptStop.{ScriptStop}
 use Rattle.ntx_eval.specs.declared.stop.ScriptStop.TheVariants as stopped
 
@@ -74,3 +77,14 @@ spot_of frame line = record { function = frame.function; locals = frame.locals.i
 -- what the parts of code are given by an evaluator
 abbrev pub run_of : {S : Type 0} → (Primitive → List Value → S → StoreState → Answered S) → (List Value → S → StoreState → Answered S) → Bor (List Function) → ℕ → ℕ → Setting (Kept S)
 run_of begin resume functions most level = setting_at functions.now (world_of begin resume) most level
+
+-- The value and the key of a place are of this store.
+abbrev pub PlaceIsOf : StoreState → FieldPlace → Type 0
+PlaceIsOf store None = Unit {0}
+PlaceIsOf store (Some place) = IsOf store place.0 × IsOf store place.1
+
+-- The values that a flow has are of this store.
+abbrev pub FlowIsOf : StoreState → Flow → Type 0
+FlowIsOf store flow.Onward = Unit {0}
+FlowIsOf store flow.Broken = Unit {0}
+FlowIsOf store (flow.Returned vs) = AreOf store vs

@@ -1,5 +1,6 @@
 -- What statements and blocks do in code.
 use Rattle.std.specs.Prelude.{ℕ, if◌then◌else◌, List, [], ◌∷◌, ◌++◌, pos, Option, Some, None}
+use Rattle.ntx_syntax.specs.declared.tree.LocalName.{LocalName}
 use Rattle.ntx_values.specs.declared.value.Value.{Value}
 use Rattle.ntx_values.specs.declared.value.Value.TheVariants.{Nil, Int}
 use Rattle.ntx_resolve.specs.declared.code.Block.{Block, fold-Block}
@@ -22,7 +23,8 @@ use Rattle.ntx_eval.specs.inner.Machine.{Kept}
 use Rattle.ntx_eval.specs.inner.Places.{Spot, read_variable, write_variable, bind, new_function}
 use Rattle.ntx_eval.specs.inner.Code.{ExpCode, BlockCode, KindCode, ArmCode, FieldPlace}
 use Rattle.ntx_eval.specs.inner.Exps.{exp_code, exps_code, prefix_code}
-use Rattle.ntx_eval.specs.inner.Turns.{block_in, with_locals, holds, while_loop, repeat_loop, numeric_for, generic_loop}
+use Rattle.ntx_eval.specs.inner.Turns.{block_in, with_locals, holds, while_loop, repeat_loop, range_of, ranged, numeric_loop, generic_loop}
+use Rattle.ntx_eval.specs.declared.loops.Range.{Range}
 use Rattle.ntx_eval.specs.declared.frame.Flow.{Flow}
 use Rattle.ntx_eval.specs.declared.frame.Flow.TheVariants as flow
 
@@ -81,28 +83,37 @@ assign_code run vars exps spot = do
 
 -- ---- functions
 
-abbrev pub reach : {S : Type 0} → Setting (Kept S) → Value → List ℕ → List (List ℕ) → Spot → Action (Kept S) (Value × Value)
-reach run v name [] spot = text name spot.line >>= λ key. give (v, key)
-reach run v name (next ∷ path) spot = do
-  key ← text name spot.line
-  inner ← read_field run v key spot.line
-  reach run inner next path spot
+abbrev pub reach : {S : Type 0} → Setting (Kept S) → Value → List ℕ → List (List ℕ) → ℕ → Action (Kept S) (Value × Value)
+reach run v name [] line = text name line >>= λ key. give (v, key)
+reach run v name (next ∷ path) line = do
+  key ← text name line
+  inner ← read_field run v key line
+  reach run inner next path line
 
 abbrev pub function_code : {S : Type 0} → Setting (Kept S) → List ℕ → Variable → List (List ℕ) → ℕ → Spot → Action (Kept S) (Unit {0})
 function_code run name v [] k spot = new_function k spot >>= λ f. write_variable name v f spot
 function_code run name v (next ∷ path) k spot = do
   from ← read_variable name v spot
-  place ← reach run from next path spot
+  place ← reach run from next path spot.line
   f ← new_function k spot
   write_field run place.0 place.1 f spot.line
 
 -- the variable is in scope in the function's body
-abbrev pub local_function : {S : Type 0} → ℕ → Spot → Action (Kept S) (Flow × List ℕ)
+abbrev pub local_function : {S : Type 0} → ℕ → Spot → Action (Kept S) (List ℕ)
 local_function k spot = do
   cell ← new_cell Nil
   f ← new_function k (with_locals spot (spot.locals ++ cell ∷ []))
   write_cell cell f
-  give (flow.Onward, spot.locals ++ cell ∷ [])
+  give (spot.locals ++ cell ∷ [])
+
+-- ---- local variables
+
+abbrev pub local_code : {S : Type 0} → Setting (Kept S) → List LocalName → List Exp → Spot → Action (Kept S) (List ℕ)
+local_code run names exps spot = exps_code run exps spot >>= λ vs. bind names vs spot.locals
+
+-- the next statement is next, with these variables in scope
+abbrev pub onward_with : {S : Type 0} → Action (Kept S) (List ℕ) → Action (Kept S) (Flow × List ℕ)
+onward_with action = action >>= λ locals. give (flow.Onward, locals)
 
 -- ---- choice
 
@@ -115,6 +126,17 @@ abbrev pub step_code : {S : Type 0} → Setting (Kept S) → Option Exp → Spot
 step_code run None spot = give (Int (pos 1))
 step_code run (Some e) spot = first_of (exp_code run e spot)
 
+abbrev pub range_code : {S : Type 0} → Setting (Kept S) → Exp → Exp → Option Exp → Spot → Action (Kept S) Range
+range_code run start limit step spot = do
+  i ← first_of (exp_code run start spot)
+  last ← first_of (exp_code run limit spot)
+  by ← step_code run step spot
+  ranged spot.line (range_of i last by)
+
+abbrev pub generic_code : {S : Type 0} → Setting (Kept S) → List LocalName → List Exp → BlockCode S → Spot → Action (Kept S) Flow
+generic_code run names exps block spot = exps_code run exps spot
+    >>= λ vs. generic_loop run run.most names (first vs) (first (others vs)) block spot (first (others (others vs)))
+
 -- ---- each statement
 
 abbrev pub kind_layer : {S : Type 0} → Setting (Kept S) → StatKind-F (KindCode S) (BlockCode S) (ArmCode S) (BlockCode S) → KindCode S
@@ -126,20 +148,12 @@ kind_layer run (StatKind-F.Do block) = Some (λ spot. within spot (block_in bloc
 kind_layer run (StatKind-F.While condition block) = Some (λ spot. within spot (while_loop run.most (exp_code run condition) block spot))
 kind_layer run (StatKind-F.Repeat block condition) = Some (λ spot. within spot (repeat_loop run.most block (exp_code run condition) spot))
 kind_layer run (StatKind-F.If arms otherwise) = Some (λ spot. within spot (choose arms otherwise spot))
-kind_layer run (StatKind-F.NumericFor name start limit step block) = Some (λ spot. within spot (do
-  i ← first_of (exp_code run start spot)
-  last ← first_of (exp_code run limit spot)
-  by ← step_code run step spot
-  numeric_for run.most i last by block spot))
-kind_layer run (StatKind-F.GenericFor names exps block) = Some (λ spot. within spot (do
-  vs ← exps_code run exps spot
-  generic_loop run run.most names (first vs) (first (others vs)) block spot (first (others (others vs)))))
+kind_layer run (StatKind-F.NumericFor name start limit step block) =
+    Some (λ spot. within spot (range_code run start limit step spot >>= λ range. numeric_loop run.most range.limit range.step block spot range.start))
+kind_layer run (StatKind-F.GenericFor names exps block) = Some (λ spot. within spot (generic_code run names exps block spot))
 kind_layer run (StatKind-F.Function name v path k) = Some (λ spot. within spot (function_code run name v path k spot >> give flow.Onward))
-kind_layer run (StatKind-F.LocalFunction name k) = Some (local_function k)
-kind_layer run (StatKind-F.Local names exps) = Some (λ spot. do
-  vs ← exps_code run exps spot
-  locals ← bind names vs spot.locals
-  give (flow.Onward, locals))
+kind_layer run (StatKind-F.LocalFunction name k) = Some (λ spot. onward_with (local_function k spot))
+kind_layer run (StatKind-F.Local names exps) = Some (λ spot. onward_with (local_code run names exps spot))
 
 -- ---- blocks
 

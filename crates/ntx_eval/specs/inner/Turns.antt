@@ -1,9 +1,10 @@
 -- Loops in code. The number of a loop is at least that of the tests that it can still make.
-use Rattle.std.specs.Prelude.{ℕ, zero, suc, Bool, if◌then◌else◌, List, [], ◌∷◌, ℤ, pos, ◌+ℤ◌}
+use Rattle.std.specs.Prelude.{ℕ, zero, suc, Bool, if◌then◌else◌, List, [], ◌∷◌, ℤ, pos, ◌+ℤ◌, Result, Ok, Err}
 use Rattle.ntx_syntax.specs.declared.tree.LocalName.{LocalName}
 use Rattle.ntx_values.specs.Value.{is_nil}
 use Rattle.ntx_values.specs.declared.value.Value.{Value}
 use Rattle.ntx_values.specs.declared.value.Value.TheVariants.{Int}
+use Rattle.ntx_values.specs.declared.why.LuaWhy.{LuaWhy}
 use Rattle.ntx_values.specs.declared.why.LuaWhy.TheVariants.{WrongType, ForStep}
 use Rattle.ntx_eval.specs.Ending.{Action, give, fault, out_of_steps, charge, ◌>>=◌, ◌>>◌}
 use Rattle.ntx_eval.specs.Operators.{is_true}
@@ -13,6 +14,7 @@ use Rattle.ntx_eval.specs.Loops.{is_within_limit}
 use Rattle.ntx_eval.specs.inner.Machine.{Kept}
 use Rattle.ntx_eval.specs.inner.Places.{Spot, declare, bind}
 use Rattle.ntx_eval.specs.inner.Code.{ExpCode, BlockCode}
+use Rattle.ntx_eval.specs.declared.loops.Range.{Range}
 use Rattle.ntx_eval.specs.declared.frame.Flow.{Flow}
 use Rattle.ntx_eval.specs.declared.frame.Flow.TheVariants as flow
 
@@ -56,10 +58,15 @@ numeric_loop (suc n) limit step body spot i =
     then (declare (Int i) spot.locals >>= λ locals. block_in body (with_locals spot locals) >>= λ f. unless_left f (numeric_loop n limit step body spot (i +ℤ step)))
     else give flow.Onward)
 
-abbrev pub numeric_for : {S : Type 0} → ℕ → Value → Value → Value → BlockCode S → Spot → Action (Kept S) Flow
-numeric_for n (Int i) (Int limit) (Int (pos zero)) body spot = fault spot.line ForStep
-numeric_for n (Int i) (Int limit) (Int step) body spot = numeric_loop n limit step body spot i
-numeric_for n _ _ _ body spot = fault spot.line WrongType
+-- the values of a numeric `for`: all are integers, and the step is not 0
+abbrev pub range_of : Value → Value → Value → Result Range LuaWhy
+range_of (Int i) (Int limit) (Int (pos zero)) = Err ForStep
+range_of (Int i) (Int limit) (Int step) = Ok (record { start = i; limit = limit; step = step })
+range_of _ _ _ = Err WrongType
+
+abbrev pub ranged : {S : Type 0} → ℕ → Result Range LuaWhy → Action (Kept S) Range
+ranged line (Ok range) = give range
+ranged line (Err why) = fault line why
 
 abbrev pub generic_loop : {S : Type 0} → Setting (Kept S) → ℕ → List LocalName → Value → Value → BlockCode S → Spot → Value → Action (Kept S) Flow
 generic_loop run zero names iterator walked body spot control = out_of_steps spot.line
