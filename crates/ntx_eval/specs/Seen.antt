@@ -1,17 +1,32 @@
 -- How a machine that runs code is seen as the state of a script, and what a call of it says.
---     Shows chunk code vm host s      the code is that of this script, and the machine and its host are this state of it
---     Ends chunk code result ..       an answer and what stands after it are this ending
+--     VmState                         a script's code and its machine
+--     Shows code m host s             a machine with this code and a host are this state of a script
+--     Ends code result ..             an answer and what stands after it are this ending
 use Rattle.std.specs.Prelude.{◌≡◌, ℕ, List, [], ◌∷◌, ◌++◌, map, reverse, length, slice_get, Option, Some, None, Result, Ok, Err}
 use Rattle.ntx_num.specs.declared.answer.Fail.{Fail}
 use Rattle.ntx_num.specs.declared.answer.Fail.TheVariants.{NoMemory, Is}
 use Rattle.ntx_resolve.specs.Scopes as resolved
 use Rattle.ntx_resolve.specs.HasCode.{IsFunction}
 use Rattle.ntx_resolve.specs.declared.code.Code.{Code}
+use Rattle.ntx_values.specs.State.{StoreState}
+use Rattle.ntx_values.specs.declared.value.Value.{Value}
+use Rattle.ntx_values.specs.declared.primitive.Primitive.{Primitive}
+use Rattle.ntx_lualib.specs.Library.{called}
 use Rattle.ntx_eval.specs.State.{State, Scope, Function}
+use Rattle.ntx_eval.specs.Host.{Answered, World}
 use Rattle.ntx_eval.specs.Ending.{Ending}
 use Rattle.ntx_eval.specs.inner.Machine.{MachineState}
 use Rattle.ntx_eval.specs.declared.machine.Closure.{Closure}
 use Rattle.ntx_eval.specs.declared.stop.ScriptStop.{ScriptStop}
+
+-- a script's code and its machine
+pub record VmState : Type 0 where
+  pub code : Code
+  pub machine : MachineState
+
+-- the library and a host
+abbrev pub world : {S : Type 0} → (Primitive → List Value → S → StoreState → Answered S) → (List Value → S → StoreState → Answered S) → World S
+world begin resume = record { library = called; host = record { begin = begin; resume = resume } }
 
 -- the names of a scope and their cells, the oldest first
 abbrev pub names_in : Scope → List (List ℕ)

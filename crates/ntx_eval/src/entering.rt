@@ -1,5 +1,11 @@
 //! What a call does once it was paid for.
 
+ghost use Rattle.std.specs.Prelude.{◌≡◌, ◌≤◌, ◌<◌, ℕ, IfOk};
+ghost use Rattle.ntx_values.specs.State.{IsOf, AreOf};
+ghost use Rattle.ntx_eval.specs.Setting as setting;
+ghost use Rattle.ntx_eval.specs.inner.Entering as entering;
+ghost use Rattle.ntx_eval.specs.inner.Runs.{Runs, Enters, run_of, world_of};
+
 use crate::evaluator::{Evaluator, fault, faulting};
 use crate::frame::{Flow, Frame};
 use crate::machine::Machine;
@@ -15,7 +21,9 @@ use std::marker::PhantomData;
 const MAX_LEVELS: u64 = 200;
 
 /// The values that a function gives: those of its `return`, and none without one.
-pub fn results_of(alloc: Global, flow: Flow) -> Items<Value> {
+fn results_of(alloc: Global, flow: Flow) -> Items<Value>
+    ensures { result ≡ entering.results_of flow }
+{
     match flow {
         Flow::Returned(values) => values,
         _ => Items::new(alloc),
@@ -23,12 +31,19 @@ pub fn results_of(alloc: Global, flow: Flow) -> Items<Value> {
 }
 
 /// Calls a function of the library.
-fn library_call(
+fn library_call<H: Host>(
     m: &mut Machine,
+    host: &mut H,
     f: LibFn,
     args: &[Value],
     line: u64,
-) -> Result<Items<Value>, Fail<ScriptStop>> {
+) -> Result<Items<Value>, Fail<ScriptStop>>
+    requires fits { H.Fits (H.state host.old) m.old.store }
+    requires args { AreOf m.old.store args.now }
+    ensures runs { Runs H.Fits result m.old (H.state host.old) m.new (H.state host.new) (setting.library_call (world_of H.begin_step H.resume_step) f args.now line) }
+    ensures of { IfOk result (AreOf m.new.store) }
+{
+    let _ = host;
     faulting(line, m.call_lib(f, args))
 }
 
@@ -55,7 +70,14 @@ impl<
         f: FuncId,
         args: &[Value],
         line: u64,
-    ) -> Result<Items<Value>, Fail<ScriptStop>> {
+    ) -> Result<Items<Value>, Fail<ScriptStop>>
+        requires enters { Enters H.state H.Fits (world_of H.begin_step H.resume_step) self.now.functions self.now.most self.now.level (C.pre self.now.enter) (C.post self.now.enter) }
+        requires fits { H.Fits (H.state host.old) m.old.store }
+        requires most { m.old.charges ≤ self.now.most }
+        requires args { AreOf m.old.store args.now }
+        ensures runs { Runs H.Fits result m.old (H.state host.old) m.new (H.state host.new) (entering.run_function (run_of H.begin_step H.resume_step self.now.functions self.now.most self.now.level) self.now.functions.now f args.now line) }
+        ensures of { IfOk result (AreOf m.new.store) }
+    {
         match m.body_of(f) {
             None => Err(fault(line, LuaWhy::WrongType)),
             Some(body) => match self.functions.get(body as usize) {
@@ -73,7 +95,14 @@ impl<
         f: FuncId,
         function: &Function,
         args: &[Value],
-    ) -> Result<Items<Value>, Fail<ScriptStop>> {
+    ) -> Result<Items<Value>, Fail<ScriptStop>>
+        requires enters { Enters H.state H.Fits (world_of H.begin_step H.resume_step) self.now.functions self.now.most self.now.level (C.pre self.now.enter) (C.post self.now.enter) }
+        requires fits { H.Fits (H.state host.old) m.old.store }
+        requires most { m.old.charges ≤ self.now.most }
+        requires args { AreOf m.old.store args.now }
+        ensures runs { (line : ℕ) → Runs H.Fits result m.old (H.state host.old) m.new (H.state host.new) (entering.run_body (run_of H.begin_step H.resume_step self.now.functions self.now.most self.now.level) f function.now args.now line) }
+        ensures of { IfOk result (AreOf m.new.store) }
+    {
         let mut frame = Frame {
             function: Some(f),
             locals: Vec::new(self.alloc),
@@ -95,7 +124,14 @@ pub fn enter<H: Host>(
     f: Value,
     args: &[Value],
     line: u64,
-) -> Result<Items<Value>, Fail<ScriptStop>> {
+) -> Result<Items<Value>, Fail<ScriptStop>>
+    requires fits { H.Fits (H.state host.old) m.old.store }
+    requires most { m.old.charges < most }
+    requires function { IsOf m.old.store f }
+    requires args { AreOf m.old.store args.now }
+    ensures runs { Runs H.Fits result m.old (H.state host.old) m.new (H.state host.new) (entering.enter_at functions.now (world_of H.begin_step H.resume_step) most level f args.now line) }
+    ensures of { IfOk result (AreOf m.new.store) }
+{
     if most == 0 {
         return Err(Fail::Is(ScriptStop::Budget(line)));
     }
@@ -114,7 +150,7 @@ pub fn enter<H: Host>(
             }
             .run_function(m, host, f, args, line)
         }
-        Value::Prim(Primitive::Lib(f)) => library_call(m, f, args, line),
+        Value::Prim(Primitive::Lib(f)) => library_call(m, host, f, args, line),
         Value::Prim(primitive) => Evaluator {
             alloc,
             functions,
