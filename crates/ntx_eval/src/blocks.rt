@@ -79,7 +79,7 @@ impl<
         requires most { m.old.charges ≤ self.now.most }
         ensures runs { (line : ℕ) → Runs H.Fits result m.old (H.state host.old) m.new (H.state host.new) (turns.block_in (stats.block_code (run_of H.begin_step H.resume_step self.now.functions self.now.most self.now.level) block.now) (spot_of frame.old line)) }
         ensures of { IfOk result (FlowIsOf m.new.store) }
-        ensures frame { OnOk result (frame.new ≡ frame.old) }
+        ensures frame { OnOk result ((line : ℕ) → spot_of frame.new line ≡ spot_of frame.old line) }
     {
         let count = frame.locals.len();
         let flow = self.open_block(m, host, frame, block)?;
@@ -240,7 +240,7 @@ impl<
         requires most { m.old.charges ≤ self.now.most }
         ensures runs { Runs H.Fits result m.old (H.state host.old) m.new (H.state host.new) (stats.choose (map (stats.arm_code (run_of H.begin_step H.resume_step self.now.functions self.now.most self.now.level)) arms.now) (option_map (stats.block_code (run_of H.begin_step H.resume_step self.now.functions self.now.most self.now.level)) otherwise.now) (spot_of frame.old line)) }
         ensures of { IfOk result (FlowIsOf m.new.store) }
-        ensures frame { OnOk result (frame.new ≡ frame.old) }
+        ensures frame { OnOk result ((line : ℕ) → spot_of frame.new line ≡ spot_of frame.old line) }
     {
         let mut arms = arms;
         while let Some((arm, others)) = arms.split_first() {

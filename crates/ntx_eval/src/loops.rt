@@ -91,7 +91,7 @@ impl<
         requires most { m.old.charges ≤ self.now.most }
         ensures runs { (k : ℕ) → m.old.charges ≤ k → Runs H.Fits result m.old (H.state host.old) m.new (H.state host.new) (turns.while_loop k (code.exp_code (run_of H.begin_step H.resume_step self.now.functions self.now.most self.now.level) condition.now) (stats.block_code (run_of H.begin_step H.resume_step self.now.functions self.now.most self.now.level) block.now) (spot_of frame.old line)) }
         ensures of { IfOk result (FlowIsOf m.new.store) }
-        ensures frame { OnOk result (frame.new ≡ frame.old) }
+        ensures frame { OnOk result ((line : ℕ) → spot_of frame.new line ≡ spot_of frame.old line) }
     {
         loop {
             self.charge(m, host, line)?;
@@ -122,7 +122,7 @@ impl<
         requires most { m.old.charges ≤ self.now.most }
         ensures runs { (k : ℕ) → m.old.charges ≤ k → Runs H.Fits result m.old (H.state host.old) m.new (H.state host.new) (turns.repeat_loop k (stats.block_code (run_of H.begin_step H.resume_step self.now.functions self.now.most self.now.level) block.now) (code.exp_code (run_of H.begin_step H.resume_step self.now.functions self.now.most self.now.level) condition.now) (spot_of frame.old line)) }
         ensures of { IfOk result (FlowIsOf m.new.store) }
-        ensures frame { OnOk result (frame.new ≡ frame.old) }
+        ensures frame { OnOk result ((line : ℕ) → spot_of frame.new line ≡ spot_of frame.old line) }
     {
         let count = frame.locals.len();
         loop {
@@ -208,7 +208,7 @@ impl<
         requires most { m.old.charges ≤ self.now.most }
         ensures runs { (k : ℕ) → m.old.charges ≤ k → Runs H.Fits result m.old (H.state host.old) m.new (H.state host.new) (turns.numeric_loop k range.limit range.step (stats.block_code (run_of H.begin_step H.resume_step self.now.functions self.now.most self.now.level) block.now) (spot_of frame.old line) range.start) }
         ensures of { IfOk result (FlowIsOf m.new.store) }
-        ensures frame { OnOk result (frame.new ≡ frame.old) }
+        ensures frame { OnOk result ((line : ℕ) → spot_of frame.new line ≡ spot_of frame.old line) }
     {
         let count = frame.locals.len();
         let mut next = Some(range.start);
@@ -249,7 +249,7 @@ impl<
         requires most { m.old.charges ≤ self.now.most }
         ensures runs { Runs H.Fits result m.old (H.state host.old) m.new (H.state host.new) (stats.generic_code (run_of H.begin_step H.resume_step self.now.functions self.now.most self.now.level) names.now exps.now (stats.block_code (run_of H.begin_step H.resume_step self.now.functions self.now.most self.now.level) block.now) (spot_of frame.old line)) }
         ensures of { IfOk result (FlowIsOf m.new.store) }
-        ensures frame { OnOk result (frame.new ≡ frame.old) }
+        ensures frame { OnOk result ((line : ℕ) → spot_of frame.new line ≡ spot_of frame.old line) }
     {
         let values = self.values(m, host, frame, line, exps)?;
         let iterator = first(&values);
