@@ -43,7 +43,6 @@ fn library_call<H: Host>(
     ensures runs { Runs H.Fits result m.old (H.state host.old) m.new (H.state host.new) (setting.library_call (world_of H.begin_step H.resume_step) f args.now line) }
     ensures of { IfOk result (AreOf m.new.store) }
 {
-    let _ = host;
     faulting(line, m.call_lib(f, args))
 }
 
@@ -140,26 +139,32 @@ pub fn enter<H: Host>(
             if level >= MAX_LEVELS {
                 return Err(fault(line, LuaWhy::Levels));
             }
-            Evaluator {
+            let evaluator = Evaluator {
                 alloc,
                 functions,
                 most: most - 1,
                 level: level + 1,
                 enter: enter::<H>,
                 host: PhantomData,
-            }
-            .run_function(m, host, f, args, line)
+            };
+            let results = evaluator.run_function(m, host, f, args, line);
+            evaluator.end();
+            results
         }
         Value::Prim(Primitive::Lib(f)) => library_call(m, host, f, args, line),
-        Value::Prim(primitive) => Evaluator {
-            alloc,
-            functions,
-            most: most - 1,
-            level,
-            enter: enter::<H>,
-            host: PhantomData,
+        Value::Prim(primitive) => {
+            let evaluator = Evaluator {
+                alloc,
+                functions,
+                most: most - 1,
+                level,
+                enter: enter::<H>,
+                host: PhantomData,
+            };
+            let results = evaluator.host_call(m, host, primitive, args, line);
+            evaluator.end();
+            results
         }
-        .host_call(m, host, primitive, args, line),
         _ => Err(fault(line, LuaWhy::WrongType)),
     }
 }

@@ -18,7 +18,7 @@ use ntx_num::Fail;
 use ntx_resolve::Function;
 use ntx_values::{LuaWhy, Value};
 use sqlite_items::Items;
-use std::alloc::{AllocError, Global};
+use std::alloc::Global;
 use std::marker::PhantomData;
 
 /// The evaluator of a script, over what enters a function once its call was paid for.
@@ -37,13 +37,19 @@ pub struct Evaluator<'a, H, C> {
     pub host: PhantomData<H>,
 }
 
-impl<'a, H, C: Copy> Clone for Evaluator<'a, H, C> {
-    fn clone(&self) -> Result<Self, AllocError> {
-        Ok(*self)
+impl<'a, H, C: Copy> Evaluator<'a, H, C> {
+    /// Lets the evaluator go.
+    pub fn end(self) {
+        let Evaluator {
+            alloc: _,
+            functions: _,
+            most: _,
+            level: _,
+            enter: _,
+            host: _,
+        } = self;
     }
 }
-
-impl<'a, H, C: Copy> Copy for Evaluator<'a, H, C> {}
 
 /// A fault at a line.
 pub fn fault(line: u64, why: LuaWhy) -> Fail<ScriptStop>
@@ -116,7 +122,6 @@ impl<
         ensures runs { Runs H.Fits result m.old (H.state host.old) m.new (H.state host.new) (ending.charge line) }
         ensures less { OnOk result (m.new.charges < m.old.charges) }
     {
-        let _ = host;
         if m.spend() {
             Ok(())
         } else {
@@ -140,7 +145,6 @@ impl<
         ensures runs { Runs H.Fits result m.old (H.state host.old) m.new (H.state host.new) (variables.text bytes.now line) }
         ensures of { IfOk result (IsOf m.new.store) }
     {
-        let _ = host;
         faulting(line, m.text(bytes))
     }
 

@@ -178,7 +178,6 @@ impl<
         ensures runs { Runs H.Fits result m.old (H.state host.old) m.new (H.state host.new) (variables.on_store line (operators.binary_step op a b)) }
         ensures of { IfOk result (IsOf m.new.store) }
     {
-        let _ = host;
         faulting(line, m.binary(op, a, b))
     }
 
@@ -196,7 +195,6 @@ impl<
         ensures runs { Runs H.Fits result m.old (H.state host.old) m.new (H.state host.new) (variables.of_store line (operators.unary_of op a)) }
         ensures of { IfOk result (IsOf m.new.store) }
     {
-        let _ = host;
         match m.unary(op, a) {
             Ok(v) => Ok(v),
             Err(why) => Err(fault(line, why)),
@@ -216,7 +214,6 @@ impl<
         ensures runs { Runs H.Fits result m.old (H.state host.old) m.new (H.state host.new) (places.new_function body (spot_of frame.now line)) }
         ensures of { IfOk result (IsOf m.new.store) }
     {
-        let _ = (host, line);
         Ok(m.new_function(body, frame.function, frame.locals.as_slice())?)
     }
 

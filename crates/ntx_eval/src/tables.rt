@@ -129,7 +129,6 @@ impl<
         ensures runs { Runs H.Fits result m.old (H.state host.old) m.new (H.state host.new) (new_table line) }
         ensures of { IfOk result ((λ t. IsOf m.new.store (value.Table t))) }
     {
-        let _ = host;
         faulting(line, m.new_table())
     }
 

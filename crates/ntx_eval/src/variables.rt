@@ -153,7 +153,6 @@ impl<
         requires value { IsOf m.old.store v }
         ensures runs { Runs H.Fits (result_map (λ u. locals.new.items) result) m.old (H.state host.old) m.new (H.state host.new) (places.declare v locals.old.items) }
     {
-        let _ = host;
         let cell = m.new_cell(v)?;
         locals.push(cell)?;
         Ok(())

@@ -76,16 +76,20 @@ impl Vm {
             function: None,
             locals: Vec::new(self.alloc),
         };
-        Evaluator {
+        let evaluator = Evaluator {
             alloc: self.alloc,
             functions: self.code.functions.as_slice(),
             most: self.machine.charges(),
             level: 0,
             enter: enter::<H>,
             host: PhantomData,
+        };
+        let flow = evaluator.open_block(&mut self.machine, host, &mut frame, &self.code.block);
+        evaluator.end();
+        match flow {
+            Ok(_) => Ok(()),
+            Err(fail) => Err(fail),
         }
-        .open_block(&mut self.machine, host, &mut frame, &self.code.block)?;
-        Ok(())
     }
 
     /// Calls a function from outside the script.
@@ -107,15 +111,17 @@ impl Vm {
         ensures fits { H.Fits (H.state host.new) self.new.machine.store }
         ensures of { IfOk result (AreOf self.new.machine.store) }
     {
-        Evaluator {
+        let evaluator = Evaluator {
             alloc: self.alloc,
             functions: self.code.functions.as_slice(),
             most: self.machine.charges(),
             level: 0,
             enter: enter::<H>,
             host: PhantomData,
-        }
-        .call(&mut self.machine, host, f, args, 0)
+        };
+        let results = evaluator.call(&mut self.machine, host, f, args, 0);
+        evaluator.end();
+        results
     }
 
     /// Follows a host's step to its values.
@@ -135,15 +141,17 @@ impl Vm {
         ensures fits { H.Fits (H.state host.new) self.new.machine.store }
         ensures of { IfOk result (AreOf self.new.machine.store) }
     {
-        Evaluator {
+        let evaluator = Evaluator {
             alloc: self.alloc,
             functions: self.code.functions.as_slice(),
             most: self.machine.charges(),
             level: 0,
             enter: enter::<H>,
             host: PhantomData,
-        }
-        .follow(&mut self.machine, host, first, 0)
+        };
+        let results = evaluator.follow(&mut self.machine, host, first, 0);
+        evaluator.end();
+        results
     }
 
     /// The bytes that were printed and not yet taken. They are taken by this.

@@ -66,6 +66,5 @@ bind (name ∷ names) vs locals = declare (first vs) locals >>= bind names (othe
 abbrev pub new_function : {S : Type 0} → ℕ → Spot → Action (Kept S) Value
 new_function {S} k spot s =
     let (f, store) = new_function_step s.store in
-    let closure = record { body = k; cells = upvalues s.host.closures spot.function ++ spot.locals } in
-    let kept : Kept S = record { closures = s.host.closures ++ closure ∷ []; host = s.host.host } in
+    let kept : Kept S = record { closures = s.host.closures ++ record { body = k; cells = upvalues s.host.closures spot.function ++ spot.locals } ∷ []; host = s.host.host } in
     give (value.Function f) (record s { store = store; host = kept })

@@ -25,8 +25,8 @@ abbrev pub with_cells : MachineState → List Value → MachineState
 with_cells m cells = record m { cells = cells }
 
 -- The store does a step, and nothing else changes.
-pub record OnStore {A : Type 0} (result : Result A (Fail LuaWhy)) (old new : MachineState) (step : StoreState → Result (A × StoreState) LuaWhy) : Type 0 where
-  pub step : Steps result old.store new.store (step old.store)
+pub record OnStore {A : Type 0} (result : Result A (Fail LuaWhy)) (old new : MachineState) (done : StoreState → Result (A × StoreState) LuaWhy) : Type 0 where
+  pub step : Steps result old.store new.store (done old.store)
   pub alone : new ≡ with_store old new.store
 
 -- the function, and the machine with it
