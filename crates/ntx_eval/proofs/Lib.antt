@@ -8,3 +8,4 @@ pub mod RelatedCalls
 pub mod Steps
 pub mod WorkedProofs
 pub mod Running
+pub mod CodeArms
