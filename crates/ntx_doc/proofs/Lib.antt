@@ -2,5 +2,3 @@ pub mod Position
 pub mod LinesLemmas
 pub mod FieldsLemmas
 pub mod DigitsLemmas
-pub mod ShapeLemmas
-pub mod SpellingLemmas
