@@ -1,5 +1,5 @@
 -- What the commands of a document keep: line by line from the first place.
-use Rattle.std.proofs.Common.{◌≡◌, ℕ, ◌+◌, ◌≤◌, ◌<◌, Bool, true, false, cond, not, ◌||◌, ◌&&◌, List, [], ◌∷◌, map, length, filter, refl, sym, ap, subst, ◌∙◌, true≢false, arith}
+use Rattle.std.proofs.Common.{◌≡◌, ℕ, ◌+◌, ◌≤◌, ◌<◌, Bool, true, false, cond, not, ◌||◌, ◌&&◌, List, [], ◌∷◌, map, length, filter, reverse, refl, sym, ap, subst, ◌∙◌, true≢false, arith}
 use Rattle.std.specs.Prelude.{nat_lt, Option, None, Some, Result, Ok, Err, IfOk, slice_index, ◌==◌, if◌then◌else◌}
 use Rattle.std.specs.List.{AllByRecursion, list_all}
 use Rattle.std.specs.Str.Lines.{lines}
@@ -143,6 +143,17 @@ commands_kept fonts n (line ∷ others) place kept =
 
 pub document_kept : (bytes : List ℕ) (fonts : ℕ) (commands : List Command) → document_of bytes fonts ≡ Ok commands → AreKept fonts commands
 document_kept bytes fonts commands accepted = subst (λ r. IfOk r (AreKept fonts)) accepted (commands_kept fonts 0 (lines bytes) first_place (first_kept fonts))
+
+none_open : (groups : List Group) → length groups ≡ 0 → reverse groups ≡ []
+none_open [] none = refl
+none_open (group ∷ outer) none = absurd (omega (arith, none))
+
+-- a document whose last line leads to this place, where no box is open
+pub read_kept : (bytes : List ℕ) (fonts n : ℕ) (rest : List (List ℕ)) (place : Place) (groups : List Group) → commands_after fonts n rest place ≡ document_of bytes fonts → rest ≡ []
+    → place.groups ≡ reverse groups → length groups ≡ 0 → AreKept fonts place.done
+read_kept bytes fonts n rest place groups same over are none =
+    document_kept bytes fonts place.done
+    (sym same ∙ ap (λ l. commands_after fonts n l place) over ∙ ap (λ g. at_end n place.done g) (are ∙ none_open groups none))
 
 pub numbers_kept : (fonts : ℕ) (commands : List Command) → AllByRecursion (IsOuter fonts max_depth) commands → list_all has_numbers_in_range commands ≡ true
 numbers_kept fonts [] all = refl

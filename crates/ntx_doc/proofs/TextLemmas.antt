@@ -19,7 +19,7 @@ pub put_all_font : (commands : List Command) (place : Place) → (put_all comman
 put_all_font [] place = refl
 put_all_font (command ∷ commands) place = put_all_font commands (put command place)
 
-value_or : Place → Result Place DocWhy → Place
+abbrev value_or : Place → Result Place DocWhy → Place
 value_or place (Ok other) = other
 value_or place (Err e) = place
 

@@ -5,6 +5,8 @@
 --     has_fonts fonts command           each font is there, if there are as many
 --     may_stand_outside command         it is no node but a box, and no parameter is set in the box
 --     box_depth command                 how deep boxes nest, the outermost included; 0 if there is none
+-- `fold-Command` goes from the innermost boxes outwards: its layer gives the answer for a command, and at a box it is handed the
+-- answers for the commands in it.
 use Rattle.std.specs.Prelude.{ℕ, ◌+◌, nat_lt, nat_le, max, Bool, ◌&&◌, ◌||◌, true, false, not, List, [], ◌∷◌}
 use Rattle.std.specs.List.{list_all, list_any}
 use Rattle.ntx_num.specs.Dimension.{is_dimension, is_within, max_penalty}
@@ -29,7 +31,6 @@ abbrev pub is_box_width : PackTo → Bool
 is_box_width (Exactly w) = is_dimension w
 is_box_width (Additional w) = is_dimension w
 
--- Of a box, `inner` has the answers for the commands in it.
 abbrev pub numbers_layer : Command-F Bool → Bool
 numbers_layer (Command-F.Set p v) = is_in_range p v
 numbers_layer (Command-F.SetGlue g spec) = is_glue_in_range spec
