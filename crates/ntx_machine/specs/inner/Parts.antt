@@ -1,0 +1,39 @@
+-- What the parts of a machine say among themselves.
+use Rattle.std.specs.Prelude.{ℕ, List, Result, Ok, Err}
+use Rattle.ntx_num.specs.declared.answer.Fail.{Fail}
+use Rattle.ntx_num.specs.declared.answer.Fail.TheVariants.{NoMemory, Is}
+use Rattle.ntx_nodes.specs.Heap.{Heap}
+use Rattle.ntx_nodes.specs.Writing.{AreMakable}
+use Rattle.ntx_nodes.specs.declared.trouble.Trouble.{Trouble}
+use Rattle.ntx_nodes.specs.declared.trouble.Phase.{Phase}
+use Rattle.ntx_nodes.specs.declared.fields.Fields.{Fields}
+use Rattle.ntx_dvi.specs.declared.full.DviFull.{DviFull}
+use Rattle.ntx_doc.specs.declared.command.Command.{Command}
+use Rattle.ntx_doc.specs.Shape.{IsInBox, IsBox}
+use Rattle.ntx_machine.specs.declared.stop.Stop.{Stop}
+use Rattle.ntx_machine.specs.declared.stop.Stop.TheVariants as stop
+
+-- what the answer of a call on nodes is to the machine in a phase
+abbrev pub phased : {A : Type 0} → Phase → Result A (Fail Trouble) → Result A Stop
+phased phase (Ok a) = Ok a
+phased phase (Err NoMemory) = Err stop.Memory
+phased phase (Err (Is why)) = Err (stop.Engine why phase)
+
+-- the same of a call that takes no memory
+abbrev pub phased_at_once : {A : Type 0} → Phase → Result A Trouble → Result A Stop
+phased_at_once phase (Ok a) = Ok a
+phased_at_once phase (Err why) = Err (stop.Engine why phase)
+
+-- what the answer of the DVI file is to it
+abbrev pub filled : Result (Unit {0}) (Fail DviFull) → Result (Unit {0}) Stop
+filled (Ok _) = Ok tt
+filled (Err NoMemory) = Err stop.Memory
+filled (Err (Is full)) = Err stop.DviFull
+
+-- Nodes with these fields can be made over any nodes: the numbers are in range, and nothing is linked.
+abbrev pub AreAlwaysMakable : Fields → Type 0
+AreAlwaysMakable fields = (heap : Heap) → AreMakable heap fields
+
+-- A command that may stand in a box, if boxes nest in that box to this depth.
+abbrev pub MayStandIn : ℕ → ℕ → Command → Type 0
+MayStandIn fonts levels command = IsInBox fonts (λ to body. IsBox fonts levels to body) command

@@ -1,0 +1,66 @@
+//! Commands outside of boxes.
+
+ghost use Rattle.std.specs.Prelude.{◌≡◌, length, Some};
+ghost use Rattle.ntx_doc.specs.Boxes.{max_depth};
+ghost use Rattle.ntx_doc.specs.Shape.{IsBox, IsOutside};
+ghost use Rattle.ntx_hyph.specs.inner.Ends.{EndsAs};
+ghost use Rattle.ntx_machine.specs.Job.{box_step, command_step};
+ghost use Rattle.ntx_machine.specs.Machine.{fails};
+
+use crate::engine::Engine;
+use crate::stop::Stop;
+use ntx_doc::Command;
+use ntx_item::PackTo;
+use ntx_nodes::Nodes;
+use ntx_tfm::Font;
+use std::alloc::Global;
+
+/// As deep may boxes nest.
+const MAX_DEPTH: u64 = 20;
+
+impl<N: Nodes> Engine<N> {
+    /// Puts a box alone into the main list.
+    fn stand(&mut self, n: u64)
+        ensures { self.new ≡ record self.old { main = Some n } }
+    {
+        self.main = Some(n);
+    }
+
+    /// Builds a box outside of boxes.
+    fn outer_box(
+        &mut self,
+        alloc: Global,
+        fonts: &[Font],
+        to: PackTo,
+        body: &[Command],
+    ) -> Result<(), Stop>
+        requires { IsBox (length fonts.now) max_depth to body.now }
+        ensures ends { EndsAs (fails result) self.new (box_step fonts.now to body.now self.old) }
+        ensures writer { self.new.writer ≡ self.old.writer }
+    {
+        let n = self.build_box(alloc, fonts, MAX_DEPTH, to, body)?;
+        self.stand(n);
+        Ok(())
+    }
+
+    /// Does what a command outside of boxes asks for.
+    pub fn command(&mut self, alloc: Global, fonts: &[Font], command: &Command) -> Result<(), Stop>
+        requires { IsOutside (length fonts.now) command.now }
+        ensures ends { EndsAs (fails result) self.new (command_step fonts.now command.now self.old) }
+        ensures writer { self.new.writer ≡ self.old.writer }
+    {
+        match command {
+            Command::Set(p, v) => self.set_value(*p, *v),
+            Command::SetGlue(g, spec) => self.set_glue(*g, *spec),
+            Command::Attr(id, v) => self.set_attribute(*id, *v),
+            Command::NoAttr(id) => self.unset_attribute(*id),
+            Command::HBox { to, body } => self.outer_box(alloc, fonts, *to, body.as_slice()),
+            Command::Glue(_)
+            | Command::Kern(_)
+            | Command::Penalty(_)
+            | Command::Rule(_)
+            | Command::Glyph { .. }
+            | Command::Space { .. } => Ok(()),
+        }
+    }
+}
