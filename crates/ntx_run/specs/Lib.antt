@@ -1,7 +1,5 @@
 -- why a run stops: status, place and fault line
 pub mod StopReason
--- the page of a box of rules, and the operations that draw it
-pub mod Page
 -- a whole run as a function of words and bytes
 pub mod Run
 -- what a run does to sources and sinks: the promise of `run`
