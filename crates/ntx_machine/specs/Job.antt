@@ -2,8 +2,10 @@
 --     command_step fonts command      what a command outside of boxes does
 --     job fonts commands              the steps of a job
 --     ran steps                       the states after the steps, and how they end
---     moments                         the bytes and the nodes that stand after each step
+--     bytes_of, last_heap             the bytes and the nodes that a job gives
+--     moments_of                      those that it has given after each step
 use Rattle.std.specs.Prelude.{ℕ, List, [], ◌∷◌, ◌++◌, map, Some, Result, Ok, Err}
+use Rattle.std.specs.List.{flat_map}
 use Rattle.ntx_nodes.specs.Heap.{Heap}
 use Rattle.ntx_item.specs.declared.pack_to.PackTo.{PackTo}
 use Rattle.ntx_tfm.specs.Font.{FontTables}
@@ -69,22 +71,25 @@ job_ran fonts commands heap = ran (job fonts commands) (first_state heap)
 
 -- ---- what a job gives
 
+-- all bytes of the DVI file
+abbrev pub bytes_of : List State → List ℕ
+bytes_of states = flat_map (λ s. s.writer.waiting) states
+
+-- the last nodes, if these came before all steps
+abbrev pub last_heap : Heap → List State → Heap
+last_heap heap [] = heap
+last_heap heap (s ∷ rest) = last_heap s.heap rest
+
 -- What has been given after a step: all bytes of the DVI file so far, and the nodes.
 pub record Moment : Type 0 where
   pub dvi : List ℕ
   pub heap : Heap
 
--- the moments after these states, if so many bytes were given before them
+-- what has been given after each step that left one of these states, if these bytes were given before
 abbrev pub moments_from : List ℕ → List State → List Moment
 moments_from before [] = []
 moments_from before (s ∷ rest) =
     let now = before ++ s.writer.waiting in record { dvi = now; heap = s.heap } ∷ moments_from now rest
 
-abbrev pub moments : Ran → List Moment
-moments r = moments_from [] r.after
-
--- the last moment; before the first one nothing is given
-abbrev pub last_moment : Heap → List Moment → Moment
-last_moment heap [] = record { dvi = []; heap = heap }
-last_moment heap (m ∷ []) = m
-last_moment heap (m ∷ rest) = last_moment heap rest
+abbrev pub moments_of : List State → List Moment
+moments_of states = moments_from [] states

@@ -147,16 +147,6 @@ read_inputs sizes bytes =
 
 -- ---- runs
 
--- a run that stops before a machine is made
-abbrev pub stopped : StopReason → Ending
-stopped why =
-    record { status = status_of why; place = place_of why; dvi = []; printed = []; fault_line = line_of why; moments = []; heap = None }
-
--- the reason to stop, if the machine did
-abbrev pub reason_of : Result (Unit {0}) Stop → Option StopReason
-reason_of (Ok _) = None
-reason_of (Err why) = Some (of_machine why)
-
 abbrev pub status_for : Option StopReason → Status
 status_for None = status.Done
 status_for (Some why) = status_of why
@@ -169,6 +159,20 @@ abbrev pub line_for : Option StopReason → List ℕ
 line_for None = []
 line_for (Some why) = line_of why
 
+-- a run that stops for this reason, if there is one, after these bytes and moments and with these nodes
+abbrev pub ending_for : Option StopReason → List ℕ → List Moment → Option Heap → Ending
+ending_for why dvi moments heap =
+    record { status = status_for why; place = place_for why; dvi = dvi; printed = []; fault_line = line_for why; moments = moments; heap = heap }
+
+-- a run that stops before a machine is made
+abbrev pub stopped : StopReason → Ending
+stopped why = ending_for (Some why) [] [] None
+
+-- the reason to stop, if the machine did
+abbrev pub reason_of : Result (Unit {0}) Stop → Option StopReason
+reason_of (Ok _) = None
+reason_of (Err why) = Some (of_machine why)
+
 -- What the machine gives, moment by moment. The line that says why the run stopped is printed after the last step.
 abbrev pub moments_of : List ℕ → List machine.Moment → List Moment
 moments_of line [] = []
@@ -179,9 +183,7 @@ moments_of line (m ∷ rest) = record { dvi = m.dvi; printed = []; heap = m.heap
 abbrev pub machine_ending : Heap → machine.Ran → Ending
 machine_ending opening r =
     let why = reason_of r.ending in
-    let moments = machine.moments r in
-    let last = machine.last_moment opening moments in
-    record { status = status_for why; place = place_for why; dvi = last.dvi; printed = []; fault_line = line_for why; moments = moments_of (line_for why) moments; heap = Some last.heap }
+    ending_for why (machine.bytes_of r.after) (moments_of (line_for why) (machine.moments_of r.after)) (Some (machine.last_heap opening r.after))
 
 abbrev pub ending_of : Heap → Result Job StopReason → Ending
 ending_of opening (Ok job) = machine_ending opening (machine.job_ran job.fonts job.commands opening)

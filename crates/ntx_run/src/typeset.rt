@@ -1,9 +1,9 @@
 //! Typesetting the commands of a document into a DVI file.
 
-ghost use Rattle.std.specs.Prelude.{◌≡◌, [], length};
+ghost use Rattle.std.specs.Prelude.{◌≡◌, [], length, Ok};
 ghost use Rattle.ntx_doc.specs.Shape.{AreCommands};
 ghost use Rattle.ntx_machine.specs.Machine.{IsOpen};
-ghost use Rattle.ntx_run.specs.inner.Parts.{TakesWaiting, HandsOver, Typesets};
+ghost use Rattle.ntx_run.specs.inner.Parts.{HandsOverWaiting, HandsOver, Typesets};
 
 use crate::stop::StopReason;
 use ntx_doc::Command;
@@ -13,7 +13,7 @@ use ntx_nodes::Nodes;
 
 /// Hands the bytes that wait to the sink. If there are none, nothing is written.
 fn hand_over<N: Nodes, O: Sink>(machine: &mut Machine<N>, sink: &mut O) -> Result<(), StopReason>
-    ensures { TakesWaiting machine.old machine.new (O.output sink.old) (O.output sink.new) result }
+    ensures { HandsOverWaiting (Ok tt) machine.old machine.new (O.output sink.old) (O.output sink.new) result }
 {
     let bytes = machine.take_dvi();
     match write_all(sink, bytes.as_slice()) {
