@@ -93,3 +93,30 @@ moments_from before (s ∷ rest) =
 
 abbrev pub moments_of : List State → List Moment
 moments_of states = moments_from [] states
+
+-- ---- worked documents
+
+-- Each over an empty heap whose first name is 1. "Bytes" are those that wait after a step.
+--
+-- 1. `hbox`, `rule 65536 65536 0`, `end`. The first step makes the rule, 1, and packs it into box 2, 65536 wide and high; the main list is 2. No bytes. The
+--    end checks 2 and makes glue 3 of 655360 - 65536 = 589824 before it; packed, they are box 4, 589824 + 65536 = 655360 high and 65536 wide. `Begin`; the rule
+--    stands at h = 0 and v = 589824 + 65536 + 0 = 655360, in the group of box 2: `PageStart 1`, `Push`, `Right 0`, `Down 655360`, `Rule 65536 65536`, `Pop`,
+--    `PageEnd 655360 65536`; 4, 3, 2 and 1 are freed; `End`. 120 bytes. No nodes are left, and the next name is 5.
+-- 2. The empty document. The job is its end alone: the main list is empty, so there is no page. `Begin`, `End`: 60 bytes. The heap is as it was.
+-- 3. `hbox`, `hbox`, `rule 10 10 0`, `end`, `kern 5`, `rule 10 10 0`, `end`. Rule 1 is packed into box 2 before anything else is made; then kern 3 is linked to
+--    2, rule 4 to 3, and 2, 3, 4 are packed into box 5, 10 + 5 + 10 = 25 wide. Glue 6 of 655350 and box 7. Box 5 is a group, and box 2 one inside it: `Push`,
+--    `Push`, `Down 655360`, `Rule 10 10`, `Pop`, `Right 15`, `Down 655360`, `Rule 10 10`, `Pop`, since the end of box 2 brings back its beginning, the
+--    corner of the page.
+-- 4. With a font whose characters are 327680 wide and 286720 high, and whose space is 163840: `hbox`, `text a b`, `end`. Glyph 1, glue 2 of subtype 13, glyph 3,
+--    box 4, 819200 wide. Glue 5 of 655360 - 286720 = 368640, box 6. `Push`, `Down 655360`, `DefineFont 0`, `ChooseFont 0`, `SetCharacter 97`, `Right 163840`,
+--    `SetCharacter 98`, `Pop`.
+-- 5. With the same font: `hbox`, `text A`, `end`. Glyph 1 is made and worn; `hpack` finds no character 65. The machine stops for `NoChar 1` in phase hpack, with
+--    node 1 live, the next name 2, and no bytes.
+-- 6. `hbox`, `rule 1 1073741823 1`, `end`. Box 2 is 2^30-1 high and 1 deep; the glue before it is 0 wide, since topskip is less than its height; box 4 is as
+--    high. `Begin` is written. The lower edge of the rule is at v = 2^30, so the page is refused: the machine stops for `Dimension` in phase ship, with 1 to 4
+--    live and 18 bytes.
+-- 7. `attr 0 1` to `attr 64 1`: 65 steps. The last one stops the machine for `AttrFull` in phase build, with the 64 attributes before it current.
+-- 8. `attr 7 1`, `hbox`, `kern 5`, `noattr 7`, `end`. The kern wears attribute 7, and its box, the glue at the top and the box of the page wear none. Nothing
+--    stands on the page, but it is one: `PageStart 1`, `PageEnd 655360 5`.
+-- 9. `hbox to 100` with three times `glue 0 1 0 0 0` and `rule 10 10 0`. The glue has to make up for 70 with a stretch of 3, in the ratio of 70 over 3. The
+--    totals 70/3, 140/3 and 70 round to 23, 47 and 70, so the rules stand at 23, 23 + 10 + 24 = 57 and 57 + 10 + 23 = 90.
