@@ -8,21 +8,17 @@ pub mod Refusal
 pub mod Numbers
 -- the forms of lines and their first fields
 pub mod Forms
--- what the lines before a line say
-pub mod Place
--- lines that put one node into a box
-pub mod Material
--- lines that set parameters and attributes
-pub mod Settings
--- lines that open and close a box
-pub mod Boxes
--- lines of text
+-- what a line says by itself
+pub mod Instruction
+-- what words of text put into a box
 pub mod Words
+-- what the lines before a line say, and what an instruction does there
+pub mod Place
 -- where a line leads to
 pub mod Lines
 -- what a document says: `document_of`
 pub mod Document
 -- for private calls: the place that a draft holds
 pub mod Draft
--- what the commands of an accepted document can be
+-- what the commands of an accepted document keep
 pub mod Shape

@@ -1,5 +1,6 @@
 -- The numbers of a line: a field that writes no number is refused as Number, and then a number outside its range as Range.
-use Rattle.std.specs.Prelude.{ℕ, List, ℤ, pos, negsuc, neg_ℤ, nat_le, Result, Ok, Err}
+use Rattle.std.specs.Prelude.{ℕ, List, ℤ, pos, neg_ℤ, unsigned_abs, Result, Ok}
+use Rattle.ntx_num.specs.Answer.{result_map}
 use Rattle.ntx_num.specs.Dimension.{max_order, max_penalty}
 use Rattle.ntx_item.specs.Parameters.{Range, is_in, up_to, dimensions}
 use Rattle.ntx_doc.specs.declared.fault.DocWhy.{DocWhy}
@@ -12,12 +13,8 @@ abbrev pub number_in : Range → List ℕ → Result ℤ DocWhy
 number_in range field = refused_without why.Number (number_of field) (λ z. refused_unless why.Range (is_in range z) (Ok z))
 
 -- the number from 0 to `most` that a field writes; `-0` is 0
-abbrev pub natural_from : ℕ → ℤ → Result ℕ DocWhy
-natural_from most (pos n) = refused_unless why.Range (nat_le n most) (Ok n)
-natural_from most (negsuc n) = Err why.Range
-
 abbrev pub natural_in : ℕ → List ℕ → Result ℕ DocWhy
-natural_in most field = refused_without why.Number (number_of field) (λ z. natural_from most z)
+natural_in most field = result_map unsigned_abs (number_in (record { low = pos 0; high = pos most }) field)
 
 -- a length in scaled points, and the stretch or the shrink of glue
 abbrev pub dimension_in : List ℕ → Result ℤ DocWhy

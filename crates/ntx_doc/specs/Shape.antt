@@ -1,58 +1,92 @@
--- What the commands of an accepted document can be, for whoever carries them out.
---     AreCommands fonts commands      the commands of a document, if there are as many fonts: each in its place and its range
-use Rattle.std.specs.Prelude.{ℕ, zero, suc, ◌≤◌, ◌<◌, Bool, true, false, List, length, filter}
+-- What the commands of an accepted document keep, for whoever carries them out. That a box holds what stands between `hbox` and
+-- its `end` is part of the type of commands. `every-Command P command` says P of the command and of each command in it.
+--     HasNumbersInRange, HasFonts fonts      of a command by itself: its numbers are in their ranges, its fonts are there
+--     StandsOutside command                  it may stand outside of boxes, and each command in it may stand in a box
+--     box_depth command                      how deep boxes nest in it, itself included; 0 if it is no box
+use Rattle.std.specs.Prelude.{◌≡◌, ℕ, ◌+◌, ◌≤◌, ◌<◌, max, Bool, ◌||◌, true, false, List, [], ◌∷◌}
 use Rattle.std.specs.List.{AllByRecursion}
 use Rattle.ntx_num.specs.Dimension.{IsDimension, IsWithin, max_penalty}
 use Rattle.ntx_item.specs.Parameters.{IsIn, IsInRange, IsGlueInRange}
 use Rattle.ntx_item.specs.declared.pack_to.PackTo.{PackTo}
 use Rattle.ntx_item.specs.declared.pack_to.PackTo.TheVariants.{Exactly, Additional}
-use Rattle.ntx_doc.specs.declared.command.Command.{Command}
-use Rattle.ntx_doc.specs.declared.command.Command.TheVariants.{Set, SetGlue, Attr, NoAttr, HBox, Glue, Kern, Penalty, Rule, Glyph, Space}
+use Rattle.ntx_doc.specs.declared.command.Command.{Command, out-Command}
+use Rattle.ntx_doc.specs.declared.command.Command.TheOpen.{Command-F}
+use Rattle.ntx_doc.specs.declared.command.Command.TheFolds.{fold-Command, every-Command}
 use Rattle.ntx_doc.specs.Numbers.{attributes, attribute_values}
-use Rattle.ntx_doc.specs.Boxes.{max_depth}
+
+-- ---- numbers
 
 abbrev pub IsBoxWidth : PackTo → Type 0
 IsBoxWidth (Exactly w) = IsDimension w
 IsBoxWidth (Additional w) = IsDimension w
 
--- the number of a font that is there
-abbrev pub IsFont : ℕ → ℕ → Type 0
-IsFont fonts font = (font ≤ 63) × (font < fonts)
+-- each number of a command by itself is in its range
+abbrev pub HasNumbersInRange : Command-F Command → Type 0
+HasNumbersInRange (Command-F.Set p v) = IsInRange p v
+HasNumbersInRange (Command-F.SetGlue g spec) = IsGlueInRange spec
+HasNumbersInRange (Command-F.Attr id v) = IsIn attributes id × IsIn attribute_values v
+HasNumbersInRange (Command-F.NoAttr id) = IsIn attributes id
+HasNumbersInRange (Command-F.HBox to body) = IsBoxWidth to
+HasNumbersInRange (Command-F.Glue spec) = IsGlueInRange spec
+HasNumbersInRange (Command-F.Kern w) = IsDimension w
+HasNumbersInRange (Command-F.Penalty p) = IsWithin max_penalty p
+HasNumbersInRange (Command-F.Rule size) = IsDimension size.w × IsDimension size.h × IsDimension size.d
+HasNumbersInRange (Command-F.Glyph font code) = (font ≤ 63) × (code ≤ 255)
+HasNumbersInRange (Command-F.Space font) = font ≤ 63
 
--- a command in a box; `IsInner` says which boxes may stand there
-abbrev pub IsInBox : ℕ → (PackTo → List Command → Type 0) → Command → Type 0
-IsInBox fonts IsInner (Set p v) = ⊥
-IsInBox fonts IsInner (SetGlue g spec) = ⊥
-IsInBox fonts IsInner (Attr id v) = IsIn attributes id × IsIn attribute_values v
-IsInBox fonts IsInner (NoAttr id) = IsIn attributes id
-IsInBox fonts IsInner (HBox to body) = IsInner to body
-IsInBox fonts IsInner (Glue spec) = IsGlueInRange spec
-IsInBox fonts IsInner (Kern w) = IsDimension w
-IsInBox fonts IsInner (Penalty p) = IsWithin max_penalty p
-IsInBox fonts IsInner (Rule size) = IsDimension size.w × IsDimension size.h × IsDimension size.d
-IsInBox fonts IsInner (Glyph font code) = IsFont fonts font × (code ≤ 255)
-IsInBox fonts IsInner (Space font) = IsFont fonts font
+-- ---- fonts
 
--- a box in which boxes nest to this depth, itself included
-abbrev pub IsBox : ℕ → ℕ → PackTo → List Command → Type 0
-IsBox fonts zero to body = ⊥
-IsBox fonts (suc deeper) to body =
-    IsBoxWidth to × AllByRecursion (IsInBox fonts (λ inner commands. IsBox fonts deeper inner commands)) body
+-- the font of a command by itself is there
+abbrev pub HasFonts : ℕ → Command-F Command → Type 0
+HasFonts fonts (Command-F.Glyph font code) = font < fonts
+HasFonts fonts (Command-F.Space font) = font < fonts
+HasFonts fonts _ = Unit {0}
 
--- a command outside of boxes
-abbrev pub IsOutside : ℕ → Command → Type 0
-IsOutside fonts (Set p v) = IsInRange p v
-IsOutside fonts (SetGlue g spec) = IsGlueInRange spec
-IsOutside fonts (Attr id v) = IsIn attributes id × IsIn attribute_values v
-IsOutside fonts (NoAttr id) = IsIn attributes id
-IsOutside fonts (HBox to body) = IsBox fonts max_depth to body
-IsOutside fonts _ = ⊥
+-- ---- places
 
+abbrev sets_parameter : Command-F Command → Bool
+sets_parameter (Command-F.Set p v) = true
+sets_parameter (Command-F.SetGlue g spec) = true
+sets_parameter _ = false
+
+abbrev opens_box : Command-F Command → Bool
+opens_box (Command-F.HBox to body) = true
+opens_box _ = false
+
+abbrev changes_attributes : Command-F Command → Bool
+changes_attributes (Command-F.Attr id v) = true
+changes_attributes (Command-F.NoAttr id) = true
+changes_attributes _ = false
+
+-- the command sets a parameter
+abbrev pub is_setting : Command → Bool
+is_setting command = sets_parameter (out-Command command)
+
+-- the command is a box
 abbrev pub is_box : Command → Bool
-is_box (HBox to body) = true
-is_box _ = false
+is_box command = opens_box (out-Command command)
 
--- commands that may stand outside of boxes, with at most one box among them
-pub record AreCommands (fonts : ℕ) (commands : List Command) : Type 0 where
-  pub each : AllByRecursion (IsOutside fonts) commands
-  pub one_box : length (filter is_box commands) ≤ 1
+-- the command is one that may stand outside of boxes
+abbrev pub is_outer : Command → Bool
+is_outer command = is_setting command || is_box command || changes_attributes (out-Command command)
+
+-- no parameter is set directly in this box, if the command is one
+abbrev pub SetsNothingInside : Command-F Command → Type 0
+SetsNothingInside (Command-F.HBox to body) = AllByRecursion (λ inner. is_setting inner ≡ false) body
+SetsNothingInside _ = Unit {0}
+
+abbrev pub StandsOutside : Command → Type 0
+StandsOutside command = (is_outer command ≡ true) × every-Command SetsNothingInside command
+
+-- ---- nesting
+
+abbrev pub greatest : List ℕ → ℕ
+greatest [] = 0
+greatest (n ∷ others) = max n (greatest others)
+
+abbrev depth_layer : Command-F ℕ → ℕ
+depth_layer (Command-F.HBox to depths) = greatest depths + 1
+depth_layer _ = 0
+
+abbrev pub box_depth : Command → ℕ
+box_depth command = fold-Command ℕ depth_layer command

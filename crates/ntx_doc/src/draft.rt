@@ -1,19 +1,18 @@
 //! The state of a document that is read line by line.
 
-ghost use Rattle.std.specs.Prelude.{◌≡◌, ◌∷◌, slice_index, ◌==◌, Ok};
-ghost use Rattle.ntx_num.specs.Answer.{Answers, result_map};
+ghost use Rattle.std.specs.Prelude.{◌≡◌, ℕ, ◌∷◌, Ok};
+ghost use Rattle.ntx_num.specs.Answer.{Answers, result_map, result_and_then};
+ghost use Rattle.ntx_doc.specs.declared.form.Form.TheVariants as form;
 ghost use Rattle.ntx_doc.specs.Text.{fields_of};
+ghost use Rattle.ntx_doc.specs.Instruction.{Put};
 ghost use Rattle.ntx_doc.specs.Place as place;
-ghost use Rattle.ntx_doc.specs.Boxes as boxes;
 ghost use Rattle.ntx_doc.specs.Lines as specified;
 
 use crate::command::Command;
 use crate::fault::DocWhy;
-use crate::fields::one_field;
 use crate::form::Form;
 use crate::group::Group;
-use crate::material::{glue, glyph, kern, penalty, rule, space, width_of_box};
-use crate::numbers::natural_in;
+use crate::material::{box_width, code, font_number, glue, kern, penalty, rule};
 use crate::settings::{attr, no_attr, set, set_glue};
 use crate::text::{are_plain, next_field};
 use ntx_num::Fail;
@@ -22,9 +21,6 @@ use std::alloc::Global;
 
 /// The most boxes that are open at once.
 const MAX_DEPTH: usize = 20;
-
-/// The greatest font number.
-const MAX_FONT: u8 = 63;
 
 /// What the lines read so far say.
 #[derive(Drop)]
@@ -89,7 +85,7 @@ impl Draft {
         }
     }
 
-    /// The draft after the command `word` with the fields of `arguments`.
+    /// The draft after a line of the form whose first field is `word`.
     fn after_command(
         self,
         alloc: Global,
@@ -119,7 +115,7 @@ impl Draft {
         }
     }
 
-    /// The draft after a line of this form with the fields of `arguments`.
+    /// The draft after a line of this form, which may stand here, with the fields of `arguments`.
     fn after_form(
         self,
         alloc: Global,
@@ -128,9 +124,8 @@ impl Draft {
         arguments: &[u8],
     ) -> Result<Draft, Fail<DocWhy>>
         ensures { Answers (result_map place_of result)
-            (specified.after_form fonts form (fields_of arguments.now) (place_of self)) }
+            (specified.carry_out fonts form (fields_of arguments.now) (place_of self)) }
     {
-        let font = self.font;
         match form {
             Form::Set => self.with_command(set(arguments)),
             Form::SetGlue => self.with_command(set_glue(arguments)),
@@ -143,8 +138,8 @@ impl Draft {
             Form::Kern => self.with_command(kern(arguments)),
             Form::Penalty => self.with_command(penalty(arguments)),
             Form::Rule => self.with_command(rule(arguments)),
-            Form::Char => self.with_command(glyph(fonts, font, arguments)),
-            Form::Space => self.with_command(space(fonts, font, arguments)),
+            Form::Char => self.with_char(fonts, arguments),
+            Form::Space => self.with_space(fonts, arguments),
             Form::Text => self.with_text(fonts, arguments),
         }
     }
@@ -168,8 +163,8 @@ impl Draft {
 
     /// The draft with the command of a line, or the line's refusal.
     fn with_command(self, command: Result<Command, DocWhy>) -> Result<Draft, Fail<DocWhy>>
-        ensures { Answers (result_map place_of result)
-            (specified.with_command command (place_of self)) }
+        ensures { (fonts : ℕ) → Answers (result_map place_of result)
+            (result_and_then (result_map Put command) (λ i. place.follow fonts i (place_of self))) }
     {
         match command {
             Ok(command) => self.put(command),
@@ -180,25 +175,27 @@ impl Draft {
     /// The draft after `font K`, which changes the current font.
     fn with_font(self, fonts: u64, arguments: &[u8]) -> Result<Draft, Fail<DocWhy>>
         ensures { Answers (result_map place_of result)
-            (specified.font fonts (fields_of arguments.now) (place_of self)) }
+            (specified.carry_out fonts form.Font (fields_of arguments.now) (place_of self)) }
     {
-        match font_number(fonts, arguments) {
-            Ok(font) => {
-                let mut draft = self;
-                draft.font = font;
-                draft.after_text = false;
-                Ok(draft)
-            }
-            Err(why) => Err(Fail::Is(why)),
+        let font = match font_number(arguments) {
+            Ok(font) => font,
+            Err(why) => return Err(Fail::Is(why)),
+        };
+        if u64::from(font) >= fonts {
+            return Err(Fail::Is(DocWhy::Font));
         }
+        let mut draft = self;
+        draft.font = font;
+        draft.after_text = false;
+        Ok(draft)
     }
 
     /// The draft after `hbox` with these fields, which opens a box.
     fn opened(self, alloc: Global, arguments: &[u8]) -> Result<Draft, Fail<DocWhy>>
-        ensures { Answers (result_map place_of result)
-            (boxes.hbox (fields_of arguments.now) (place_of self)) }
+        ensures { (fonts : ℕ) → Answers (result_map place_of result)
+            (specified.carry_out fonts form.HBox (fields_of arguments.now) (place_of self)) }
     {
-        let to = match width_of_box(arguments) {
+        let to = match box_width(arguments) {
             Ok(to) => to,
             Err(why) => return Err(Fail::Is(why)),
         };
@@ -215,8 +212,8 @@ impl Draft {
 
     /// The draft after `end`, which closes the innermost box.
     fn closed(self, arguments: &[u8]) -> Result<Draft, Fail<DocWhy>>
-        ensures { Answers (result_map place_of result)
-            (boxes.end (fields_of arguments.now) (place_of self)) }
+        ensures { (fonts : ℕ) → Answers (result_map place_of result)
+            (specified.carry_out fonts form.End (fields_of arguments.now) (place_of self)) }
     {
         if next_field(arguments).is_some() {
             return Err(Fail::Is(DocWhy::Fields));
@@ -227,26 +224,42 @@ impl Draft {
             Some(Group { to, body }) => draft.put(Command::HBox { to, body }),
         }
     }
+
+    /// The draft after `char C`, which puts a character of the current font.
+    fn with_char(self, fonts: u64, arguments: &[u8]) -> Result<Draft, Fail<DocWhy>>
+        ensures { Answers (result_map place_of result)
+            (specified.carry_out fonts form.Char (fields_of arguments.now) (place_of self)) }
+    {
+        let code = match code(arguments) {
+            Ok(code) => code,
+            Err(why) => return Err(Fail::Is(why)),
+        };
+        if fonts == 0 {
+            return Err(Fail::Is(DocWhy::Font));
+        }
+        let font = self.font;
+        self.put(Command::Glyph { font, code })
+    }
+
+    /// The draft after `space`, which puts the space glue of the current font.
+    fn with_space(self, fonts: u64, arguments: &[u8]) -> Result<Draft, Fail<DocWhy>>
+        ensures { Answers (result_map place_of result)
+            (specified.carry_out fonts form.Space (fields_of arguments.now) (place_of self)) }
+    {
+        if next_field(arguments).is_some() {
+            return Err(Fail::Is(DocWhy::Fields));
+        }
+        if fonts == 0 {
+            return Err(Fail::Is(DocWhy::Font));
+        }
+        let font = self.font;
+        self.put(Command::Space { font })
+    }
 }
 
 /// Whether a line with this first field is a comment: the field begins with a percent sign.
 fn is_comment(word: &[u8]) -> bool
-    ensures { result ≡ (slice_index word.now 0 == 37) }
+    ensures { result ≡ specified.is_comment word.now }
 {
     word.first() == Some(&b'%')
-}
-
-/// The font number after `font`, which is below the number of fonts.
-fn font_number(fonts: u64, arguments: &[u8]) -> Result<u8, DocWhy>
-    ensures { result ≡ specified.font_number fonts (fields_of arguments.now) }
-{
-    let Some(field) = one_field(arguments) else {
-        return Err(DocWhy::Fields);
-    };
-    let font = natural_in(field, MAX_FONT)?;
-    if u64::from(font) < fonts {
-        Ok(font)
-    } else {
-        Err(DocWhy::Font)
-    }
 }

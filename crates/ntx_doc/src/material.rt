@@ -1,9 +1,8 @@
-//! The lines that put one node into a box, and what follows `hbox`.
+//! The lines that put one node into a box, and what follows `hbox` and `font`.
 
 ghost use Rattle.std.specs.Prelude.{◌≡◌};
 ghost use Rattle.ntx_doc.specs.Text.{fields_of};
-ghost use Rattle.ntx_doc.specs.Material as material;
-ghost use Rattle.ntx_doc.specs.Boxes.{pack_to};
+ghost use Rattle.ntx_doc.specs.Instruction as says;
 
 use crate::command::Command;
 use crate::fault::DocWhy;
@@ -13,6 +12,12 @@ use crate::text::next_field;
 use ntx_item::{GlueSpec, PackTo};
 use ntx_num::{MAX_ORDER, MAX_PENALTY, Size};
 
+/// The greatest number of a font.
+const MAX_FONT: u8 = 63;
+
+/// The greatest code of a character.
+const MAX_CODE: u8 = 255;
+
 /// The glue that five fields write.
 pub fn glue_spec(
     width: &[u8],
@@ -21,7 +26,7 @@ pub fn glue_spec(
     shrink: &[u8],
     shrink_order: &[u8],
 ) -> Result<GlueSpec, DocWhy>
-    ensures { result ≡ material.glue_spec width.now stretch.now stretch_order.now shrink.now shrink_order.now }
+    ensures { result ≡ says.glue_spec width.now stretch.now stretch_order.now shrink.now shrink_order.now }
 {
     let width = dimension_in(width)?;
     let stretch = dimension_in(stretch)?;
@@ -39,7 +44,7 @@ pub fn glue_spec(
 
 /// The command of `glue W ST SO SH HO`.
 pub fn glue(arguments: &[u8]) -> Result<Command, DocWhy>
-    ensures { result ≡ material.glue (fields_of arguments.now) }
+    ensures { result ≡ says.glue (fields_of arguments.now) }
 {
     let Some((width, stretch, stretch_order, shrink, shrink_order)) = five_fields(arguments) else {
         return Err(DocWhy::Fields);
@@ -50,7 +55,7 @@ pub fn glue(arguments: &[u8]) -> Result<Command, DocWhy>
 
 /// The command of `kern W`.
 pub fn kern(arguments: &[u8]) -> Result<Command, DocWhy>
-    ensures { result ≡ material.kern (fields_of arguments.now) }
+    ensures { result ≡ says.kern (fields_of arguments.now) }
 {
     let Some(width) = one_field(arguments) else {
         return Err(DocWhy::Fields);
@@ -60,7 +65,7 @@ pub fn kern(arguments: &[u8]) -> Result<Command, DocWhy>
 
 /// The command of `penalty P`.
 pub fn penalty(arguments: &[u8]) -> Result<Command, DocWhy>
-    ensures { result ≡ material.penalty (fields_of arguments.now) }
+    ensures { result ≡ says.penalty (fields_of arguments.now) }
 {
     let Some(penalty) = one_field(arguments) else {
         return Err(DocWhy::Fields);
@@ -71,7 +76,7 @@ pub fn penalty(arguments: &[u8]) -> Result<Command, DocWhy>
 
 /// The command of `rule W H D`.
 pub fn rule(arguments: &[u8]) -> Result<Command, DocWhy>
-    ensures { result ≡ material.rule (fields_of arguments.now) }
+    ensures { result ≡ says.rule (fields_of arguments.now) }
 {
     let Some((width, height, depth)) = three_fields(arguments) else {
         return Err(DocWhy::Fields);
@@ -82,36 +87,19 @@ pub fn rule(arguments: &[u8]) -> Result<Command, DocWhy>
     Ok(Command::Rule(Size { w, h, d }))
 }
 
-/// The command of `char C`, if there are `fonts` fonts and `font` is the current one.
-pub fn glyph(fonts: u64, font: u8, arguments: &[u8]) -> Result<Command, DocWhy>
-    ensures { result ≡ material.glyph fonts font (fields_of arguments.now) }
+/// The code after `char`.
+pub fn code(arguments: &[u8]) -> Result<u8, DocWhy>
+    ensures { result ≡ says.code (fields_of arguments.now) }
 {
     let Some(code) = one_field(arguments) else {
         return Err(DocWhy::Fields);
     };
-    let code = natural_in(code, 255)?;
-    if fonts == 0 {
-        return Err(DocWhy::Font);
-    }
-    Ok(Command::Glyph { font, code })
-}
-
-/// The command of `space`, if there are `fonts` fonts and `font` is the current one.
-pub fn space(fonts: u64, font: u8, arguments: &[u8]) -> Result<Command, DocWhy>
-    ensures { result ≡ material.space fonts font (fields_of arguments.now) }
-{
-    if next_field(arguments).is_some() {
-        return Err(DocWhy::Fields);
-    }
-    if fonts == 0 {
-        return Err(DocWhy::Font);
-    }
-    Ok(Command::Space { font })
+    natural_in(code, MAX_CODE)
 }
 
 /// The width that the fields after `hbox` say.
-pub fn width_of_box(arguments: &[u8]) -> Result<PackTo, DocWhy>
-    ensures { result ≡ pack_to (fields_of arguments.now) }
+pub fn box_width(arguments: &[u8]) -> Result<PackTo, DocWhy>
+    ensures { result ≡ says.box_width (fields_of arguments.now) }
 {
     let Some((word, rest)) = next_field(arguments) else {
         return Ok(PackTo::Additional(0));
@@ -126,4 +114,14 @@ pub fn width_of_box(arguments: &[u8]) -> Result<PackTo, DocWhy>
     } else {
         Err(DocWhy::Fields)
     }
+}
+
+/// The number after `font`.
+pub fn font_number(arguments: &[u8]) -> Result<u8, DocWhy>
+    ensures { result ≡ says.font_number (fields_of arguments.now) }
+{
+    let Some(number) = one_field(arguments) else {
+        return Err(DocWhy::Fields);
+    };
+    natural_in(number, MAX_FONT)
 }

@@ -2,7 +2,7 @@
 
 ghost use Rattle.std.specs.Prelude.{◌≡◌};
 ghost use Rattle.ntx_doc.specs.Text.{fields_of};
-ghost use Rattle.ntx_doc.specs.Settings as settings;
+ghost use Rattle.ntx_doc.specs.Instruction as says;
 
 use crate::command::Command;
 use crate::fault::DocWhy;
@@ -23,7 +23,7 @@ const MAX_ATTRIBUTE_VALUE: i64 = 2_147_483_647;
 
 /// The command of `set NAME V`.
 pub fn set(arguments: &[u8]) -> Result<Command, DocWhy>
-    ensures { result ≡ settings.set (fields_of arguments.now) }
+    ensures { result ≡ says.set (fields_of arguments.now) }
 {
     let Some((name, value)) = two_fields(arguments) else {
         return Err(DocWhy::Fields);
@@ -45,7 +45,7 @@ pub fn set(arguments: &[u8]) -> Result<Command, DocWhy>
 
 /// The command of `setglue NAME W ST SO SH HO`.
 pub fn set_glue(arguments: &[u8]) -> Result<Command, DocWhy>
-    ensures { result ≡ settings.set_glue (fields_of arguments.now) }
+    ensures { result ≡ says.set_glue (fields_of arguments.now) }
 {
     let Some((name, rest)) = next_field(arguments) else {
         return Err(DocWhy::Fields);
@@ -62,7 +62,7 @@ pub fn set_glue(arguments: &[u8]) -> Result<Command, DocWhy>
 
 /// The command of `attr ID V`.
 pub fn attr(arguments: &[u8]) -> Result<Command, DocWhy>
-    ensures { result ≡ settings.attr (fields_of arguments.now) }
+    ensures { result ≡ says.attr (fields_of arguments.now) }
 {
     let Some((id, value)) = two_fields(arguments) else {
         return Err(DocWhy::Fields);
@@ -74,7 +74,7 @@ pub fn attr(arguments: &[u8]) -> Result<Command, DocWhy>
 
 /// The command of `noattr ID`.
 pub fn no_attr(arguments: &[u8]) -> Result<Command, DocWhy>
-    ensures { result ≡ settings.no_attr (fields_of arguments.now) }
+    ensures { result ≡ says.no_attr (fields_of arguments.now) }
 {
     let Some(id) = one_field(arguments) else {
         return Err(DocWhy::Fields);
