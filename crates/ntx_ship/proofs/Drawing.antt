@@ -1,18 +1,22 @@
 -- Pieces that are written one after another.
 use Rattle.std.proofs.Common.{◌≡◌, ℕ, ◌+◌, ◌≤◌, ◌<◌, List, [], ◌∷◌, ◌++◌, length, drop, get_or, Ok, Err, refl, ap, sym, ◌∙◌, subst}
-use Rattle.std.specs.Prelude.{Result}
+use Rattle.std.specs.Prelude.{Result, Option, Some, None, ℤ, pos}
 use Rattle.std.proofs.lemmas.List.{at_drop_more, at_drop_all}
 use Rattle.ntx_num.specs.declared.answer.Fail.{Fail}
 use Rattle.ntx_num.specs.declared.answer.Fail.TheVariants.{NoMemory, Is}
 use Rattle.ntx_tfm.specs.Font.{FontTables}
 use Rattle.ntx_dvi.specs.declared.full.DviFull.{DviFull}
-use Rattle.ntx_dvi.specs.Operation.{Operation}
+use Rattle.ntx_dvi.specs.Operation.{Operation, PageStart, PageEnd}
 use Rattle.ntx_dvi.specs.Progress.{Progress}
 use Rattle.ntx_dvi.specs.Writer.{Writer}
 use Rattle.ntx_dvi.specs.Written.{Writes}
 use Rattle.ntx_dvi.proofs.Writing.{writes_append, writes_stop, writes_none, writes_nothing}
 use Rattle.ntx_ship.specs.declared.piece.Piece.{Piece}
-use Rattle.ntx_ship.specs.Operations.{Pen, pen_after, piece_operations, after_all, pieces_operations}
+use Rattle.ntx_ship.specs.declared.piece.GlyphMark.{GlyphMark}
+use Rattle.ntx_ship.specs.declared.place.Place.{Place}
+use Rattle.ntx_ship.specs.Placed.{Page}
+use Rattle.ntx_ship.specs.Drawable.{AreDrawable}
+use Rattle.ntx_ship.specs.Operations.{Pen, pen_at_start, pen_after, movement, glyph_of, piece_operations, after_all, pieces_operations, page_operations}
 use Rattle.ntx_ship.proofs.Leaves.{written_leaves}
 
 pieces_nil : (fonts : List FontTables) (p : Progress) (pen : Pen) → pieces_operations fonts p pen [] ≡ []
@@ -62,3 +66,42 @@ pub goes_to_the_end : (a : Unit {0}) (fonts : List FontTables) (old : Writer) (b
 goes_to_the_end a fonts old begun all now pen i past g =
     g.writes (Ok a) now
     (subst (Writes (Ok a) now now) (sym (at_drop_all (λ (ps : List Piece). pieces_operations fonts now.progress pen ps) all i past ∙ pieces_nil fonts now.progress pen)) (writes_nothing a now))
+
+-- ---- pieces that can be drawn
+
+-- What is left begins with a piece that can be drawn.
+pub next_drawable : (pushed : ℕ) (all : List Piece) (i : ℕ) (d : Piece) → i < length all → AreDrawable pushed (drop i all) → AreDrawable pushed (get_or all i d ∷ drop (i + 1) all)
+next_drawable pushed all i d within left = subst (AreDrawable pushed) (at_drop_more (λ (ps : List Piece). ps) all i d within) left
+
+pub none_drawable : (pushed : ℕ) (all : List Piece) (i : ℕ) → length all ≤ i → AreDrawable pushed (drop i all) → pushed ≡ 0
+none_drawable pushed all i past left = subst (AreDrawable pushed) (at_drop_all (λ (ps : List Piece). ps) all i past) left
+
+-- ---- one character
+
+-- A movement leaves the fonts as they were.
+moved_keeps : (p : Progress) (here : Place) (h v : ℤ) (m : GlyphMark) (o : Option FontTables) → glyph_of (after_all p (movement here h v)) m o ≡ glyph_of p m o
+moved_keeps p here h v m None = refl
+moved_keeps p here h v m (Some font) = refl
+
+pub glyph_written : {a : Unit {0}} {result : Result (Unit {0}) (Fail DviFull)} {old mid new : Writer} (here : Place) (m : GlyphMark) (o : Option FontTables) → Writes (Ok a) old mid (movement here m.h m.v) → Writes result mid new (glyph_of mid.progress m o) → Writes result old new (movement here m.h m.v ++ glyph_of old.progress m o)
+glyph_written {result = result} {old = old} {mid = mid} {new = new} here m o moved set =
+    let leaves : mid.progress ≡ after_all old.progress (movement here m.h m.v) = written_leaves old mid (movement here m.h m.v) moved.done in
+    writes_append moved (subst (Writes result mid new) (ap (λ (p : Progress). glyph_of p m o) leaves ∙ moved_keeps old.progress here m.h m.v m o) set)
+
+-- ---- pages
+
+-- the beginning of the next page
+abbrev start_of : Progress → Operation
+start_of p = PageStart (pos (p.pages + 1))
+
+pub page_drawn : {a b : Unit {0}} {result : Result (Unit {0}) (Fail DviFull)} {old begun drawn new : Writer} (fonts : List FontTables) (page : Page) → Writes (Ok a) old begun (PageStart (pos (old.progress.pages + 1)) ∷ []) → Writes (Ok b) begun drawn (pieces_operations fonts begun.progress pen_at_start page.pieces) → Writes result drawn new (PageEnd page.total page.width ∷ []) →
+    Writes result old new (page_operations fonts old.progress page)
+page_drawn {b = b} {old = old} {begun = begun} {drawn = drawn} fonts page first pieces last =
+    let leaves : begun.progress ≡ after_all old.progress (start_of old.progress ∷ []) = written_leaves old begun (start_of old.progress ∷ []) first.done in
+    writes_append first (writes_append (subst (λ (p : Progress). Writes (Ok b) begun drawn (pieces_operations fonts p pen_at_start page.pieces)) leaves pieces) last)
+
+pub page_stopped : {a : Unit {0}} {e : Fail DviFull} {old begun new : Writer} (fonts : List FontTables) (page : Page) → Writes (Ok a) old begun (PageStart (pos (old.progress.pages + 1)) ∷ []) → Writes (Err e) begun new (pieces_operations fonts begun.progress pen_at_start page.pieces) →
+    Writes (Err e) old new (page_operations fonts old.progress page)
+page_stopped {e = e} {old = old} {begun = begun} {new = new} fonts page first pieces =
+    let leaves : begun.progress ≡ after_all old.progress (start_of old.progress ∷ []) = written_leaves old begun (start_of old.progress ∷ []) first.done in
+    writes_append first (writes_stop (PageEnd page.total page.width ∷ []) (subst (λ (p : Progress). Writes (Err e) begun new (pieces_operations fonts p pen_at_start page.pieces)) leaves pieces))

@@ -22,3 +22,7 @@ pub mod Leaves
 pub mod Drawing
 -- the lists of a page are freed
 pub mod Freeing
+-- the place on a page after a piece
+pub mod Pens
+-- what shipping a page does
+pub mod Shipped

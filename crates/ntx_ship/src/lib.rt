@@ -12,7 +12,7 @@ mod pen;
 mod piece;
 mod place;
 mod placing;
-mod ship;
+mod shipout;
 mod size;
 mod station;
 mod write;
@@ -20,7 +20,7 @@ mod write;
 pub use fault::ShipFault;
 pub use page::{PlacedPage, placed};
 pub use piece::{GlyphMark, Piece, RuleMark};
-pub use ship::ship;
+pub use shipout::ship;
 
 #[cfg(test)]
 mod tests;

@@ -61,10 +61,10 @@ impl PenStack {
     fn back(&mut self)
         ensures { self.new ≡ pen_back self.old.begun }
     {
-        self.here = match self.begun.pop() {
-            Some(place) => place,
-            None => CORNER,
-        };
+        match self.begun.pop() {
+            Some(place) => self.here = place,
+            None => self.here = CORNER,
+        }
     }
 
     /// Goes past a piece.

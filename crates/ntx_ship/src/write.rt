@@ -38,8 +38,10 @@ fn move_to(dvi: &mut Dvi, here: Place, h: i32, v: i32) -> Result<(), Fail<DviFul
     ensures pushes { OnOk result (dvi.new.progress.open_pushes ≡ dvi.old.progress.open_pushes) }
     ensures fonts { dvi.new.progress.fonts ≡ dvi.old.progress.fonts }
 {
-    dvi.right(distance(here.h, h))?;
-    dvi.down(distance(here.v, v))
+    let right = distance(here.h, h);
+    let down = distance(here.v, v);
+    dvi.right(right)?;
+    dvi.down(down)
 }
 
 /// Sets a character whose reference point is the place on the page.

@@ -1,8 +1,5 @@
 //! Pages as bytes, worked out from the form of DVI files.
 
-ghost use Rattle.std.specs.Prelude.{IfOk};
-ghost use Rattle.ntx_dvi.specs.Writer.{IsBetweenPages};
-
 use super::lists::Part::{Kern, Letter, Node, Rule};
 use super::lists::{hbox, letter_font};
 use crate::{ShipFault, ship};

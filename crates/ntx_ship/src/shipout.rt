@@ -1,6 +1,6 @@
 //! Shipping pages.
 
-ghost use Rattle.std.specs.Prelude.{◌≡◌, Some, Ok, OnOk, IsOk};
+ghost use Rattle.std.specs.Prelude.{◌≡◌, ◌+◌, pos, Some, Ok, OnOk, IsOk};
 ghost use Rattle.ntx_nodes.specs.Walk.{plain_walk};
 ghost use Rattle.ntx_lists.specs.Trees.{flush_list_step};
 ghost use Rattle.ntx_dvi.specs.Fonts.{AreKnown};
@@ -17,6 +17,13 @@ use ntx_nodes::{Nodes, Trouble};
 use ntx_num::Fail;
 use ntx_tfm::Font;
 use std::alloc::Global;
+
+/// The number of the next page.
+fn next_number(dvi: &Dvi) -> i32
+    ensures { result ≡ pos (dvi.now.progress.pages + 1) }
+{
+    (dvi.pages() + 1) as i32
+}
 
 /// A refusal of the page.
 fn refused(why: Fail<Trouble>) -> Fail<ShipFault>
@@ -78,7 +85,7 @@ pub fn ship<N: Nodes>(
         Ok(placed) => placed,
         Err(why) => return Err(refused(why)),
     };
-    let number = (dvi.pages() + 1) as i32;
+    let number = next_number(dvi);
     match write_page(alloc, dvi, fonts, number, &placed) {
         Ok(()) => {
             free_page(nodes, page);
