@@ -1,13 +1,14 @@
 //! Building boxes ("TeX: The Program", sections 1056 to 1086).
 
-ghost use Rattle.std.specs.Prelude.{◌≡◌, map, length};
+ghost use Rattle.std.specs.Prelude.{◌≡◌, map, None};
 ghost use Rattle.std.specs.List.{AllByRecursion};
 ghost use Rattle.ntx_nodes.specs.Writing.{AreMakable};
 ghost use Rattle.ntx_hyph.specs.inner.Ends.{EndsAs};
-ghost use Rattle.ntx_doc.specs.Shape.{IsInBox, IsBox};
+ghost use Rattle.ntx_doc.specs.declared.command.Command.TheFolds.{every-Command};
+ghost use Rattle.ntx_doc.specs.Shape.{HasNumbersInRange};
 ghost use Rattle.ntx_machine.specs.Build.{made, linked, grown_by, packed, growth, grown_by_all, box_built, head_of};
 ghost use Rattle.ntx_machine.specs.Machine.{fails};
-ghost use Rattle.ntx_machine.specs.inner.Parts.{AreAlwaysMakable, MayStandIn};
+ghost use Rattle.ntx_machine.specs.inner.Parts.{AreAlwaysMakable};
 
 use crate::ends::Ends;
 use crate::engine::Engine;
@@ -96,16 +97,15 @@ impl<N: Nodes> Engine<N> {
         Ok(n)
     }
 
-    /// Does what a command in a box asks for, which may add a node to the end of the list. Boxes nest in it to a depth of `levels`.
+    /// Does what a command in a box asks for, which may add a node to the end of the list.
     fn grow(
         &mut self,
         alloc: Global,
         fonts: &[Font],
-        levels: u64,
         list: Option<Ends>,
         command: &Command,
     ) -> Result<Option<Ends>, Stop>
-        requires { MayStandIn (length fonts.now) levels command.now }
+        requires { every-Command HasNumbersInRange command.now }
         ensures ends { EndsAs (fails result) self.new (growth fonts.now command.now list self.old) }
         ensures writer { self.new.writer ≡ self.old.writer }
     {
@@ -115,7 +115,7 @@ impl<N: Nodes> Engine<N> {
             Command::Attr(id, v) => self.set_attribute(*id, *v)?,
             Command::NoAttr(id) => self.unset_attribute(*id)?,
             Command::HBox { to, body } => {
-                let n = self.build_box(alloc, fonts, levels, *to, body.as_slice())?;
+                let n = self.build_box(alloc, fonts, *to, body.as_slice())?;
                 return self.link(list, n);
             }
             Command::Glue(spec) => return self.grow_by(list, glue_node(0, *spec)),
@@ -130,39 +130,37 @@ impl<N: Nodes> Engine<N> {
         Ok(list)
     }
 
-    /// Builds the list of these commands. Boxes nest in it to a depth of `levels`.
+    /// Builds the list of these commands from nothing. This calls itself for the boxes in it, which nest to depth 20 in a document.
     fn build_list(
         &mut self,
         alloc: Global,
         fonts: &[Font],
-        levels: u64,
         body: &[Command],
     ) -> Result<Option<Ends>, Stop>
-        requires { AllByRecursion (MayStandIn (length fonts.now) levels) body.now }
+        requires { AllByRecursion (every-Command HasNumbersInRange) body.now }
         ensures ends { EndsAs (fails result) self.new (grown_by_all (map (growth fonts.now) body.now) None self.old) }
         ensures writer { self.new.writer ≡ self.old.writer }
     {
         let mut list = None;
         for command in body {
-            list = self.grow(alloc, fonts, levels, list, command)?;
+            list = self.grow(alloc, fonts, list, command)?;
         }
         Ok(list)
     }
 
-    /// Builds a box: the list of these commands is built from nothing and packed. Boxes nest to a depth of `levels`, this one included.
+    /// Builds a box: the list of these commands is built and packed.
     pub fn build_box(
         &mut self,
         alloc: Global,
         fonts: &[Font],
-        levels: u64,
         to: PackTo,
         body: &[Command],
     ) -> Result<u64, Stop>
-        requires { IsBox (length fonts.now) levels to body.now }
+        requires { AllByRecursion (every-Command HasNumbersInRange) body.now }
         ensures ends { EndsAs (fails result) self.new (box_built fonts.now to body.now self.old) }
         ensures writer { self.new.writer ≡ self.old.writer }
     {
-        let list = self.build_list(alloc, fonts, levels - 1, body)?;
+        let list = self.build_list(alloc, fonts, body)?;
         self.pack(alloc, fonts, to, head_of(list))
     }
 }

@@ -1,8 +1,9 @@
 //! Commands outside of boxes.
 
-ghost use Rattle.std.specs.Prelude.{◌≡◌, length, Some};
-ghost use Rattle.ntx_doc.specs.Boxes.{max_depth};
-ghost use Rattle.ntx_doc.specs.Shape.{IsBox, IsOutside};
+ghost use Rattle.std.specs.Prelude.{◌≡◌, Some};
+ghost use Rattle.std.specs.List.{AllByRecursion};
+ghost use Rattle.ntx_doc.specs.declared.command.Command.TheFolds.{every-Command};
+ghost use Rattle.ntx_doc.specs.Shape.{HasNumbersInRange};
 ghost use Rattle.ntx_hyph.specs.inner.Ends.{EndsAs};
 ghost use Rattle.ntx_machine.specs.Job.{box_step, command_step};
 ghost use Rattle.ntx_machine.specs.Machine.{fails};
@@ -14,9 +15,6 @@ use ntx_item::PackTo;
 use ntx_nodes::Nodes;
 use ntx_tfm::Font;
 use std::alloc::Global;
-
-/// As deep may boxes nest.
-const MAX_DEPTH: u64 = 20;
 
 impl<N: Nodes> Engine<N> {
     /// Puts a box alone into the main list.
@@ -34,18 +32,18 @@ impl<N: Nodes> Engine<N> {
         to: PackTo,
         body: &[Command],
     ) -> Result<(), Stop>
-        requires { IsBox (length fonts.now) max_depth to body.now }
+        requires { AllByRecursion (every-Command HasNumbersInRange) body.now }
         ensures ends { EndsAs (fails result) self.new (box_step fonts.now to body.now self.old) }
         ensures writer { self.new.writer ≡ self.old.writer }
     {
-        let n = self.build_box(alloc, fonts, MAX_DEPTH, to, body)?;
+        let n = self.build_box(alloc, fonts, to, body)?;
         self.stand(n);
         Ok(())
     }
 
     /// Does what a command outside of boxes asks for.
     pub fn command(&mut self, alloc: Global, fonts: &[Font], command: &Command) -> Result<(), Stop>
-        requires { IsOutside (length fonts.now) command.now }
+        requires { every-Command HasNumbersInRange command.now }
         ensures ends { EndsAs (fails result) self.new (command_step fonts.now command.now self.old) }
         ensures writer { self.new.writer ≡ self.old.writer }
     {

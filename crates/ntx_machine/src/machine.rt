@@ -1,8 +1,9 @@
 //! The machine, as its callers see it.
 
-ghost use Rattle.std.specs.Prelude.{◌≡◌, length};
+ghost use Rattle.std.specs.Prelude.{◌≡◌};
 ghost use Rattle.ntx_num.specs.Answer.{Gives};
-ghost use Rattle.ntx_doc.specs.Shape.{IsOutside};
+ghost use Rattle.ntx_doc.specs.declared.command.Command.TheFolds.{every-Command};
+ghost use Rattle.ntx_doc.specs.Shape.{HasNumbersInRange};
 ghost use Rattle.ntx_machine.specs.Shipout.{ended};
 ghost use Rattle.ntx_machine.specs.Job.{command_step};
 ghost use Rattle.ntx_machine.specs.Machine.{new_machine, emptied, IsOpen, Carries, kept_of};
@@ -81,9 +82,10 @@ impl<N: Nodes> Machine<N> {
         answer
     }
 
-    /// Carries out a command of a document. It may stand outside of boxes there.
+    /// Carries out a command of a document that stands outside of boxes. Each number in it is in the range that a document gives it. A command
+    /// that does not stand there does nothing. The stack holds a call for each box in a box.
     pub fn command(&mut self, command: &Command) -> Result<(), Stop>
-        requires { IsOutside (length self.old.fonts) command.now }
+        requires { every-Command HasNumbersInRange command.now }
         ensures carries { Carries result self.old self.new (command_step self.old.fonts command.now) }
         ensures writer { self.new.state.writer ≡ self.old.state.writer }
     {

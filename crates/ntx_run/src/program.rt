@@ -1,10 +1,12 @@
 //! The whole program but for the files and the process around it.
 
-ghost use Rattle.std.specs.Prelude.{◌≡◌, map, length, string_bytes, Option, None, option_map};
+ghost use Rattle.std.specs.Prelude.{◌≡◌, map, string_bytes, Option, None, option_map};
 ghost use Rattle.ntx_nodes.specs.Heap.{Heap};
 ghost use Rattle.ntx_nodes.specs.Steps.{empty_heap};
 ghost use Rattle.ntx_run.specs.Outside.{Runs, outside};
-ghost use Rattle.ntx_doc.specs.Shape.{AreCommands};
+ghost use Rattle.std.specs.List.{AllByRecursion};
+ghost use Rattle.ntx_doc.specs.declared.command.Command.TheFolds.{every-Command};
+ghost use Rattle.ntx_doc.specs.Shape.{HasNumbersInRange};
 ghost use Rattle.ntx_run.specs.Run.{job_of};
 ghost use Rattle.ntx_run.specs.inner.Parts.{Reports, RunsJob};
 
@@ -51,7 +53,7 @@ fn run_job<N: Nodes, O: Sink, L: Sink>(
     dvi: &mut O,
     lines: &mut L,
 ) -> (Status, Option<Place>, Option<N>)
-    requires { AreCommands (length job.fonts.items) job.commands.items }
+    requires { AllByRecursion (every-Command HasNumbersInRange) job.commands.items }
     ensures { RunsJob (job_of job.commands.items job.fonts.items) (N.heap nodes) (O.output dvi.old) (O.output dvi.new) (L.output lines.old) (L.output lines.new)
         result.0 result.1 (option_map (λ nodes. N.heap nodes) result.2) }
 {

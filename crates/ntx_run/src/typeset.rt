@@ -1,7 +1,9 @@
 //! Typesetting the commands of a document into a DVI file.
 
-ghost use Rattle.std.specs.Prelude.{◌≡◌, [], length, Ok};
-ghost use Rattle.ntx_doc.specs.Shape.{AreCommands};
+ghost use Rattle.std.specs.Prelude.{Ok};
+ghost use Rattle.std.specs.List.{AllByRecursion};
+ghost use Rattle.ntx_doc.specs.declared.command.Command.TheFolds.{every-Command};
+ghost use Rattle.ntx_doc.specs.Shape.{HasNumbersInRange};
 ghost use Rattle.ntx_machine.specs.Machine.{IsOpen};
 ghost use Rattle.ntx_run.specs.inner.Parts.{HandsOverWaiting, HandsOver, Typesets};
 
@@ -47,7 +49,7 @@ pub fn typeset<N: Nodes, O: Sink>(
     sink: &mut O,
 ) -> Result<(), StopReason>
     requires open { IsOpen machine.old }
-    requires shape { AreCommands (length machine.old.fonts) commands.now }
+    requires numbers { AllByRecursion (every-Command HasNumbersInRange) commands.now }
     ensures { Typesets commands.now machine.old machine.new (O.output sink.old) (O.output sink.new) result }
 {
     for command in commands {

@@ -1,5 +1,5 @@
 -- What the parts of a machine say among themselves.
-use Rattle.std.specs.Prelude.{ℕ, List, Result, Ok, Err}
+use Rattle.std.specs.Prelude.{Result, Ok, Err}
 use Rattle.ntx_num.specs.declared.answer.Fail.{Fail}
 use Rattle.ntx_num.specs.declared.answer.Fail.TheVariants.{NoMemory, Is}
 use Rattle.ntx_nodes.specs.Heap.{Heap}
@@ -8,8 +8,6 @@ use Rattle.ntx_nodes.specs.declared.trouble.Trouble.{Trouble}
 use Rattle.ntx_nodes.specs.declared.trouble.Phase.{Phase}
 use Rattle.ntx_nodes.specs.declared.fields.Fields.{Fields}
 use Rattle.ntx_dvi.specs.declared.full.DviFull.{DviFull}
-use Rattle.ntx_doc.specs.declared.command.Command.{Command}
-use Rattle.ntx_doc.specs.Shape.{IsInBox, IsBox}
 use Rattle.ntx_machine.specs.declared.stop.Stop.{Stop}
 use Rattle.ntx_machine.specs.declared.stop.Stop.TheVariants as stop
 
@@ -33,7 +31,3 @@ filled (Err (Is full)) = Err stop.DviFull
 -- Nodes with these fields can be made over any nodes: the numbers are in range, and nothing is linked.
 abbrev pub AreAlwaysMakable : Fields → Type 0
 AreAlwaysMakable fields = (heap : Heap) → AreMakable heap fields
-
--- A command that may stand in a box, if boxes nest in that box to this depth.
-abbrev pub MayStandIn : ℕ → ℕ → Command → Type 0
-MayStandIn fonts levels command = IsInBox fonts (λ to body. IsBox fonts levels to body) command
