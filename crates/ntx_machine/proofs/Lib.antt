@@ -1,0 +1,6 @@
+-- one call is one step
+pub mod Steps
+-- the first state of a course
+pub mod Begins
+-- shipping a page
+pub mod Shipping
