@@ -98,6 +98,7 @@ impl<N: Nodes> Engine<N> {
     }
 
     /// Does what a command in a box asks for, which may add a node to the end of the list.
+    #[cycle(build)]
     fn grow(
         &mut self,
         alloc: Global,
@@ -131,6 +132,7 @@ impl<N: Nodes> Engine<N> {
     }
 
     /// Builds the list of these commands from nothing. This calls itself for the boxes in it, which nest to depth 20 in a document.
+    #[cycle(build)]
     fn build_list(
         &mut self,
         alloc: Global,
@@ -149,6 +151,7 @@ impl<N: Nodes> Engine<N> {
     }
 
     /// Builds a box: the list of these commands is built and packed.
+    #[cycle(build)]
     pub fn build_box(
         &mut self,
         alloc: Global,
