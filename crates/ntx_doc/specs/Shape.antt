@@ -1,82 +1,92 @@
--- What the commands of an accepted document keep, for whoever carries them out. That a box holds what stands between `hbox` and
--- its `end` is part of the type of commands. `every-Command P command` says P of the command and of each command in it.
---     HasNumbersInRange, HasFonts fonts      of a command by itself: its numbers are in their ranges, its fonts are there
---     StandsOutside command                  it may stand outside of boxes, and each command in it may stand in a box
---     box_depth command                      how deep boxes nest in it, itself included; 0 if it is no box
-use Rattle.std.specs.Prelude.{◌≡◌, ℕ, ◌+◌, ◌≤◌, ◌<◌, max, Bool, ◌||◌, true, false, List, [], ◌∷◌}
-use Rattle.std.specs.List.{AllByRecursion}
-use Rattle.ntx_num.specs.Dimension.{IsDimension, IsWithin, max_penalty}
-use Rattle.ntx_item.specs.Parameters.{IsIn, IsInRange, IsGlueInRange}
+-- What the commands of an accepted document keep, for whoever carries them out. Each is a test of one command that stands outside
+-- of boxes, and speaks of the commands in it too. That a box holds just what stands between `hbox` and its `end`, and that the code
+-- of a character is a byte, are part of the type of commands.
+--     has_numbers_in_range command      each number is in its range
+--     has_fonts fonts command           each font is there, if there are as many
+--     may_stand_outside command         it is no node but a box, and no parameter is set in the box
+--     box_depth command                 how deep boxes nest, the outermost included; 0 if there is none
+-- `fold-Command` goes from the innermost boxes outwards: its layer gives the answer for a command, and at a box it is handed the
+-- answers for the commands in it.
+use Rattle.std.specs.Prelude.{ℕ, ◌+◌, nat_lt, nat_le, max, Bool, ◌&&◌, ◌||◌, true, false, not, List, [], ◌∷◌}
+use Rattle.std.specs.List.{list_all, list_any}
+use Rattle.ntx_num.specs.Dimension.{is_dimension, is_within, max_penalty}
+use Rattle.ntx_item.specs.Parameters.{is_in, is_in_range, is_glue_in_range}
 use Rattle.ntx_item.specs.declared.pack_to.PackTo.{PackTo}
 use Rattle.ntx_item.specs.declared.pack_to.PackTo.TheVariants.{Exactly, Additional}
 use Rattle.ntx_doc.specs.declared.command.Command.{Command, out-Command}
 use Rattle.ntx_doc.specs.declared.command.Command.TheOpen.{Command-F}
-use Rattle.ntx_doc.specs.declared.command.Command.TheFolds.{fold-Command, every-Command}
+use Rattle.ntx_doc.specs.declared.command.Command.TheFolds.{fold-Command}
 use Rattle.ntx_doc.specs.Numbers.{attributes, attribute_values}
+
+-- each of the answers for the commands in a box, and one of them
+abbrev pub every : List Bool → Bool
+every answers = list_all (λ answer. answer) answers
+
+abbrev pub some : List Bool → Bool
+some answers = list_any (λ answer. answer) answers
 
 -- ---- numbers
 
-abbrev pub IsBoxWidth : PackTo → Type 0
-IsBoxWidth (Exactly w) = IsDimension w
-IsBoxWidth (Additional w) = IsDimension w
+abbrev pub is_box_width : PackTo → Bool
+is_box_width (Exactly w) = is_dimension w
+is_box_width (Additional w) = is_dimension w
 
--- each number of a command by itself is in its range
-abbrev pub HasNumbersInRange : Command-F Command → Type 0
-HasNumbersInRange (Command-F.Set p v) = IsInRange p v
-HasNumbersInRange (Command-F.SetGlue g spec) = IsGlueInRange spec
-HasNumbersInRange (Command-F.Attr id v) = IsIn attributes id × IsIn attribute_values v
-HasNumbersInRange (Command-F.NoAttr id) = IsIn attributes id
-HasNumbersInRange (Command-F.HBox to body) = IsBoxWidth to
-HasNumbersInRange (Command-F.Glue spec) = IsGlueInRange spec
-HasNumbersInRange (Command-F.Kern w) = IsDimension w
-HasNumbersInRange (Command-F.Penalty p) = IsWithin max_penalty p
-HasNumbersInRange (Command-F.Rule size) = IsDimension size.w × IsDimension size.h × IsDimension size.d
-HasNumbersInRange (Command-F.Glyph font code) = (font ≤ 63) × (code ≤ 255)
-HasNumbersInRange (Command-F.Space font) = font ≤ 63
+abbrev pub numbers_layer : Command-F Bool → Bool
+numbers_layer (Command-F.Set p v) = is_in_range p v
+numbers_layer (Command-F.SetGlue g spec) = is_glue_in_range spec
+numbers_layer (Command-F.Attr id v) = is_in attributes id && is_in attribute_values v
+numbers_layer (Command-F.NoAttr id) = is_in attributes id
+numbers_layer (Command-F.HBox to inner) = is_box_width to && every inner
+numbers_layer (Command-F.Glue spec) = is_glue_in_range spec
+numbers_layer (Command-F.Kern w) = is_dimension w
+numbers_layer (Command-F.Penalty p) = is_within max_penalty p
+numbers_layer (Command-F.Rule size) = is_dimension size.w && is_dimension size.h && is_dimension size.d
+numbers_layer (Command-F.Glyph font code) = nat_le font 63
+numbers_layer (Command-F.Space font) = nat_le font 63
+
+abbrev pub has_numbers_in_range : Command → Bool
+has_numbers_in_range command = fold-Command Bool numbers_layer command
 
 -- ---- fonts
 
--- the font of a command by itself is there
-abbrev pub HasFonts : ℕ → Command-F Command → Type 0
-HasFonts fonts (Command-F.Glyph font code) = font < fonts
-HasFonts fonts (Command-F.Space font) = font < fonts
-HasFonts fonts _ = Unit {0}
+abbrev pub fonts_layer : ℕ → Command-F Bool → Bool
+fonts_layer fonts (Command-F.HBox to inner) = every inner
+fonts_layer fonts (Command-F.Glyph font code) = nat_lt font fonts
+fonts_layer fonts (Command-F.Space font) = nat_lt font fonts
+fonts_layer fonts _ = true
+
+abbrev pub has_fonts : ℕ → Command → Bool
+has_fonts fonts command = fold-Command Bool (fonts_layer fonts) command
 
 -- ---- places
 
-abbrev sets_parameter : Command-F Command → Bool
-sets_parameter (Command-F.Set p v) = true
-sets_parameter (Command-F.SetGlue g spec) = true
-sets_parameter _ = false
+abbrev pub setting_layer : Command-F Bool → Bool
+setting_layer (Command-F.Set p v) = true
+setting_layer (Command-F.SetGlue g spec) = true
+setting_layer (Command-F.HBox to inner) = some inner
+setting_layer _ = false
 
-abbrev opens_box : Command-F Command → Bool
-opens_box (Command-F.HBox to body) = true
-opens_box _ = false
+-- the command sets a parameter, or one in it does
+abbrev pub has_setting : Command → Bool
+has_setting command = fold-Command Bool setting_layer command
 
-abbrev changes_attributes : Command-F Command → Bool
-changes_attributes (Command-F.Attr id v) = true
-changes_attributes (Command-F.NoAttr id) = true
-changes_attributes _ = false
+abbrev pub outside_layer : Command-F Command → Bool
+outside_layer (Command-F.Set p v) = true
+outside_layer (Command-F.SetGlue g spec) = true
+outside_layer (Command-F.Attr id v) = true
+outside_layer (Command-F.NoAttr id) = true
+outside_layer (Command-F.HBox to body) = not (list_any has_setting body)
+outside_layer _ = false
 
--- the command sets a parameter
-abbrev pub is_setting : Command → Bool
-is_setting command = sets_parameter (out-Command command)
+abbrev pub may_stand_outside : Command → Bool
+may_stand_outside command = outside_layer (out-Command command)
 
--- the command is a box
+abbrev pub box_layer : Command-F Command → Bool
+box_layer (Command-F.HBox to body) = true
+box_layer _ = false
+
 abbrev pub is_box : Command → Bool
-is_box command = opens_box (out-Command command)
-
--- the command is one that may stand outside of boxes
-abbrev pub is_outer : Command → Bool
-is_outer command = is_setting command || is_box command || changes_attributes (out-Command command)
-
--- no parameter is set directly in this box, if the command is one
-abbrev pub SetsNothingInside : Command-F Command → Type 0
-SetsNothingInside (Command-F.HBox to body) = AllByRecursion (λ inner. is_setting inner ≡ false) body
-SetsNothingInside _ = Unit {0}
-
-abbrev pub StandsOutside : Command → Type 0
-StandsOutside command = (is_outer command ≡ true) × every-Command SetsNothingInside command
+is_box command = box_layer (out-Command command)
 
 -- ---- nesting
 
@@ -84,7 +94,7 @@ abbrev pub greatest : List ℕ → ℕ
 greatest [] = 0
 greatest (n ∷ others) = max n (greatest others)
 
-abbrev depth_layer : Command-F ℕ → ℕ
+abbrev pub depth_layer : Command-F ℕ → ℕ
 depth_layer (Command-F.HBox to depths) = greatest depths + 1
 depth_layer _ = 0
 

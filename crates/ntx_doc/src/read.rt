@@ -1,12 +1,11 @@
 //! Reading a document.
 
-ghost use Rattle.std.specs.Prelude.{◌≡◌, ◌≤◌, IfOk, length, filter};
-ghost use Rattle.std.specs.List.{AllByRecursion};
+ghost use Rattle.std.specs.Prelude.{◌≡◌, ◌≤◌, true, IfOk, length, map, filter};
+ghost use Rattle.std.specs.List.{list_all};
 ghost use Rattle.ntx_num.specs.Answer.{Answers, result_map};
-ghost use Rattle.ntx_doc.specs.declared.command.Command.TheFolds.{every-Command};
 ghost use Rattle.ntx_doc.specs.Document.{document_of};
 ghost use Rattle.ntx_doc.specs.Place.{max_depth};
-ghost use Rattle.ntx_doc.specs.Shape.{HasNumbersInRange, HasFonts, StandsOutside, box_depth, is_box};
+ghost use Rattle.ntx_doc.specs.Shape.{has_numbers_in_range, has_fonts, may_stand_outside, greatest, box_depth, is_box};
 
 use crate::command::Command;
 use crate::draft::Draft;
@@ -54,10 +53,10 @@ use std::alloc::Global;
 /// `Open`, with the number of the last line: the document ends and a box is not closed.
 pub fn read_doc(alloc: Global, bytes: &[u8], fonts: u64) -> Result<Vec<Command>, Fail<DocFault>>
     ensures document { Answers (result_map (λ commands. commands.items) result) (document_of bytes.now fonts) }
-    ensures numbers { IfOk result (λ commands. AllByRecursion (every-Command HasNumbersInRange) commands.items) }
-    ensures fonts { IfOk result (λ commands. AllByRecursion (every-Command (HasFonts fonts)) commands.items) }
-    ensures places { IfOk result (λ commands. AllByRecursion StandsOutside commands.items) }
-    ensures depth { IfOk result (λ commands. AllByRecursion (λ c. box_depth c ≤ max_depth) commands.items) }
+    ensures numbers { IfOk result (λ commands. list_all has_numbers_in_range commands.items ≡ true) }
+    ensures fonts { IfOk result (λ commands. list_all (has_fonts fonts) commands.items ≡ true) }
+    ensures places { IfOk result (λ commands. list_all may_stand_outside commands.items ≡ true) }
+    ensures depth { IfOk result (λ commands. greatest (map box_depth commands.items) ≤ max_depth) }
     ensures one_box { IfOk result (λ commands. length (filter is_box commands.items) ≤ 1) }
 {
     let mut draft = Draft::new(alloc);
