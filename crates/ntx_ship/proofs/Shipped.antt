@@ -19,7 +19,7 @@ use Rattle.ntx_ship.specs.Operations.{page_operations}
 use Rattle.ntx_ship.specs.Shipping.{Ships, refused_as, full_as}
 
 -- the operations of a page, or its refusal
-abbrev written_as : List FontTables → Writer → Result Page Trouble → Result (List Operation) Trouble
+abbrev pub written_as : List FontTables → Writer → Result Page Trouble → Result (List Operation) Trouble
 written_as fonts w page = result_map (page_operations fonts w.progress) page
 
 pub refused_ships : (why : Fail Trouble) (w : Writer) (fonts : List FontTables) (page : Result Page Trouble) → Answers {A = Page} (Err why) page → Ships (Err (refused_as why)) w w (written_as fonts w page)
