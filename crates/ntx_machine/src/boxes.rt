@@ -1,11 +1,10 @@
 //! Building boxes ("TeX: The Program", sections 1056 to 1086).
 
-ghost use Rattle.std.specs.Prelude.{◌≡◌, map, None};
-ghost use Rattle.std.specs.List.{AllByRecursion};
+ghost use Rattle.std.specs.Prelude.{◌≡◌, true, map, None};
+ghost use Rattle.std.specs.List.{list_all};
 ghost use Rattle.ntx_nodes.specs.Writing.{AreMakable};
 ghost use Rattle.ntx_hyph.specs.inner.Ends.{EndsAs};
-ghost use Rattle.ntx_doc.specs.declared.command.Command.TheFolds.{every-Command};
-ghost use Rattle.ntx_doc.specs.Shape.{HasNumbersInRange};
+ghost use Rattle.ntx_doc.specs.Shape.{has_numbers_in_range};
 ghost use Rattle.ntx_machine.specs.Build.{made, linked, grown_by, packed, growth, grown_by_all, box_built, head_of};
 ghost use Rattle.ntx_machine.specs.Machine.{fails};
 ghost use Rattle.ntx_machine.specs.inner.Parts.{AreAlwaysMakable};
@@ -106,7 +105,7 @@ impl<N: Nodes> Engine<N> {
         list: Option<Ends>,
         command: &Command,
     ) -> Result<Option<Ends>, Stop>
-        requires { every-Command HasNumbersInRange command.now }
+        requires { has_numbers_in_range command.now ≡ true }
         ensures ends { EndsAs (fails result) self.new (growth fonts.now command.now list self.old) }
         ensures writer { self.new.writer ≡ self.old.writer }
     {
@@ -139,7 +138,7 @@ impl<N: Nodes> Engine<N> {
         fonts: &[Font],
         body: &[Command],
     ) -> Result<Option<Ends>, Stop>
-        requires { AllByRecursion (every-Command HasNumbersInRange) body.now }
+        requires { list_all has_numbers_in_range body.now ≡ true }
         ensures ends { EndsAs (fails result) self.new (grown_by_all (map (growth fonts.now) body.now) None self.old) }
         ensures writer { self.new.writer ≡ self.old.writer }
     {
@@ -159,7 +158,7 @@ impl<N: Nodes> Engine<N> {
         to: PackTo,
         body: &[Command],
     ) -> Result<u64, Stop>
-        requires { AllByRecursion (every-Command HasNumbersInRange) body.now }
+        requires { list_all has_numbers_in_range body.now ≡ true }
         ensures ends { EndsAs (fails result) self.new (box_built fonts.now to body.now self.old) }
         ensures writer { self.new.writer ≡ self.old.writer }
     {

@@ -1,9 +1,8 @@
 //! Commands outside of boxes.
 
-ghost use Rattle.std.specs.Prelude.{◌≡◌, Some};
-ghost use Rattle.std.specs.List.{AllByRecursion};
-ghost use Rattle.ntx_doc.specs.declared.command.Command.TheFolds.{every-Command};
-ghost use Rattle.ntx_doc.specs.Shape.{HasNumbersInRange};
+ghost use Rattle.std.specs.Prelude.{◌≡◌, true, Some};
+ghost use Rattle.std.specs.List.{list_all};
+ghost use Rattle.ntx_doc.specs.Shape.{has_numbers_in_range};
 ghost use Rattle.ntx_hyph.specs.inner.Ends.{EndsAs};
 ghost use Rattle.ntx_machine.specs.Job.{box_step, command_step};
 ghost use Rattle.ntx_machine.specs.Machine.{fails};
@@ -32,7 +31,7 @@ impl<N: Nodes> Engine<N> {
         to: PackTo,
         body: &[Command],
     ) -> Result<(), Stop>
-        requires { AllByRecursion (every-Command HasNumbersInRange) body.now }
+        requires { list_all has_numbers_in_range body.now ≡ true }
         ensures ends { EndsAs (fails result) self.new (box_step fonts.now to body.now self.old) }
         ensures writer { self.new.writer ≡ self.old.writer }
     {
@@ -43,7 +42,7 @@ impl<N: Nodes> Engine<N> {
 
     /// Does what a command outside of boxes asks for.
     pub fn command(&mut self, alloc: Global, fonts: &[Font], command: &Command) -> Result<(), Stop>
-        requires { every-Command HasNumbersInRange command.now }
+        requires { has_numbers_in_range command.now ≡ true }
         ensures ends { EndsAs (fails result) self.new (command_step fonts.now command.now self.old) }
         ensures writer { self.new.writer ≡ self.old.writer }
     {

@@ -1,9 +1,8 @@
 //! The machine, as its callers see it.
 
-ghost use Rattle.std.specs.Prelude.{◌≡◌};
+ghost use Rattle.std.specs.Prelude.{◌≡◌, true};
 ghost use Rattle.ntx_num.specs.Answer.{Gives};
-ghost use Rattle.ntx_doc.specs.declared.command.Command.TheFolds.{every-Command};
-ghost use Rattle.ntx_doc.specs.Shape.{HasNumbersInRange};
+ghost use Rattle.ntx_doc.specs.Shape.{has_numbers_in_range};
 ghost use Rattle.ntx_machine.specs.Shipout.{ended};
 ghost use Rattle.ntx_machine.specs.Job.{command_step};
 ghost use Rattle.ntx_machine.specs.Machine.{new_machine, emptied, IsOpen, Carries, kept_of};
@@ -85,7 +84,7 @@ impl<N: Nodes> Machine<N> {
     /// Carries out a command of a document that stands outside of boxes. Each number in it is in the range that a document gives it. A command
     /// that does not stand there does nothing. The stack holds a call for each box in a box.
     pub fn command(&mut self, command: &Command) -> Result<(), Stop>
-        requires { every-Command HasNumbersInRange command.now }
+        requires { has_numbers_in_range command.now ≡ true }
         ensures carries { Carries result self.old self.new (command_step self.old.fonts command.now) }
         ensures writer { self.new.state.writer ≡ self.old.state.writer }
     {

@@ -2,9 +2,8 @@
 
 ghost use Rattle.std.specs.Prelude.{◌≡◌, ◌≤◌, IfOk, [], Some, Option, List, ℕ, map, length};
 ghost use Rattle.ntx_num.specs.Answer.{result_map};
-ghost use Rattle.std.specs.List.{AllByRecursion};
-ghost use Rattle.ntx_doc.specs.declared.command.Command.TheFolds.{every-Command};
-ghost use Rattle.ntx_doc.specs.Shape.{HasNumbersInRange};
+ghost use Rattle.std.specs.List.{list_all};
+ghost use Rattle.ntx_doc.specs.Shape.{has_numbers_in_range};
 ghost use Rattle.ntx_run.specs.Run.{job_of, read_document, read_empty};
 ghost use Rattle.ntx_run.specs.inner.Words.{CanBeRead};
 ghost use Rattle.ntx_run.specs.inner.Parts.{IsRefusalOf, ReadsInput, ReadsInputs};
@@ -38,7 +37,7 @@ fn read_document<D: Source>(
     fonts: u64,
 ) -> Result<Vec<Command>, StopReason>
     ensures reads { ReadsInput Which.Document (read_document fonts) (D.input source.old) (D.input source.new) (result_map (λ commands. commands.items) result) }
-    ensures numbers { IfOk result (λ commands. AllByRecursion (every-Command HasNumbersInRange) commands.items) }
+    ensures numbers { IfOk result (λ commands. list_all has_numbers_in_range commands.items ≡ true) }
 {
     let bytes = match read_all(alloc, source, MAX_DOCUMENT) {
         Ok(bytes) => bytes,
@@ -90,7 +89,7 @@ pub fn read_inputs<D: Source, S: Source, P: Source>(
         (record { document = D.input document.old; script = S.input script.old; patterns = P.input patterns.old; fonts = map (λ feed. named feed) feeds.old })
         (record { document = D.input document.new; script = S.input script.new; patterns = P.input patterns.new; fonts = map (λ feed. named feed) feeds.new })
         (result_map (λ job. job_of job.commands.items job.fonts.items) result) }
-    ensures numbers { IfOk result (λ job. AllByRecursion (every-Command HasNumbersInRange) job.commands.items) }
+    ensures numbers { IfOk result (λ job. list_all has_numbers_in_range job.commands.items ≡ true) }
 {
     let commands = read_document(alloc, document, feeds.len() as u64)?;
     let no_script = SyntaxFault {

@@ -1,12 +1,11 @@
 //! The whole program but for the files and the process around it.
 
-ghost use Rattle.std.specs.Prelude.{◌≡◌, map, string_bytes, Option, None, option_map};
+ghost use Rattle.std.specs.Prelude.{◌≡◌, true, map, string_bytes, Option, None, option_map};
 ghost use Rattle.ntx_nodes.specs.Heap.{Heap};
 ghost use Rattle.ntx_nodes.specs.Steps.{empty_heap};
 ghost use Rattle.ntx_run.specs.Outside.{Runs, outside};
-ghost use Rattle.std.specs.List.{AllByRecursion};
-ghost use Rattle.ntx_doc.specs.declared.command.Command.TheFolds.{every-Command};
-ghost use Rattle.ntx_doc.specs.Shape.{HasNumbersInRange};
+ghost use Rattle.std.specs.List.{list_all};
+ghost use Rattle.ntx_doc.specs.Shape.{has_numbers_in_range};
 ghost use Rattle.ntx_run.specs.Run.{job_of};
 ghost use Rattle.ntx_run.specs.inner.Parts.{Reports, RunsJob};
 
@@ -53,7 +52,7 @@ fn run_job<N: Nodes, O: Sink, L: Sink>(
     dvi: &mut O,
     lines: &mut L,
 ) -> (Status, Option<Place>, Option<N>)
-    requires { AllByRecursion (every-Command HasNumbersInRange) job.commands.items }
+    requires { list_all has_numbers_in_range job.commands.items ≡ true }
     ensures { RunsJob (job_of job.commands.items job.fonts.items) (N.heap nodes) (O.output dvi.old) (O.output dvi.new) (L.output lines.old) (L.output lines.new)
         result.0 result.1 (option_map (λ nodes. N.heap nodes) result.2) }
 {

@@ -1,9 +1,8 @@
 //! Typesetting the commands of a document into a DVI file.
 
-ghost use Rattle.std.specs.Prelude.{Ok};
-ghost use Rattle.std.specs.List.{AllByRecursion};
-ghost use Rattle.ntx_doc.specs.declared.command.Command.TheFolds.{every-Command};
-ghost use Rattle.ntx_doc.specs.Shape.{HasNumbersInRange};
+ghost use Rattle.std.specs.Prelude.{◌≡◌, true, Ok};
+ghost use Rattle.std.specs.List.{list_all};
+ghost use Rattle.ntx_doc.specs.Shape.{has_numbers_in_range};
 ghost use Rattle.ntx_machine.specs.Machine.{IsOpen};
 ghost use Rattle.ntx_run.specs.inner.Parts.{HandsOverWaiting, HandsOver, Typesets};
 
@@ -49,7 +48,7 @@ pub fn typeset<N: Nodes, O: Sink>(
     sink: &mut O,
 ) -> Result<(), StopReason>
     requires open { IsOpen machine.old }
-    requires numbers { AllByRecursion (every-Command HasNumbersInRange) commands.now }
+    requires numbers { list_all has_numbers_in_range commands.now ≡ true }
     ensures { Typesets commands.now machine.old machine.new (O.output sink.old) (O.output sink.new) result }
 {
     for command in commands {
