@@ -4,3 +4,5 @@ pub mod Steps
 pub mod Begins
 -- shipping a page
 pub mod Shipping
+-- what callers know
+pub mod Jobs

@@ -1,6 +1,6 @@
 //! Reading the inputs.
 
-ghost use Rattle.std.specs.Prelude.{◌≡◌, ◌≤◌, IfOk, [], Some, Option, List, ℕ, map, length};
+ghost use Rattle.std.specs.Prelude.{◌≡◌, ◌≤◌, true, IfOk, [], Some, Option, List, ℕ, map, length};
 ghost use Rattle.ntx_num.specs.Answer.{result_map};
 ghost use Rattle.std.specs.List.{list_all};
 ghost use Rattle.ntx_doc.specs.Shape.{has_numbers_in_range};
