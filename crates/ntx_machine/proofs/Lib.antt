@@ -6,3 +6,5 @@ pub mod Begins
 pub mod Shipping
 -- what callers know
 pub mod Jobs
+-- the file of a job that ended well
+pub mod Ended

@@ -10,8 +10,8 @@ use Rattle.ntx_nodes.specs.Heap.{Heap}
 use Rattle.ntx_item.specs.declared.pack_to.PackTo.{PackTo}
 use Rattle.ntx_tfm.specs.Font.{FontTables}
 use Rattle.ntx_hyph.specs.Trace.{stays, trace_and_then}
-use Rattle.ntx_doc.specs.declared.command.Command.{Command}
-use Rattle.ntx_doc.specs.declared.command.Command.TheVariants as command
+use Rattle.ntx_doc.specs.declared.command.Command.{Command, out-Command}
+use Rattle.ntx_doc.specs.declared.command.Command.TheOpen.{Command-F}
 use Rattle.ntx_machine.specs.declared.stop.Stop.{Stop}
 use Rattle.ntx_machine.specs.State.{State, Course, first_state, taken, changed}
 use Rattle.ntx_machine.specs.Build.{set_value, set_glue, set_attribute, unset_attribute, box_built}
@@ -28,18 +28,21 @@ abbrev pub box_step : List FontTables → PackTo → List Command → State → 
 box_step fonts to body state = trace_and_then (box_built fonts to body state) (λ box s. standing box s)
 
 -- The last six commands do not stand outside of boxes: a document with one there is refused before a machine begins.
+abbrev pub command_layer : List FontTables → Command-F Command → State → Course (Unit {0})
+command_layer fonts (Command-F.Set p v) state = set_value p v state
+command_layer fonts (Command-F.SetGlue g spec) state = set_glue g spec state
+command_layer fonts (Command-F.Attr id v) state = set_attribute id v state
+command_layer fonts (Command-F.NoAttr id) state = unset_attribute id state
+command_layer fonts (Command-F.HBox to body) state = box_step fonts to body state
+command_layer fonts (Command-F.Glue spec) state = stays state (Ok tt)
+command_layer fonts (Command-F.Kern w) state = stays state (Ok tt)
+command_layer fonts (Command-F.Penalty p) state = stays state (Ok tt)
+command_layer fonts (Command-F.Rule size) state = stays state (Ok tt)
+command_layer fonts (Command-F.Glyph font code) state = stays state (Ok tt)
+command_layer fonts (Command-F.Space font) state = stays state (Ok tt)
+
 abbrev pub command_step : List FontTables → Command → State → Course (Unit {0})
-command_step fonts (command.Set p v) state = set_value p v state
-command_step fonts (command.SetGlue g spec) state = set_glue g spec state
-command_step fonts (command.Attr id v) state = set_attribute id v state
-command_step fonts (command.NoAttr id) state = unset_attribute id state
-command_step fonts (command.HBox to body) state = box_step fonts to body state
-command_step fonts (command.Glue spec) state = stays state (Ok tt)
-command_step fonts (command.Kern w) state = stays state (Ok tt)
-command_step fonts (command.Penalty p) state = stays state (Ok tt)
-command_step fonts (command.Rule size) state = stays state (Ok tt)
-command_step fonts (command.Glyph font code) state = stays state (Ok tt)
-command_step fonts (command.Space font) state = stays state (Ok tt)
+command_step fonts c state = command_layer fonts (out-Command c) state
 
 -- ---- jobs
 
