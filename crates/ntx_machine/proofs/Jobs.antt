@@ -12,7 +12,7 @@ use Rattle.ntx_machine.specs.Machine.{MachineView, kept_of, CarriesFrom, Carries
 
 -- ---- the last state of a course
 
-last_or : {A : Type 0} → A → List A → A
+abbrev last_or : {A : Type 0} → A → List A → A
 last_or d [] = d
 last_or d (x ∷ xs) = last_or x xs
 

@@ -12,6 +12,8 @@ pub mod Shipout
 pub mod Job
 -- a machine as its callers see it
 pub mod Machine
+-- how contracts see both
+pub mod Seen
 -- names of troubles and phases
 pub mod Names
 -- what private calls say among themselves

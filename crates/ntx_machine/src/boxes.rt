@@ -7,6 +7,7 @@ ghost use Rattle.ntx_hyph.specs.inner.Ends.{EndsAs};
 ghost use Rattle.ntx_doc.specs.Shape.{has_numbers_in_range};
 ghost use Rattle.ntx_machine.specs.Build.{made, linked, grown_by, packed, growth, grown_by_all, box_built, head_of};
 ghost use Rattle.ntx_machine.specs.Machine.{fails};
+ghost use Rattle.ntx_machine.specs.Seen.{state_of};
 ghost use Rattle.ntx_machine.specs.inner.Parts.{AreAlwaysMakable};
 
 use crate::ends::Ends;
@@ -35,9 +36,9 @@ fn head_of(list: Option<Ends>) -> Option<u64>
 impl<N: Nodes> Engine<N> {
     /// Makes a node with these fields, which wears the current attributes.
     pub fn make(&mut self, phase: Phase, fields: Fields) -> Result<u64, Stop>
-        requires { AreMakable self.old.heap fields }
-        ensures ends { EndsAs (fails result) self.new (made phase fields self.old) }
-        ensures writer { self.new.writer ≡ self.old.writer }
+        requires { AreMakable (N.heap self.old.nodes) fields }
+        ensures ends { EndsAs (fails result) (state_of N.heap self.new) (made phase fields (state_of N.heap self.old)) }
+        ensures writer { self.new.dvi ≡ self.old.dvi }
     {
         let n = in_phase(phase, make_filled(&mut self.nodes, fields))?;
         in_phase(phase, self.nodes.wear_current(n))?;
@@ -46,8 +47,8 @@ impl<N: Nodes> Engine<N> {
 
     /// Links a node to the end of a list.
     fn link(&mut self, list: Option<Ends>, n: u64) -> Result<Option<Ends>, Stop>
-        ensures ends { EndsAs (fails result) self.new (linked list n self.old) }
-        ensures writer { self.new.writer ≡ self.old.writer }
+        ensures ends { EndsAs (fails result) (state_of N.heap self.new) (linked list n (state_of N.heap self.old)) }
+        ensures writer { self.new.dvi ≡ self.old.dvi }
     {
         match list {
             None => Ok(Some(Ends { head: n, tail: n })),
@@ -65,8 +66,8 @@ impl<N: Nodes> Engine<N> {
     /// Adds a node to the end of a list.
     fn grow_by(&mut self, list: Option<Ends>, fields: Fields) -> Result<Option<Ends>, Stop>
         requires { AreAlwaysMakable fields }
-        ensures ends { EndsAs (fails result) self.new (grown_by fields list self.old) }
-        ensures writer { self.new.writer ≡ self.old.writer }
+        ensures ends { EndsAs (fails result) (state_of N.heap self.new) (grown_by fields list (state_of N.heap self.old)) }
+        ensures writer { self.new.dvi ≡ self.old.dvi }
     {
         let n = self.make(Phase::Build, fields)?;
         self.link(list, n)
@@ -80,8 +81,8 @@ impl<N: Nodes> Engine<N> {
         to: PackTo,
         head: Option<u64>,
     ) -> Result<u64, Stop>
-        ensures ends { EndsAs (fails result) self.new (packed fonts.now to head self.old) }
-        ensures writer { self.new.writer ≡ self.old.writer }
+        ensures ends { EndsAs (fails result) (state_of N.heap self.new) (packed fonts.now to head (state_of N.heap self.old)) }
+        ensures writer { self.new.dvi ≡ self.old.dvi }
     {
         let (n, _badness) = in_phase(
             Phase::Hpack,
@@ -106,8 +107,8 @@ impl<N: Nodes> Engine<N> {
         command: &Command,
     ) -> Result<Option<Ends>, Stop>
         requires { has_numbers_in_range command.now ≡ true }
-        ensures ends { EndsAs (fails result) self.new (growth fonts.now command.now list self.old) }
-        ensures writer { self.new.writer ≡ self.old.writer }
+        ensures ends { EndsAs (fails result) (state_of N.heap self.new) (growth fonts.now command.now list (state_of N.heap self.old)) }
+        ensures writer { self.new.dvi ≡ self.old.dvi }
     {
         match command {
             Command::Set(p, v) => self.set_value(*p, *v)?,
@@ -139,8 +140,8 @@ impl<N: Nodes> Engine<N> {
         body: &[Command],
     ) -> Result<Option<Ends>, Stop>
         requires { list_all has_numbers_in_range body.now ≡ true }
-        ensures ends { EndsAs (fails result) self.new (grown_by_all (map (growth fonts.now) body.now) None self.old) }
-        ensures writer { self.new.writer ≡ self.old.writer }
+        ensures ends { EndsAs (fails result) (state_of N.heap self.new) (grown_by_all (map (growth fonts.now) body.now) None (state_of N.heap self.old)) }
+        ensures writer { self.new.dvi ≡ self.old.dvi }
     {
         let mut list = None;
         for command in body {
@@ -159,8 +160,8 @@ impl<N: Nodes> Engine<N> {
         body: &[Command],
     ) -> Result<u64, Stop>
         requires { list_all has_numbers_in_range body.now ≡ true }
-        ensures ends { EndsAs (fails result) self.new (box_built fonts.now to body.now self.old) }
-        ensures writer { self.new.writer ≡ self.old.writer }
+        ensures ends { EndsAs (fails result) (state_of N.heap self.new) (box_built fonts.now to body.now (state_of N.heap self.old)) }
+        ensures writer { self.new.dvi ≡ self.old.dvi }
     {
         let list = self.build_list(alloc, fonts, body)?;
         self.pack(alloc, fonts, to, head_of(list))

@@ -6,6 +6,7 @@ ghost use Rattle.ntx_doc.specs.Shape.{has_numbers_in_range};
 ghost use Rattle.ntx_hyph.specs.inner.Ends.{EndsAs};
 ghost use Rattle.ntx_machine.specs.Job.{box_step, command_step};
 ghost use Rattle.ntx_machine.specs.Machine.{fails};
+ghost use Rattle.ntx_machine.specs.Seen.{state_of};
 
 use crate::engine::Engine;
 use crate::stop::Stop;
@@ -18,7 +19,7 @@ use std::alloc::Global;
 impl<N: Nodes> Engine<N> {
     /// Puts a box alone into the main list.
     fn stand(&mut self, n: u64)
-        ensures { self.new ≡ record self.old { main = Some n } }
+        ensures { (state_of N.heap self.new) ≡ record (state_of N.heap self.old) { main = Some n } }
     {
         self.main = Some(n);
     }
@@ -32,8 +33,8 @@ impl<N: Nodes> Engine<N> {
         body: &[Command],
     ) -> Result<(), Stop>
         requires { list_all has_numbers_in_range body.now ≡ true }
-        ensures ends { EndsAs (fails result) self.new (box_step fonts.now to body.now self.old) }
-        ensures writer { self.new.writer ≡ self.old.writer }
+        ensures ends { EndsAs (fails result) (state_of N.heap self.new) (box_step fonts.now to body.now (state_of N.heap self.old)) }
+        ensures writer { self.new.dvi ≡ self.old.dvi }
     {
         let n = self.build_box(alloc, fonts, to, body)?;
         self.stand(n);
@@ -43,8 +44,8 @@ impl<N: Nodes> Engine<N> {
     /// Does what a command outside of boxes asks for.
     pub fn command(&mut self, alloc: Global, fonts: &[Font], command: &Command) -> Result<(), Stop>
         requires { has_numbers_in_range command.now ≡ true }
-        ensures ends { EndsAs (fails result) self.new (command_step fonts.now command.now self.old) }
-        ensures writer { self.new.writer ≡ self.old.writer }
+        ensures ends { EndsAs (fails result) (state_of N.heap self.new) (command_step fonts.now command.now (state_of N.heap self.old)) }
+        ensures writer { self.new.dvi ≡ self.old.dvi }
     {
         match command {
             Command::Set(p, v) => self.set_value(*p, *v),

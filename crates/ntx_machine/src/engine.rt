@@ -2,12 +2,10 @@
 
 use ntx_dvi::Dvi;
 use ntx_item::Params;
-use ntx_nodes::Nodes;
-use std::marker::Model;
 
 /// The parts of a machine that its steps change.
 #[derive(Drop)]
-pub struct Engine<N: Nodes> {
+pub struct Engine<N> {
     /// The nodes.
     pub nodes: N,
     /// The parameters.
@@ -16,12 +14,4 @@ pub struct Engine<N: Nodes> {
     pub main: Option<u64>,
     /// The DVI file.
     pub dvi: Dvi,
-}
-
-impl<N: Nodes> Model for Engine<N> {
-    ghost use Rattle.ntx_machine.specs.State.{State};
-
-    ghost Value = { State };
-
-    ghost view = { λ e. record { heap = N.heap e.nodes; settings = e.params; main = e.main; writer = e.dvi } };
 }

@@ -1,11 +1,11 @@
 //! The machine, as its callers see it.
 
-ghost use Rattle.std.specs.Prelude.{◌≡◌, true};
-ghost use Rattle.ntx_num.specs.Answer.{Gives};
+ghost use Rattle.std.specs.Prelude.{◌≡◌, true, IfOk};
 ghost use Rattle.ntx_doc.specs.Shape.{has_numbers_in_range};
 ghost use Rattle.ntx_machine.specs.Shipout.{ended};
 ghost use Rattle.ntx_machine.specs.Job.{command_step};
 ghost use Rattle.ntx_machine.specs.Machine.{new_machine, emptied, IsOpen, Carries, kept_of};
+ghost use Rattle.ntx_machine.specs.Seen.{view_of};
 
 use crate::engine::Engine;
 use crate::stop::Stop;
@@ -16,7 +16,6 @@ use ntx_nodes::Nodes;
 use ntx_num::NoMemory;
 use ntx_tfm::Font;
 use std::alloc::Global;
-use std::marker::Model;
 
 /// The most bytes of a DVI file.
 const MAX_DVI: u64 = 0x7fff_ffff;
@@ -36,26 +35,18 @@ const MAX_DVI: u64 = 0x7fff_ffff;
 /// - `DviFull`: an operation of the DVI file would end past 2^31-1 bytes. The operations before it stay written.
 /// - `Memory`: memory ran out.
 #[derive(Drop)]
-pub struct Machine<N: Nodes> {
+pub struct Machine<N> {
     alloc: Global,
     fonts: Vec<Font>,
     engine: Engine<N>,
     stopped: Option<Stop>,
 }
 
-impl<N: Nodes> Model for Machine<N> {
-    ghost use Rattle.ntx_machine.specs.Machine.{MachineView};
-
-    ghost Value = { MachineView };
-
-    ghost view = { λ m. record { fonts = m.fonts.items; state = m.engine; stopped = m.stopped } };
-}
-
 impl<N: Nodes> Machine<N> {
     /// A machine that has done nothing yet, over these nodes and with these fonts: the number of a font is its place. If memory runs out, the
     /// nodes and the fonts are dropped.
     pub fn new(alloc: Global, nodes: N, fonts: Vec<Font>) -> Result<Machine<N>, NoMemory>
-        ensures { Gives result (new_machine fonts.items (N.heap nodes)) }
+        ensures { IfOk result (λ m. view_of N.heap m ≡ new_machine fonts.items (N.heap nodes)) }
     {
         let dvi = Dvi::new(alloc, MAX_DVI)?;
         let engine = Engine {
@@ -75,7 +66,7 @@ impl<N: Nodes> Machine<N> {
     /// Keeps the answer of a call, if the machine stopped.
     fn keep(&mut self, answer: Result<(), Stop>) -> Result<(), Stop>
         ensures result { result ≡ answer }
-        ensures kept { self.new ≡ record self.old { stopped = kept_of answer } }
+        ensures kept { view_of N.heap self.new ≡ record (view_of N.heap self.old) { stopped = kept_of answer } }
     {
         self.stopped = answer.err();
         answer
@@ -85,8 +76,8 @@ impl<N: Nodes> Machine<N> {
     /// that does not stand there does nothing. The stack holds a call for each box in a box.
     pub fn command(&mut self, command: &Command) -> Result<(), Stop>
         requires { has_numbers_in_range command.now ≡ true }
-        ensures carries { Carries result self.old self.new (command_step self.old.fonts command.now) }
-        ensures writer { self.new.state.writer ≡ self.old.state.writer }
+        ensures carries { Carries result (view_of N.heap self.old) (view_of N.heap self.new) (command_step (view_of N.heap self.old).fonts command.now) }
+        ensures writer { (view_of N.heap self.new).state.writer ≡ (view_of N.heap self.old).state.writer }
     {
         if let Some(why) = self.stopped {
             return Err(why);
@@ -97,8 +88,8 @@ impl<N: Nodes> Machine<N> {
 
     /// Ends the job: makes and writes the last page, and writes the postamble. It comes once, after the last command.
     pub fn finish(&mut self) -> Result<(), Stop>
-        requires { IsOpen self.old }
-        ensures { Carries result self.old self.new (ended self.old.fonts) }
+        requires { IsOpen (view_of N.heap self.old) }
+        ensures { Carries result (view_of N.heap self.old) (view_of N.heap self.new) (ended (view_of N.heap self.old).fonts) }
     {
         if let Some(why) = self.stopped {
             return Err(why);
@@ -109,22 +100,22 @@ impl<N: Nodes> Machine<N> {
 
     /// The bytes of the DVI file that were not taken yet.
     pub fn take_dvi(&mut self) -> Vec<u8>
-        ensures bytes { result.items ≡ self.old.state.writer.waiting }
-        ensures rest { self.new ≡ emptied self.old }
+        ensures bytes { result.items ≡ (view_of N.heap self.old).state.writer.waiting }
+        ensures rest { view_of N.heap self.new ≡ emptied (view_of N.heap self.old) }
     {
         self.engine.dvi.take()
     }
 
     /// How many pages have begun in the DVI file.
     pub fn pages(&self) -> u64
-        ensures { result ≡ self.now.state.writer.progress.pages }
+        ensures { result ≡ (view_of N.heap self.now).state.writer.progress.pages }
     {
         self.engine.dvi.pages()
     }
 
     /// The nodes.
     pub fn into_nodes(self) -> N
-        ensures { N.heap result ≡ self.state.heap }
+        ensures { N.heap result ≡ (view_of N.heap self).state.heap }
     {
         self.engine.nodes
     }

@@ -5,6 +5,7 @@ ghost use Rattle.ntx_hyph.specs.inner.Ends.{EndsAs};
 ghost use Rattle.ntx_item.specs.Parameters.{IsGlueInRange};
 ghost use Rattle.ntx_num.specs.Dimension.{IsDimension};
 ghost use Rattle.ntx_machine.specs.Machine.{fails};
+ghost use Rattle.ntx_machine.specs.Seen.{state_of};
 ghost use Rattle.ntx_machine.specs.Page.{height_of, top_of_page, page_of, last_page};
 
 use crate::engine::Engine;
@@ -21,7 +22,7 @@ use std::alloc::Global;
 impl<N: Nodes> Engine<N> {
     /// The height of a box or a rule, in scaled points.
     fn height_of(&self, n: u64) -> Result<i64, Trouble>
-        ensures height { result ≡ height_of self.now.heap n }
+        ensures height { result ≡ height_of (N.heap self.now.nodes) n }
         ensures dimension { IfOk result IsDimension }
     {
         self.nodes.lawful();
@@ -33,7 +34,7 @@ impl<N: Nodes> Engine<N> {
 
     /// The glue at the top of a page that begins with this box.
     fn top_of_page(&self, first: u64) -> Result<GlueSpec, Trouble>
-        ensures glue { result ≡ top_of_page self.now first }
+        ensures glue { result ≡ top_of_page (state_of N.heap self.now) first }
         ensures in_range { IfOk result IsGlueInRange }
     {
         let height = self.height_of(first)?;
@@ -48,8 +49,8 @@ impl<N: Nodes> Engine<N> {
 
     /// Makes the page that begins and ends with this box.
     fn page_of(&mut self, alloc: Global, fonts: &[Font], first: u64) -> Result<u64, Stop>
-        ensures ends { EndsAs (fails result) self.new (page_of fonts.now first self.old) }
-        ensures writer { self.new.writer ≡ self.old.writer }
+        ensures ends { EndsAs (fails result) (state_of N.heap self.new) (page_of fonts.now first (state_of N.heap self.old)) }
+        ensures writer { self.new.dvi ≡ self.old.dvi }
     {
         let list = items(
             alloc,
@@ -73,8 +74,8 @@ impl<N: Nodes> Engine<N> {
 
     /// Makes the last page, if anything stands in the main list.
     pub fn last_page(&mut self, alloc: Global, fonts: &[Font]) -> Result<Option<u64>, Stop>
-        ensures ends { EndsAs (fails result) self.new (last_page fonts.now self.old) }
-        ensures writer { self.new.writer ≡ self.old.writer }
+        ensures ends { EndsAs (fails result) (state_of N.heap self.new) (last_page fonts.now (state_of N.heap self.old)) }
+        ensures writer { self.new.dvi ≡ self.old.dvi }
     {
         match self.main {
             None => Ok(None),

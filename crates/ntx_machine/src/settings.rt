@@ -5,6 +5,7 @@ ghost use Rattle.ntx_hyph.specs.inner.Ends.{EndsAs};
 ghost use Rattle.ntx_item.specs.Parameters.{IsInRange, IsGlueInRange};
 ghost use Rattle.ntx_machine.specs.Build.{set_value, set_glue, set_attribute, unset_attribute};
 ghost use Rattle.ntx_machine.specs.Machine.{fails};
+ghost use Rattle.ntx_machine.specs.Seen.{state_of};
 
 use crate::engine::Engine;
 use crate::stop::{Stop, in_phase};
@@ -15,8 +16,8 @@ impl<N: Nodes> Engine<N> {
     /// Sets a parameter that is a number.
     pub fn set_value(&mut self, p: Param, v: i64) -> Result<(), Stop>
         requires { IsInRange p v }
-        ensures ends { EndsAs (fails result) self.new (set_value p v self.old) }
-        ensures writer { self.new.writer ≡ self.old.writer }
+        ensures ends { EndsAs (fails result) (state_of N.heap self.new) (set_value p v (state_of N.heap self.old)) }
+        ensures writer { self.new.dvi ≡ self.old.dvi }
     {
         match self.params.put(p, v) {
             Ok(()) => Ok(()),
@@ -27,8 +28,8 @@ impl<N: Nodes> Engine<N> {
     /// Sets a parameter that is glue.
     pub fn set_glue(&mut self, g: GlueParam, spec: GlueSpec) -> Result<(), Stop>
         requires { IsGlueInRange spec }
-        ensures ends { EndsAs (fails result) self.new (set_glue g spec self.old) }
-        ensures writer { self.new.writer ≡ self.old.writer }
+        ensures ends { EndsAs (fails result) (state_of N.heap self.new) (set_glue g spec (state_of N.heap self.old)) }
+        ensures writer { self.new.dvi ≡ self.old.dvi }
     {
         match self.params.put_glue(g, spec) {
             Ok(()) => Ok(()),
@@ -38,16 +39,16 @@ impl<N: Nodes> Engine<N> {
 
     /// Sets an attribute among the current ones.
     pub fn set_attribute(&mut self, id: i64, v: i64) -> Result<(), Stop>
-        ensures ends { EndsAs (fails result) self.new (set_attribute id v self.old) }
-        ensures writer { self.new.writer ≡ self.old.writer }
+        ensures ends { EndsAs (fails result) (state_of N.heap self.new) (set_attribute id v (state_of N.heap self.old)) }
+        ensures writer { self.new.dvi ≡ self.old.dvi }
     {
         in_phase(Phase::Build, self.nodes.set_current(id, v))
     }
 
     /// Takes an attribute off the current ones.
     pub fn unset_attribute(&mut self, id: i64) -> Result<(), Stop>
-        ensures ends { EndsAs (fails result) self.new (unset_attribute id self.old) }
-        ensures writer { self.new.writer ≡ self.old.writer }
+        ensures ends { EndsAs (fails result) (state_of N.heap self.new) (unset_attribute id (state_of N.heap self.old)) }
+        ensures writer { self.new.dvi ≡ self.old.dvi }
     {
         Ok(self.nodes.unset_current(id)?)
     }

@@ -7,6 +7,7 @@ ghost use Rattle.ntx_hyph.specs.inner.Ends.{EndsAs};
 ghost use Rattle.ntx_ship.specs.Operations.{definition_at};
 ghost use Rattle.ntx_machine.specs.State.{max_dvi};
 ghost use Rattle.ntx_machine.specs.Machine.{fails};
+ghost use Rattle.ntx_machine.specs.Seen.{state_of};
 ghost use Rattle.ntx_machine.specs.Shipout.{shipped, shipped_if, ended};
 
 use crate::engine::Engine;
@@ -20,10 +21,10 @@ use std::alloc::Global;
 impl<N: Nodes> Engine<N> {
     /// Writes a page, and frees its nodes.
     fn ship(&mut self, alloc: Global, fonts: &[Font], page: u64) -> Result<(), Stop>
-        requires between { IsBetweenPages self.old.writer }
-        requires known { AreKnown self.old.writer.progress.fonts (definition_at fonts.now) }
-        ensures ends { EndsAs (fails result) self.new (shipped fonts.now page self.old) }
-        ensures between { OnOk result (IsBetweenPages self.new.writer) }
+        requires between { IsBetweenPages self.old.dvi }
+        requires known { AreKnown self.old.dvi.progress.fonts (definition_at fonts.now) }
+        ensures ends { EndsAs (fails result) (state_of N.heap self.new) (shipped fonts.now page (state_of N.heap self.old)) }
+        ensures between { OnOk result (IsBetweenPages self.new.dvi) }
     {
         match ship(alloc, &mut self.nodes, fonts, page, &mut self.dvi) {
             Ok(()) => Ok(()),
@@ -35,10 +36,10 @@ impl<N: Nodes> Engine<N> {
 
     /// Writes the page, if there is one.
     fn ship_if(&mut self, alloc: Global, fonts: &[Font], page: Option<u64>) -> Result<(), Stop>
-        requires between { IsBetweenPages self.old.writer }
-        requires known { AreKnown self.old.writer.progress.fonts (definition_at fonts.now) }
-        ensures ends { EndsAs (fails result) self.new (shipped_if fonts.now page self.old) }
-        ensures between { OnOk result (IsBetweenPages self.new.writer) }
+        requires between { IsBetweenPages self.old.dvi }
+        requires known { AreKnown self.old.dvi.progress.fonts (definition_at fonts.now) }
+        ensures ends { EndsAs (fails result) (state_of N.heap self.new) (shipped_if fonts.now page (state_of N.heap self.old)) }
+        ensures between { OnOk result (IsBetweenPages self.new.dvi) }
     {
         match page {
             None => Ok(()),
@@ -48,8 +49,8 @@ impl<N: Nodes> Engine<N> {
 
     /// Ends the job: makes the last page, and writes the preamble, that page, and the postamble.
     pub fn end(&mut self, alloc: Global, fonts: &[Font]) -> Result<(), Stop>
-        requires { self.old.writer ≡ new_writer max_dvi }
-        ensures { EndsAs (fails result) self.new (ended fonts.now self.old) }
+        requires { self.old.dvi ≡ new_writer max_dvi }
+        ensures { EndsAs (fails result) (state_of N.heap self.new) (ended fonts.now (state_of N.heap self.old)) }
     {
         let page = self.last_page(alloc, fonts)?;
         written(self.dvi.begin())?;

@@ -4,6 +4,7 @@ ghost use Rattle.std.specs.Prelude.{◌≡◌, true, Ok};
 ghost use Rattle.std.specs.List.{list_all};
 ghost use Rattle.ntx_doc.specs.Shape.{has_numbers_in_range};
 ghost use Rattle.ntx_machine.specs.Machine.{IsOpen};
+ghost use Rattle.ntx_machine.specs.Seen.{view_of};
 ghost use Rattle.ntx_run.specs.inner.Parts.{HandsOverWaiting, HandsOver, Typesets};
 
 use crate::stop::StopReason;
@@ -14,7 +15,7 @@ use ntx_nodes::Nodes;
 
 /// Hands the bytes that wait to the sink. If there are none, nothing is written.
 fn hand_over<N: Nodes, O: Sink>(machine: &mut Machine<N>, sink: &mut O) -> Result<(), StopReason>
-    ensures { HandsOverWaiting (Ok tt) machine.old machine.new (O.output sink.old) (O.output sink.new) result }
+    ensures { HandsOverWaiting (Ok tt) (view_of N.heap machine.old) (view_of N.heap machine.new) (O.output sink.old) (O.output sink.new) result }
 {
     let bytes = machine.take_dvi();
     match write_all(sink, bytes.as_slice()) {
@@ -29,7 +30,7 @@ fn after_step<N: Nodes, O: Sink>(
     machine: &mut Machine<N>,
     sink: &mut O,
 ) -> Result<(), StopReason>
-    ensures { HandsOver answer machine.old machine.new (O.output sink.old) (O.output sink.new) result }
+    ensures { HandsOver answer (view_of N.heap machine.old) (view_of N.heap machine.new) (O.output sink.old) (O.output sink.new) result }
 {
     if let Err(Stop::Memory) = answer {
         return Err(StopReason::Memory);
@@ -47,9 +48,9 @@ pub fn typeset<N: Nodes, O: Sink>(
     commands: &[Command],
     sink: &mut O,
 ) -> Result<(), StopReason>
-    requires open { IsOpen machine.old }
+    requires open { IsOpen (view_of N.heap machine.old) }
     requires numbers { list_all has_numbers_in_range commands.now ≡ true }
-    ensures { Typesets commands.now machine.old machine.new (O.output sink.old) (O.output sink.new) result }
+    ensures { Typesets commands.now (view_of N.heap machine.old) (view_of N.heap machine.new) (O.output sink.old) (O.output sink.new) result }
 {
     for command in commands {
         let answer = machine.command(command);
