@@ -61,8 +61,8 @@ begins_packed fonts to head s =
     begins_then (heap_step phase.Hpack (hpack_step fonts head to) s) s
     (λ box t. trace_and_then (heap_step phase.Hpack (set_step box.0 Subtype (Number (pos 2))) t) (λ _ u. trace_and_then (heap_step phase.Hpack (wear_current_step box.0) u) (λ _ v. stays v (Ok box.0))))
     (λ box t. begins_then (heap_step phase.Hpack (set_step box.0 Subtype (Number (pos 2))) t) t (λ _ u. trace_and_then (heap_step phase.Hpack (wear_current_step box.0) u) (λ _ v. stays v (Ok box.0)))
-        (λ _ u. begins_then (heap_step phase.Hpack (wear_current_step box.0) u) u (λ _ v. stays v (Ok box.0)) (λ _ v. begins_stays v (Ok box.0)) (begins_heap_step phase.Hpack (wear_current_step box.0) u))
-        (begins_heap_step phase.Hpack (set_step box.0 Subtype (Number (pos 2))) t))
+    (λ _ u. begins_then (heap_step phase.Hpack (wear_current_step box.0) u) u (λ _ v. stays v (Ok box.0)) (λ _ v. begins_stays v (Ok box.0)) (begins_heap_step phase.Hpack (wear_current_step box.0) u))
+    (begins_heap_step phase.Hpack (set_step box.0 Subtype (Number (pos 2))) t))
     (begins_heap_step phase.Hpack (hpack_step fonts head to) s)
 
 pub begins_box : (fonts : List FontTables) (to : PackTo) (body : List Growth) → AreBegun body → (s : State) → Begins (box_of fonts to body s) s

@@ -109,7 +109,7 @@ module _ (fonts : List FontTables) (box : ℕ) where
       (λ _ t. trace_and_then (found phase.Page (top_of_page t box) t) (λ glue u. trace_and_then (made phase.Page (glue_node topskip_glue glue) u) linking))
       (keeps_found phase.Page (items_answer s.heap fonts (Some box) V) s)
       (λ _ t. keeps_then (found phase.Page (top_of_page t box) t) t (λ glue u. trace_and_then (made phase.Page (glue_node topskip_glue glue) u) linking) (keeps_found phase.Page (top_of_page t box) t)
-          (λ glue u. keeps_then (made phase.Page (glue_node topskip_glue glue) u) u linking (keeps_made phase.Page (glue_node topskip_glue glue) u) keeps_linking))
+      (λ glue u. keeps_then (made phase.Page (glue_node topskip_glue glue) u) u linking (keeps_made phase.Page (glue_node topskip_glue glue) u) keeps_linking))
 
 keeps_from : (fonts : List FontTables) (main : Option ℕ) (s : State) → Keeps (page_from fonts main s) s
 keeps_from fonts None s = refl

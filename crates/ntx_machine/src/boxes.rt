@@ -54,10 +54,7 @@ impl<N: Nodes> Engine<N> {
             None => Ok(Some(Ends { head: n, tail: n })),
             Some(ends) => {
                 let next = FieldValue::Link(Some(n));
-                in_phase_at_once(
-                    Phase::Build,
-                    self.nodes.set(ends.tail, Field::Next, next),
-                )?;
+                in_phase_at_once(Phase::Build, self.nodes.set(ends.tail, Field::Next, next))?;
                 Ok(Some(Ends { tail: n, ..ends }))
             }
         }
@@ -84,15 +81,9 @@ impl<N: Nodes> Engine<N> {
         ensures ends { EndsAs (fails result) (state_of N.heap self.new) (packed fonts.now to head (state_of N.heap self.old)) }
         ensures writer { self.new.dvi ≡ self.old.dvi }
     {
-        let (n, _badness) = in_phase(
-            Phase::Hpack,
-            hpack(alloc, &mut self.nodes, fonts, head, to),
-        )?;
+        let (n, _badness) = in_phase(Phase::Hpack, hpack(alloc, &mut self.nodes, fonts, head, to))?;
         let subtype = FieldValue::Number(DOCUMENT_BOX);
-        in_phase_at_once(
-            Phase::Hpack,
-            self.nodes.set(n, Field::Subtype, subtype),
-        )?;
+        in_phase_at_once(Phase::Hpack, self.nodes.set(n, Field::Subtype, subtype))?;
         in_phase(Phase::Hpack, self.nodes.wear_current(n))?;
         Ok(n)
     }

@@ -82,7 +82,9 @@ impl<N: Nodes> Machine<N> {
         if let Some(why) = self.stopped {
             return Err(why);
         }
-        let answer = self.engine.command(self.alloc, self.fonts.as_slice(), command);
+        let answer = self
+            .engine
+            .command(self.alloc, self.fonts.as_slice(), command);
         self.keep(answer)
     }
 

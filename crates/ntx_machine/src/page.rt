@@ -52,13 +52,7 @@ impl<N: Nodes> Engine<N> {
         ensures ends { EndsAs (fails result) (state_of N.heap self.new) (page_of fonts.now first (state_of N.heap self.old)) }
         ensures writer { self.new.dvi ≡ self.old.dvi }
     {
-        let list = items(
-            alloc,
-            &mut self.nodes,
-            fonts,
-            Some(first),
-            ListKind::V,
-        );
+        let list = items(alloc, &mut self.nodes, fonts, Some(first), ListKind::V);
         let _items = in_phase(Phase::Page, list)?;
         let glue = in_phase_at_once(Phase::Page, self.top_of_page(first))?;
         let top = self.make(Phase::Page, glue_node(TOPSKIP_GLUE, glue))?;

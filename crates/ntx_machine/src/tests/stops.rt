@@ -55,10 +55,16 @@ fn a_65th_attribute_is_refused_where_it_is_set(rt: HostRuntime) -> Result<(), Fa
         document.push_str(format!(in alloc; "attr {id} 1\n")?.as_str())?;
     }
     let given = run(alloc, fonts(alloc)?, document.as_bytes())?;
-    assert_eq!(rt; given.answer, Err(Stop::Engine(Trouble::AttrFull, Phase::Build)));
+    assert_eq!(rt;
+        given.answer,
+        Err(Stop::Engine(Trouble::AttrFull, Phase::Build))
+    );
     document.push_str("noattr 7")?;
     let again = run(alloc, fonts(alloc)?, document.as_bytes())?;
-    assert_eq!(rt; again.answer, Err(Stop::Engine(Trouble::AttrFull, Phase::Build)));
+    assert_eq!(rt;
+        again.answer,
+        Err(Stop::Engine(Trouble::AttrFull, Phase::Build))
+    );
     Ok(())
 }
 
