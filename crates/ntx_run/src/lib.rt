@@ -2,7 +2,7 @@
 //! and what is printed.
 //!
 //! [`run`] is the whole program but for the files and the process around it. Its contract ties what it gives, and what the sinks
-//! took, to one definition (`specs/Run.antt`), and says what stands after each fault of the outside (`specs/Outside.antt`).
+//! took, to one definition (`specs/Run.antt`), and says what stands after each fault of the outside (`specs/Promise.antt`).
 //!
 //! It stands on `ntx_words` for the command line, on `ntx_io` for sources and sinks, on `ntx_doc` and `ntx_tfm` for documents and fonts, on
 //! `ntx_machine` for what they come to, on `ntx_nodes` for the nodes that a run opens with, on `ntx_dvi` for what a DVI file is, on `ntx_syntax` for

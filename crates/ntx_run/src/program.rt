@@ -3,7 +3,8 @@
 ghost use Rattle.std.specs.Prelude.{◌≡◌, true, map, string_bytes, Option, None, option_map};
 ghost use Rattle.ntx_nodes.specs.Heap.{Heap};
 ghost use Rattle.ntx_nodes.specs.Steps.{empty_heap};
-ghost use Rattle.ntx_run.specs.Outside.{Runs, outside};
+ghost use Rattle.ntx_run.specs.Outside.{outside};
+ghost use Rattle.ntx_run.specs.Promise.{Runs};
 ghost use Rattle.std.specs.List.{list_all};
 ghost use Rattle.ntx_doc.specs.Shape.{has_numbers_in_range};
 ghost use Rattle.ntx_run.specs.Run.{job_of};
