@@ -47,83 +47,123 @@ pub set_outer : (fonts d : ℕ) (p : Param) (v : ℤ) → is_in_range p v ≡ tr
 set_outer fonts d p v within =
     record {
       outer = record {
-        numbers = fold_set numbers_layer p v ∙ within; fonts_there = fold_set (fonts_layer fonts) p v;
-        stands = ap outside_layer (kind.outs-Set p v); depth = no_depth _ d (fold_set depth_layer p v) };
-      no_box = ap box_layer (kind.outs-Set p v) }
+        numbers = fold_set numbers_layer p v ∙ within;
+        fonts_there = fold_set (fonts_layer fonts) p v;
+        stands = ap outside_layer (kind.outs-Set p v);
+        depth = no_depth _ d (fold_set depth_layer p v);
+      };
+      no_box = ap box_layer (kind.outs-Set p v);
+    }
 
 pub set_glue_outer : (fonts d : ℕ) (g : GlueParam) (spec : GlueSpec) → is_glue_in_range spec ≡ true → IsPlainOuter fonts d (kind.SetGlue g spec)
 set_glue_outer fonts d g spec within =
     record {
       outer = record {
-        numbers = fold_set_glue numbers_layer g spec ∙ within; fonts_there = fold_set_glue (fonts_layer fonts) g spec;
-        stands = ap outside_layer (kind.outs-SetGlue g spec); depth = no_depth _ d (fold_set_glue depth_layer g spec) };
-      no_box = ap box_layer (kind.outs-SetGlue g spec) }
+        numbers = fold_set_glue numbers_layer g spec ∙ within;
+        fonts_there = fold_set_glue (fonts_layer fonts) g spec;
+        stands = ap outside_layer (kind.outs-SetGlue g spec);
+        depth = no_depth _ d (fold_set_glue depth_layer g spec);
+      };
+      no_box = ap box_layer (kind.outs-SetGlue g spec);
+    }
 
 pub attr_outer : (fonts d : ℕ) (id v : ℤ) → is_in attributes id ≡ true → is_in attribute_values v ≡ true → IsPlainOuter fonts d (kind.Attr id v)
 attr_outer fonts d id v x y =
     record {
       outer = record {
-        numbers = fold_attr numbers_layer id v ∙ and_both (is_in attributes id) (is_in attribute_values v) x y; fonts_there = fold_attr (fonts_layer fonts) id v;
-        stands = ap outside_layer (kind.outs-Attr id v); depth = no_depth _ d (fold_attr depth_layer id v) };
-      no_box = ap box_layer (kind.outs-Attr id v) }
+        numbers = fold_attr numbers_layer id v ∙ and_both (is_in attributes id) (is_in attribute_values v) x y;
+        fonts_there = fold_attr (fonts_layer fonts) id v;
+        stands = ap outside_layer (kind.outs-Attr id v);
+        depth = no_depth _ d (fold_attr depth_layer id v);
+      };
+      no_box = ap box_layer (kind.outs-Attr id v);
+    }
 
 pub no_attr_outer : (fonts d : ℕ) (id : ℤ) → is_in attributes id ≡ true → IsPlainOuter fonts d (kind.NoAttr id)
 no_attr_outer fonts d id x =
     record {
       outer = record {
-        numbers = fold_no_attr numbers_layer id ∙ x; fonts_there = fold_no_attr (fonts_layer fonts) id;
-        stands = ap outside_layer (kind.outs-NoAttr id); depth = no_depth _ d (fold_no_attr depth_layer id) };
-      no_box = ap box_layer (kind.outs-NoAttr id) }
+        numbers = fold_no_attr numbers_layer id ∙ x;
+        fonts_there = fold_no_attr (fonts_layer fonts) id;
+        stands = ap outside_layer (kind.outs-NoAttr id);
+        depth = no_depth _ d (fold_no_attr depth_layer id);
+      };
+      no_box = ap box_layer (kind.outs-NoAttr id);
+    }
 
 -- ---- in a box
 
 pub attr_inner : (fonts d : ℕ) (id v : ℤ) → is_in attributes id ≡ true → is_in attribute_values v ≡ true → IsInner fonts d (kind.Attr id v)
 attr_inner fonts d id v x y =
     record {
-      numbers = fold_attr numbers_layer id v ∙ and_both (is_in attributes id) (is_in attribute_values v) x y; fonts_there = fold_attr (fonts_layer fonts) id v;
-      sets_nothing = fold_attr setting_layer id v; depth = no_depth _ d (fold_attr depth_layer id v) }
+      numbers = fold_attr numbers_layer id v ∙ and_both (is_in attributes id) (is_in attribute_values v) x y;
+      fonts_there = fold_attr (fonts_layer fonts) id v;
+      sets_nothing = fold_attr setting_layer id v;
+      depth = no_depth _ d (fold_attr depth_layer id v);
+    }
 
 pub no_attr_inner : (fonts d : ℕ) (id : ℤ) → is_in attributes id ≡ true → IsInner fonts d (kind.NoAttr id)
 no_attr_inner fonts d id x =
     record {
-      numbers = fold_no_attr numbers_layer id ∙ x; fonts_there = fold_no_attr (fonts_layer fonts) id;
-      sets_nothing = fold_no_attr setting_layer id; depth = no_depth _ d (fold_no_attr depth_layer id) }
+      numbers = fold_no_attr numbers_layer id ∙ x;
+      fonts_there = fold_no_attr (fonts_layer fonts) id;
+      sets_nothing = fold_no_attr setting_layer id;
+      depth = no_depth _ d (fold_no_attr depth_layer id);
+    }
 
 pub glue_inner : (fonts d : ℕ) (spec : GlueSpec) → is_glue_in_range spec ≡ true → IsInner fonts d (kind.Glue spec)
 glue_inner fonts d spec x =
     record {
-      numbers = fold_glue numbers_layer spec ∙ x; fonts_there = fold_glue (fonts_layer fonts) spec;
-      sets_nothing = fold_glue setting_layer spec; depth = no_depth _ d (fold_glue depth_layer spec) }
+      numbers = fold_glue numbers_layer spec ∙ x;
+      fonts_there = fold_glue (fonts_layer fonts) spec;
+      sets_nothing = fold_glue setting_layer spec;
+      depth = no_depth _ d (fold_glue depth_layer spec);
+    }
 
 pub kern_inner : (fonts d : ℕ) (w : ℤ) → is_dimension w ≡ true → IsInner fonts d (kind.Kern w)
 kern_inner fonts d w x =
     record {
-      numbers = fold_kern numbers_layer w ∙ x; fonts_there = fold_kern (fonts_layer fonts) w;
-      sets_nothing = fold_kern setting_layer w; depth = no_depth _ d (fold_kern depth_layer w) }
+      numbers = fold_kern numbers_layer w ∙ x;
+      fonts_there = fold_kern (fonts_layer fonts) w;
+      sets_nothing = fold_kern setting_layer w;
+      depth = no_depth _ d (fold_kern depth_layer w);
+    }
 
 pub penalty_inner : (fonts d : ℕ) (p : ℤ) → is_within max_penalty p ≡ true → IsInner fonts d (kind.Penalty p)
 penalty_inner fonts d p x =
     record {
-      numbers = fold_penalty numbers_layer p ∙ x; fonts_there = fold_penalty (fonts_layer fonts) p;
-      sets_nothing = fold_penalty setting_layer p; depth = no_depth _ d (fold_penalty depth_layer p) }
+      numbers = fold_penalty numbers_layer p ∙ x;
+      fonts_there = fold_penalty (fonts_layer fonts) p;
+      sets_nothing = fold_penalty setting_layer p;
+      depth = no_depth _ d (fold_penalty depth_layer p);
+    }
 
 pub rule_inner : (fonts d : ℕ) (size : Size) → is_dimension size.w ≡ true → is_dimension size.h ≡ true → is_dimension size.d ≡ true → IsInner fonts d (kind.Rule size)
 rule_inner fonts d size x y z =
     record {
-      numbers = fold_rule numbers_layer size ∙ rw (x, y) z; fonts_there = fold_rule (fonts_layer fonts) size;
-      sets_nothing = fold_rule setting_layer size; depth = no_depth _ d (fold_rule depth_layer size) }
+      numbers = fold_rule numbers_layer size ∙ rw (x, y) z;
+      fonts_there = fold_rule (fonts_layer fonts) size;
+      sets_nothing = fold_rule setting_layer size;
+      depth = no_depth _ d (fold_rule depth_layer size);
+    }
 
 pub glyph_inner : (fonts d font code : ℕ) → font ≤ 63 → font < fonts → IsInner fonts d (kind.Glyph font code)
 glyph_inner fonts d font code x y =
     record {
-      numbers = fold_glyph numbers_layer font code ∙ grind (arith, nat_tests); fonts_there = fold_glyph (fonts_layer fonts) font code ∙ grind (arith, nat_tests);
-      sets_nothing = fold_glyph setting_layer font code; depth = no_depth _ d (fold_glyph depth_layer font code) }
+      numbers = fold_glyph numbers_layer font code ∙ grind (arith, nat_tests);
+      fonts_there = fold_glyph (fonts_layer fonts) font code ∙ grind (arith, nat_tests);
+      sets_nothing = fold_glyph setting_layer font code;
+      depth = no_depth _ d (fold_glyph depth_layer font code);
+    }
 
 pub space_inner : (fonts d font : ℕ) → font ≤ 63 → font < fonts → IsInner fonts d (kind.Space font)
 space_inner fonts d font x y =
     record {
-      numbers = fold_space numbers_layer font ∙ grind (arith, nat_tests); fonts_there = fold_space (fonts_layer fonts) font ∙ grind (arith, nat_tests);
-      sets_nothing = fold_space setting_layer font; depth = no_depth _ d (fold_space depth_layer font) }
+      numbers = fold_space numbers_layer font ∙ grind (arith, nat_tests);
+      fonts_there = fold_space (fonts_layer fonts) font ∙ grind (arith, nat_tests);
+      sets_nothing = fold_space setting_layer font;
+      depth = no_depth _ d (fold_space depth_layer font);
+    }
 
 -- ---- boxes
 
@@ -156,7 +196,8 @@ box_inner fonts d to body width all =
       numbers = fold_hbox numbers_layer to body ∙ and_both _ _ width (numbers_inside fonts d body all);
       fonts_there = fold_hbox (fonts_layer fonts) to body ∙ fonts_inside fonts d body all;
       sets_nothing = fold_hbox setting_layer to body ∙ settings_inside fonts d body all;
-      depth = depth_more fonts d to body all }
+      depth = depth_more fonts d to body all;
+    }
 
 pub box_outer : (fonts d : ℕ) (to : PackTo) (body : List Command) → is_box_width to ≡ true → AllByRecursion (IsInner fonts d) body → IsOuter fonts (d + 1) (kind.HBox to body)
 box_outer fonts d to body width all =
@@ -164,7 +205,8 @@ box_outer fonts d to body width all =
       numbers = (box_inner fonts d to body width all).numbers;
       fonts_there = (box_inner fonts d to body width all).fonts_there;
       stands = ap outside_layer (kind.outs-HBox to body) ∙ ap not (no_setting fonts d body all);
-      depth = depth_more fonts d to body all }
+      depth = depth_more fonts d to body all;
+    }
 
 pub outer_deeper : (fonts d e : ℕ) (command : Command) → d ≤ e → IsOuter fonts d command → IsOuter fonts e command
 outer_deeper fonts d e command deeper outer =

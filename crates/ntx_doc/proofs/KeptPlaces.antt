@@ -93,11 +93,14 @@ pub put_kept : (fonts : ℕ) (command : Command) (place : Place) → (place.grou
     → IsKeptPlace fonts place → IsKeptPlace fonts (put command place)
 put_kept fonts command place outer inner kept =
     record {
-      depth = kept.depth; level = omega (arith, kept.level, put_level command place.groups);
+      depth = kept.depth;
+      level = omega (arith, kept.level, put_level command place.groups);
       open_boxes = put_open fonts kept.depth command place.groups (λ some. inner some kept.depth) kept.open_boxes;
       finished = put_finished fonts command place.done place.groups (λ top. (outer top).outer) kept.finished;
       boxes = plain_boxes command place.done place.groups _ (λ top. (outer top).no_box) kept.boxes;
-      font_low = kept.font_low; font_there = kept.font_there }
+      font_low = kept.font_low;
+      font_there = kept.font_there;
+    }
 
 -- a command that may stand in a box of any depth
 abbrev pub IsAtEachDepth : ℕ → Command → Type 0
@@ -143,7 +146,14 @@ words_kept fonts words place have some kept =
 pub font_kept : (fonts font : ℕ) (place : Place) → font ≤ 63 → font < fonts → IsKeptPlace fonts place → IsKeptPlace fonts (with_font font place)
 font_kept fonts font place low there kept =
     record {
-      depth = kept.depth; level = kept.level; open_boxes = kept.open_boxes; finished = kept.finished; boxes = kept.boxes; font_low = low; font_there = λ _. there }
+      depth = kept.depth;
+      level = kept.level;
+      open_boxes = kept.open_boxes;
+      finished = kept.finished;
+      boxes = kept.boxes;
+      font_low = low;
+      font_there = λ _. there;
+    }
 
 opened_boxes : (done : List Command) (groups : List Group) (has_box : Bool) → (groups ≡ [] → has_box ≡ false) → box_count done + open_count groups ≤ one_if has_box → box_count done + 1 ≤ 1
 opened_boxes done [] has_box top kept =
@@ -154,10 +164,14 @@ pub opened_kept : (fonts : ℕ) (to : PackTo) (place : Place) → is_box_width t
     → IsKeptPlace fonts place → IsKeptPlace fonts (opened to place)
 opened_kept fonts to place width room first kept =
     record {
-      depth = kept.depth - 1; level = omega (arith, kept.level, room);
+      depth = kept.depth - 1;
+      level = omega (arith, kept.level, room);
       open_boxes = (width, (tt, subst (λ d. AreOpen fonts d place.groups) (omega (arith, kept.level, room)) kept.open_boxes));
-      finished = kept.finished; boxes = opened_boxes place.done place.groups place.has_box first kept.boxes;
-      font_low = kept.font_low; font_there = kept.font_there }
+      finished = kept.finished;
+      boxes = opened_boxes place.done place.groups place.has_box first kept.boxes;
+      font_low = kept.font_low;
+      font_there = kept.font_there;
+    }
 
 closed_boxes : (command : Command) (done : List Command) (outer : List Group) (most : ℕ) → box_count done + 1 ≤ most
     → box_count (put_outside command done outer) + open_count (put_in_box command outer) ≤ most
@@ -168,10 +182,13 @@ pub closed_kept : (fonts : ℕ) (groups : List Group) (place : Place) → IsKept
 closed_kept fonts [] place kept = tt
 closed_kept fonts (group ∷ outer) place kept =
     record {
-      depth = kept.depth + 1; level = omega (arith, kept.level, put_level (kind.HBox group.to group.body) outer);
+      depth = kept.depth + 1;
+      level = omega (arith, kept.level, put_level (kind.HBox group.to group.body) outer);
       open_boxes = put_open fonts (kept.depth + 1) (kind.HBox group.to group.body) outer (λ some. box_inner fonts kept.depth group.to group.body kept.open_boxes.0 kept.open_boxes.1.0) kept.open_boxes.1.1;
       finished =
-        put_finished fonts (kind.HBox group.to group.body) place.done outer
-        (λ top. outer_deeper fonts (kept.depth + 1) max_depth _ (omega (arith, kept.level)) (box_outer fonts kept.depth group.to group.body kept.open_boxes.0 kept.open_boxes.1.0)) kept.finished;
+          put_finished fonts (kind.HBox group.to group.body) place.done outer
+          (λ top. outer_deeper fonts (kept.depth + 1) max_depth _ (omega (arith, kept.level)) (box_outer fonts kept.depth group.to group.body kept.open_boxes.0 kept.open_boxes.1.0)) kept.finished;
       boxes = closed_boxes (kind.HBox group.to group.body) place.done outer _ kept.boxes;
-      font_low = kept.font_low; font_there = kept.font_there }
+      font_low = kept.font_low;
+      font_there = kept.font_there;
+    }

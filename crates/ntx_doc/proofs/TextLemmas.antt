@@ -44,8 +44,9 @@ spaced_step font word fields behind p q r last are same there here leads =
     record {
       font_same = sym (ap (λ x. x.font) at_r) ∙ put_all_font (glyphs_of font word) q ∙ q_font;
       leads =
-        ap (put_all (spaced font behind)) (sym at_r) ∙ sym (put_all_more (glyphs_of font word) (spaced font behind) q)
-        ∙ ap (put_all (glyphs_of font word ++ spaced font behind)) (sym at_q) ∙ ap (λ l. put_all (spaced font l) p) (sym are) ∙ leads }
+          ap (put_all (spaced font behind)) (sym at_r) ∙ sym (put_all_more (glyphs_of font word) (spaced font behind) q)
+          ∙ ap (put_all (glyphs_of font word ++ spaced font behind)) (sym at_q) ∙ ap (λ l. put_all (spaced font l) p) (sym are) ∙ leads;
+    }
 
 abbrev after_text : Place → Result Place DocWhy
 after_text place = Ok (record place { after_text = true })

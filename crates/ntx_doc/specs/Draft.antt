@@ -6,5 +6,9 @@ use Rattle.ntx_doc.specs.Place.{Place}
 abbrev pub place_of : Draft → Place
 place_of draft =
     record {
-      done = draft.done.items; groups = reverse draft.groups.items; has_box = draft.has_box; font = draft.font;
-      after_text = draft.after_text }
+      done = draft.done.items;
+      groups = reverse draft.groups.items;
+      has_box = draft.has_box;
+      font = draft.font;
+      after_text = draft.after_text;
+    }

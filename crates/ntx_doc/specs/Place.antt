@@ -45,7 +45,10 @@ put_outside command done (group ∷ outer) = done
 abbrev pub put : Command → Place → Place
 put command place =
     record place {
-      done = put_outside command place.done place.groups; groups = put_in_box command place.groups; after_text = false }
+      done = put_outside command place.done place.groups;
+      groups = put_in_box command place.groups;
+      after_text = false;
+    }
 
 -- the place with these commands, one after another
 abbrev pub put_all : List Command → Place → Place

@@ -1,6 +1,6 @@
 //! What a document asks for.
 
-use ntx_item::{GlueParam, GlueSpec, Param, PackTo};
+use ntx_item::{GlueParam, GlueSpec, PackTo, Param};
 use ntx_num::Size;
 use sqlite_items::Items;
 

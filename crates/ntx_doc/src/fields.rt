@@ -41,7 +41,7 @@ pub fn three_fields(line: &[u8]) -> Option<(&[u8], &[u8], &[u8])>
 pub fn five_fields(line: &[u8]) -> Option<(&[u8], &[u8], &[u8], &[u8], &[u8])>
     ensures { MatchOption result (length (fields_of line.now) ≢ 5)
         (λ found. fields_of line.now ≡
-            found.0.now ∷ found.1.now ∷ found.2.now ∷ found.3.now ∷ found.4.now ∷ []) }
+        found.0.now ∷ found.1.now ∷ found.2.now ∷ found.3.now ∷ found.4.now ∷ []) }
 {
     let (first, rest) = next_field(line)?;
     let (second, rest) = next_field(rest)?;

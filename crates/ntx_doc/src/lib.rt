@@ -26,6 +26,8 @@ pub use fault::{DocFault, DocWhy};
 pub use read::read_doc;
 
 #[cfg(test)]
+mod depth_tests;
+#[cfg(test)]
 mod fault_tests;
 #[cfg(test)]
 mod form_tests;
