@@ -48,7 +48,7 @@ pub struct Dvi {
 }
 
 impl Model for Dvi {
-    ghost use Rattle.std.specs.Prelude.{◌≡◌, ◌≤◌, ◌<◌, ◌^◌, length};
+    ghost use Rattle.std.specs.Prelude.{◌≡◌, ◌≤◌, ◌<◌, ◌*◌, ◌^◌, length};
     ghost use Rattle.ntx_dvi.specs.Writer.{Writer};
     ghost use Rattle.ntx_dvi.specs.PartView.{part_seen};
 
@@ -71,7 +71,7 @@ impl Model for Dvi {
       waiting = d.output.waiting;
     } };
 
-    ghost invariant = { λ d. (d.output.place ≤ d.output.limit) × (d.output.limit < 2 ^ 31) × (d.pages ≤ d.output.place) × (length d.fonts ≡ 64) };
+    ghost invariant = { λ d. (d.output.place ≤ d.output.limit) × (d.output.limit < 2 ^ 31) × (2 * d.pages ≤ d.output.place) × (length d.fonts ≡ 64) };
 }
 
 #[tactic(auto, using(crate::proofs::Writing::writes_step), unfolding(crate::specs::Bytes::operation_bytes, crate::specs::Writer::step))]
@@ -265,9 +265,10 @@ impl Dvi {
         self.output.take()
     }
 
-    /// How many pages have begun.
+    /// How many pages have begun, which is below 2^30.
     pub fn pages(&self) -> u64
-        ensures { result ≡ self.now.progress.pages }
+        ensures pages { result ≡ self.now.progress.pages }
+        ensures few { result < 2 ^ 30 }
     {
         self.pages
     }

@@ -14,3 +14,15 @@ pub mod Ranges
 pub mod Marks
 -- the steps by which a list is placed
 pub mod Steps
+-- the numbers of fonts
+pub mod Numbers
+-- what operations leave
+pub mod Leaves
+-- pieces that are written one after another
+pub mod Drawing
+-- the lists of a page are freed
+pub mod Freeing
+-- the place on a page after a piece
+pub mod Pens
+-- what shipping a page does
+pub mod Shipped

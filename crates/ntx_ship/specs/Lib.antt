@@ -6,3 +6,7 @@ pub mod Reach
 pub mod Adding
 -- pieces that can be drawn
 pub mod Drawable
+-- what is written of a page
+pub mod Operations
+-- what shipping a page does
+pub mod Shipping

@@ -10,7 +10,7 @@ ghost use Rattle.ntx_ship.specs.Reach.{IsPlaced, HasRanges, list_reach};
 
 use crate::list::{Inside, in_hlist, in_vlist};
 use crate::piece::Piece;
-use crate::place::{Place, narrowed, sum};
+use crate::place::{CORNER, Place, narrowed, sum};
 use crate::placing::place_list;
 use crate::station::contents_of;
 use ntx_nodes::{BoxFields, Contents, ListKind, Nodes, Trouble};
@@ -62,9 +62,6 @@ impl PlacedPage {
 /// The levels of lists that a page may have whose lists are accepted.
 const LEVELS: u64 = 101;
 
-/// The upper left corner of a page.
-const CORNER: Place = Place { h: 0, v: 0 };
-
 /// The pieces of the list in a page's box, which begins here.
 fn page_pieces<N: Nodes>(
     alloc: Global,
@@ -79,6 +76,7 @@ fn page_pieces<N: Nodes>(
     ensures answer { Answers (result_map (λ pieces. pieces.items) result) (list_pieces (N.heap nodes.old) fonts.now max_levels inside here) }
     ensures drawable { IfOk result (λ pieces. AreDrawable 0 pieces.items) }
 {
+    nodes.lawful();
     let mut pieces = Vec::new(alloc);
     place_list(alloc, nodes, fonts, inside, here, LEVELS, &mut pieces)?;
     Ok(pieces)

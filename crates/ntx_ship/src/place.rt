@@ -16,6 +16,9 @@ pub struct Place {
     pub v: i64,
 }
 
+/// The upper left corner of a page.
+pub const CORNER: Place = Place { h: 0, v: 0 };
+
 /// The sum of two distances.
 pub fn sum(a: i64, b: i64) -> i64
     requires a { unsigned_abs a ≤ 2 ^ 61 }

@@ -1,4 +1,5 @@
-//! Pages against places worked out by hand from TeX's rules.
+//! Pages against places and bytes worked out by hand from TeX's rules.
 
 mod lists;
 mod pages;
+mod ships;

@@ -5,7 +5,7 @@ use ntx_nodes::{Field, FieldValue, Kind, Nodes, PlainHeap, Trouble};
 use ntx_num::Fail;
 use ntx_pack::{hpack, vpack};
 use ntx_tfm::Font;
-use std::alloc::Global;
+use std::alloc::{AllocError, Global};
 
 /// A node of a list.
 #[derive(Clone, Copy)]
@@ -16,8 +16,8 @@ pub enum Part {
     Kern(i64),
     /// Finite glue of this width, stretch and shrink.
     Glue(i64, i64, i64),
-    /// The character 97 of font 0.
-    Letter,
+    /// The character 97 of the font of this number.
+    Letter(i64),
     /// A node that is there.
     Node(u64),
 }
@@ -55,7 +55,11 @@ fn node(nodes: &mut PlainHeap, part: Part) -> Result<u64, Fail<Trouble>> {
             ];
             make(nodes, Kind::Glue, &fields)
         }
-        Part::Letter => make(nodes, Kind::Glyph, &[(Field::Char, 97)]),
+        Part::Letter(font) => make(
+            nodes,
+            Kind::Glyph,
+            &[(Field::Char, 97), (Field::Font, font)],
+        ),
         Part::Node(n) => Ok(n),
     }
 }
@@ -102,8 +106,21 @@ pub fn shift(nodes: &mut PlainHeap, n: u64, by: i64) -> Result<(), Fail<Trouble>
 
 /// Makes a discretionary with a letter that stands where there is no break.
 pub fn disc(nodes: &mut PlainHeap) -> Result<u64, Fail<Trouble>> {
-    let letter = node(nodes, Part::Letter)?;
+    let letter = node(nodes, Part::Letter(0))?;
     let n = nodes.make(Kind::Disc, 0)?;
     put(nodes, n, Field::Replace, FieldValue::Link(Some(letter)))?;
     Ok(n)
+}
+
+/// The bytes of a font with the character `a` alone, 327680 wide and 286720 high at its design size of 10 points.
+pub fn letter_font(alloc: Global) -> Result<Vec<u8>, AllocError> {
+    let mut bytes = Vec::new(alloc);
+    for n in [15u16, 2, 97, 97, 2, 2, 1, 1, 0, 0, 0, 0] {
+        bytes.extend_from_slice(&n.to_be_bytes())?;
+    }
+    let words = [0u32, 0xa0_0000, 0x110_0000, 0, 0x8_0000, 0, 0x7_0000, 0, 0];
+    for word in words {
+        bytes.extend_from_slice(&word.to_be_bytes())?;
+    }
+    Ok(bytes)
 }

@@ -1,13 +1,12 @@
 //! Where marks stand.
 
 use super::lists::Part::{Glue, Kern, Letter, Node, Rule};
-use super::lists::{disc, hbox, shift, vbox};
+use super::lists::{disc, hbox, letter_font, shift, vbox};
 use crate::{GlyphMark, Piece, RuleMark, placed};
 use ntx_item::PackTo::{Additional, Exactly};
 use ntx_nodes::{PlainHeap, Trouble};
 use ntx_num::Fail::Is;
 use ntx_tfm::read_font;
-use std::alloc::{AllocError, Global};
 use std::test;
 
 /// A rule.
@@ -155,19 +154,6 @@ fn letter(h: i32) -> Piece {
     })
 }
 
-/// The bytes of a font with the character `a` alone, 327680 wide and 286720 high at its design size of 10 points.
-fn letter_font(alloc: Global) -> Result<Vec<u8>, AllocError> {
-    let mut bytes = Vec::new(alloc);
-    for n in [15u16, 2, 97, 97, 2, 2, 1, 1, 0, 0, 0, 0] {
-        bytes.extend_from_slice(&n.to_be_bytes())?;
-    }
-    let words = [0u32, 0xa0_0000, 0x110_0000, 0, 0x8_0000, 0, 0x7_0000, 0, 0];
-    for word in words {
-        bytes.extend_from_slice(&word.to_be_bytes())?;
-    }
-    Ok(bytes)
-}
-
 #[test]
 fn characters_stand_on_the_baseline(rt: HostRuntime) -> Result<(), test::Fail> {
     let alloc = rt.alloc();
@@ -175,7 +161,7 @@ fn characters_stand_on_the_baseline(rt: HostRuntime) -> Result<(), test::Fail> {
     let bytes = letter_font(alloc)?;
     let fonts = [read_font(alloc, &bytes, "t", None)?];
     let disc = disc(&mut nodes)?;
-    let list = [Letter, Kern(-1), Node(disc), Letter];
+    let list = [Letter(0), Kern(-1), Node(disc), Letter(0)];
     let page = hbox(alloc, &mut nodes, &fonts, &list, Additional(0))?;
     let page = placed(alloc, &mut nodes, &fonts, page)?;
     let pieces = [letter(0), letter(327_679), letter(655_359)];
