@@ -1,9 +1,10 @@
 -- Pieces that are written one after another.
 use Rattle.std.proofs.Common.{◌≡◌, ℕ, ◌+◌, ◌≤◌, ◌<◌, List, [], ◌∷◌, ◌++◌, length, drop, get_or, Ok, Err, refl, ap, sym, ◌∙◌, subst}
-use Rattle.std.specs.Prelude.{Result, Option, Some, None, ℤ, pos}
+use Rattle.std.specs.Prelude.{Result, Option, Some, None, ℤ, pos, slice_get}
+use Rattle.std.proofs.lemmas.Option.{slice_get_past}
 use Rattle.std.proofs.lemmas.List.{at_drop_more, at_drop_all}
 use Rattle.ntx_num.specs.declared.answer.Fail.{Fail}
-use Rattle.ntx_num.specs.declared.answer.Fail.TheVariants.{NoMemory, Is}
+use Rattle.ntx_num.specs.declared.answer.Fail.TheVariants.{NoMemory}
 use Rattle.ntx_tfm.specs.Font.{FontTables}
 use Rattle.ntx_dvi.specs.declared.full.DviFull.{DviFull}
 use Rattle.ntx_dvi.specs.Operation.{Operation, PageStart, PageEnd}
@@ -87,6 +88,11 @@ pub glyph_written : {a : Unit {0}} {result : Result (Unit {0}) (Fail DviFull)} {
 glyph_written {result = result} {old = old} {mid = mid} {new = new} here m o moved set =
     let leaves : mid.progress ≡ after_all old.progress (movement here m.h m.v) = written_leaves old mid (movement here m.h m.v) moved.done in
     writes_append moved (subst (Writes result mid new) (ap (λ (p : Progress). glyph_of p m o) leaves ∙ moved_keeps old.progress here m.h m.v m o) set)
+
+-- Nothing is written of a font that is not there.
+pub no_glyph : (a : Unit {0}) (w : Writer) (m : GlyphMark) (fonts : List FontTables) (i : ℕ) → i ≡ m.font → length fonts ≤ i → Writes (Ok a) w w (glyph_of w.progress m (slice_get fonts m.font))
+no_glyph a w m fonts i at past =
+    rw (slice_get_past fonts m.font (subst (λ (k : ℕ). length fonts ≤ k) at past)) (writes_nothing a w)
 
 -- ---- pages
 

@@ -1,5 +1,5 @@
 -- What shipping a page does, from what its parts do.
-use Rattle.std.proofs.Common.{◌≡◌, ℕ, List, Ok, Err, refl, ap, sym, ◌∙◌, subst}
+use Rattle.std.proofs.Common.{◌≡◌, ℕ, List, Ok, Err, refl, ap, sym, subst}
 use Rattle.std.specs.Prelude.{Result, Some, IsOk}
 use Rattle.ntx_num.specs.Answer.{Answers, StepsAtOnce, result_map}
 use Rattle.ntx_num.specs.declared.answer.Fail.{Fail}
@@ -42,10 +42,14 @@ full_ships why old new fonts seen page is writes =
 
 -- ---- freeing
 
-refuses_not : (why : Trouble) (heap : Heap) (names : List ℕ) → ◌≡◌ {A = Result (Unit {0} × Heap) Trouble} (Ok (tt, without heap names)) (Err why) → ⊥
+-- the heap without what a walk reached
+abbrev rest_of : Heap → List ℕ → Unit {0} × Heap
+rest_of heap names = (tt, without heap names)
+
+refuses_not : (why : Trouble) (heap : Heap) (names : List ℕ) → ◌≡◌ {A = Result (Unit {0} × Heap) Trouble} (Ok (rest_of heap names)) (Err why) → ⊥
 refuses_not why heap names e = cc
 
-freed_so : (walk : Result (List ℕ) Trouble) (result : Result (Unit {0}) Trouble) (old new : Heap) → IsOk walk → StepsAtOnce result old new (result_map (λ (names : List ℕ). (tt, without old names)) walk) → result_map (λ (names : List ℕ). (tt, without old names)) walk ≡ Ok (tt, new)
+freed_so : (walk : Result (List ℕ) Trouble) (result : Result (Unit {0}) Trouble) (old new : Heap) → IsOk walk → StepsAtOnce result old new (result_map (rest_of old) walk) → result_map (rest_of old) walk ≡ Ok (tt, new)
 freed_so walk (Ok a) old new ok step = step
 freed_so (Ok names) (Err why) old new ok step = absurd (refuses_not why old names step.0)
 freed_so (Err e) (Err why) old new ok step = cc

@@ -55,7 +55,11 @@ fn node(nodes: &mut PlainHeap, part: Part) -> Result<u64, Fail<Trouble>> {
             ];
             make(nodes, Kind::Glue, &fields)
         }
-        Part::Letter(font) => make(nodes, Kind::Glyph, &[(Field::Char, 97), (Field::Font, font)]),
+        Part::Letter(font) => make(
+            nodes,
+            Kind::Glyph,
+            &[(Field::Char, 97), (Field::Font, font)],
+        ),
         Part::Node(n) => Ok(n),
     }
 }

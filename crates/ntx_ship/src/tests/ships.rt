@@ -100,7 +100,10 @@ fn a_page_points_to_the_page_before(rt: HostRuntime) -> Result<(), test::Fail> {
     ship(alloc, &mut nodes, &[], first, &mut dvi)?;
     ship(alloc, &mut nodes, &[], second, &mut dvi)?;
     let written = dvi.take();
-    assert_eq!(rt; written.get(63..69), Some([140, 139, 0, 0, 0, 2].as_slice()));
+    assert_eq!(rt;
+        written.get(63..69),
+        Some([140, 139, 0, 0, 0, 2].as_slice())
+    );
     assert_eq!(rt; written.get(105..), Some([0, 0, 0, 18, 140].as_slice()));
     assert_eq!(rt; dvi.pages(), 2);
     Ok(())

@@ -29,7 +29,8 @@ returns-in_err-draw_piece-clause-writes c =
 
 pub returns-in_err-pass-clause-writes : goal.returns-in_err-pass-clause-writes
 returns-in_err-pass-clause-writes c =
-    stops_behind _ _ _ _ _ _ _ _ _ c.loop-piece-test.true c.loop-piece.invariant.goes_on (rw c.here.ensures.here at c.in_ok-draw_piece.ensures.writes)
+    let p = err_from_is_err_and c.from_residual-in_err-pass.result c.from_residual-in_err-pass.ensures.1 in
+    rw (p.1, p.2) (stops_behind _ _ _ _ _ _ _ _ _ c.loop-piece-test.true c.loop-piece.invariant.goes_on (rw c.here.ensures.here at c.in_ok-draw_piece.ensures.writes))
 
 pub returns-clause-writes : goal.returns-clause-writes
 returns-clause-writes c = goes_to_the_end _ _ _ _ _ _ _ _ c.loop-piece-test.false c.loop-piece.invariant.goes_on
