@@ -206,5 +206,5 @@ pub record RunsMachine (job : Job) (opening : Heap) (dvi_before dvi_after lines_
 -- What a run does with a job.
 abbrev pub RunsJob : Job → Heap → Output → Output → Output → Output → Status → Option Place → Option Heap → Type 0
 RunsJob job opening dvi_before dvi_after lines_before lines_after ended at left =
-    let outcome = record { status = ended; place = at } in
+    let outcome : Outcome = record { status = ended; place = at } in
     MakesNoMachine dvi_before dvi_after lines_before lines_after outcome left ⊎ RunsMachine job opening dvi_before dvi_after lines_before lines_after outcome left
