@@ -8,14 +8,18 @@
 //! fonts, and on `ntx_num` for answers.
 #![tactic(auto)]
 
+mod discs;
 mod finding;
 mod glyph;
 mod insertion;
 mod kern_pass;
+mod ligature_pass;
+mod ligaturing;
 mod listing;
 mod place;
 
 pub use kern_pass::kern;
+pub use ligature_pass::ligature;
 pub use listing::lists_are_walked;
 
 #[cfg(test)]
