@@ -26,7 +26,7 @@ fn is_first(rules: &[Rule], i: usize) -> bool {
 fn char_word(code: u8, rules: &[Rule]) -> [u8; 4] {
     for i in 0..rules.len() {
         if rules[i].0 == code {
-            return [1, 0x10, 1, i as u8];
+            return [1, 0x10, 1, u8::try_from(i).unwrap_or(0)];
         }
     }
     [1, 0x10, 0, 0]
@@ -36,7 +36,7 @@ fn char_word(code: u8, rules: &[Rule]) -> [u8; 4] {
 /// the design size.
 fn tfm_bytes(alloc: Global, rules: &[Rule]) -> Result<Vec<u8>, AllocError> {
     let mut out = Vec::new(alloc);
-    let nl = rules.len() as u16;
+    let nl = u16::try_from(rules.len()).unwrap_or(0);
     let lf = nl.wrapping_add(6 + 2 + 94 + 2 + 2 + 1 + 1 + 9);
     for n in [lf, 2, 33, 126, 2, 2, 1, 1, nl, 9, 0, 0] {
         out.extend_from_slice(&n.to_be_bytes())?;
