@@ -5,6 +5,7 @@ use super::lists::{make_list, written};
 use crate::kern;
 use ntx_nodes::{Field, FieldValue, Kind, Nodes, PlainHeap, Trouble};
 use ntx_num::Fail;
+use ntx_tfm::Font;
 use std::test;
 
 /// In font 0, `a b` has a kern of 10, `b a` of 20, `b b` of 30, `a c` of 40, and `c c` is a ligature.
@@ -18,6 +19,17 @@ static FIRST: [Rule; 5] = [
 
 /// In font 1, `a b` has a kern of 50.
 static SECOND: [Rule; 1] = [(b'a', b'b', KERN, 4)];
+
+/// A list gets the kerns that are wanted.
+fn is_kerned(rt: &HostRuntime, fonts: &[Font], list: &str, wanted: &str) -> Result<(), test::Fail> {
+    let mut heap = PlainHeap::new(rt.alloc(), 1)?;
+    make_list(&mut heap, list.as_bytes())?;
+    let head = kern(rt.alloc(), &mut heap, fonts, 1)?;
+    assert_eq!(rt; head, 1);
+    let text = written(rt.alloc(), &heap, head)?;
+    assert!(rt; text.as_slice() == wanted.as_bytes(), "{list}");
+    Ok(())
+}
 
 #[test]
 fn lists_are_kerned(rt: HostRuntime) -> Result<(), test::Fail> {
@@ -76,12 +88,7 @@ fn lists_are_kerned(rt: HostRuntime) -> Result<(), test::Fail> {
         font_with(rt.alloc(), &SECOND)?,
     ];
     for (list, wanted) in &rows {
-        let mut heap = PlainHeap::new(rt.alloc(), 1)?;
-        make_list(&mut heap, list.as_bytes())?;
-        let head = kern(rt.alloc(), &mut heap, &fonts, 1)?;
-        assert_eq!(rt; head, 1);
-        let text = written(rt.alloc(), &heap, head)?;
-        assert!(rt; text.as_slice() == wanted.as_bytes(), "{list}");
+        is_kerned(&rt, &fonts, *list, *wanted)?;
     }
     Ok(())
 }
