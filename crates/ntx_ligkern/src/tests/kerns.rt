@@ -6,6 +6,8 @@ use crate::kern;
 use ntx_nodes::{Field, FieldValue, Kind, Nodes, PlainHeap, Trouble};
 use ntx_num::Fail;
 use ntx_tfm::Font;
+use std::alloc::Global;
+use std::process::Abort;
 use std::test;
 
 /// In font 0, `a b` has a kern of 10, `b a` of 20, `b b` of 30, `a c` of 40, and `c c` is a ligature.
@@ -21,12 +23,18 @@ static FIRST: [Rule; 5] = [
 static SECOND: [Rule; 1] = [(b'a', b'b', KERN, 4)];
 
 /// A list gets the kerns that are wanted.
-fn is_kerned(rt: &HostRuntime, fonts: &[Font], list: &str, wanted: &str) -> Result<(), test::Fail> {
-    let mut heap = PlainHeap::new(rt.alloc(), 1)?;
+fn is_kerned(
+    rt: &impl Abort,
+    alloc: Global,
+    fonts: &[Font],
+    list: &str,
+    wanted: &str,
+) -> Result<(), test::Fail> {
+    let mut heap = PlainHeap::new(alloc, 1)?;
     make_list(&mut heap, list.as_bytes())?;
-    let head = kern(rt.alloc(), &mut heap, fonts, 1)?;
+    let head = kern(alloc, &mut heap, fonts, 1)?;
     assert_eq!(rt; head, 1);
-    let text = written(rt.alloc(), &heap, head)?;
+    let text = written(alloc, &heap, head)?;
     assert!(rt; text.as_slice() == wanted.as_bytes(), "{list}");
     Ok(())
 }
@@ -88,7 +96,7 @@ fn lists_are_kerned(rt: HostRuntime) -> Result<(), test::Fail> {
         font_with(rt.alloc(), &SECOND)?,
     ];
     for (list, wanted) in &rows {
-        is_kerned(&rt, &fonts, *list, *wanted)?;
+        is_kerned(&rt, rt.alloc(), &fonts, *list, *wanted)?;
     }
     Ok(())
 }
