@@ -1,0 +1,13 @@
+-- a pass through several states
+pub mod Trace
+-- nodes made in the middle of a pass
+pub mod Making
+-- glyphs and their pairs
+pub mod Glyphs
+-- the nodes of a list
+pub mod Along
+-- kerns
+pub mod Kerns
+pub mod Kerning
+-- what private calls say among themselves
+pub mod inner
