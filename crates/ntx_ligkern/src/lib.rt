@@ -1,4 +1,4 @@
-//! Ligatures and kerns of TeX's node lists ("TeX: The Program", sections 545 and 1029 to 1040; LuaTeX Reference Manual,
+//! Kerns of TeX's node lists ("TeX: The Program", sections 545 and 1029 to 1040; LuaTeX Reference Manual,
 //! chapter "Languages, characters, fonts and glyphs").
 //!
 //! [`kern`] puts the kerns of their fonts between the glyphs of a list, and into and around its discretionaries. It is

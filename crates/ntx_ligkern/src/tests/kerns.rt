@@ -58,13 +58,13 @@ fn lists_are_kerned(rt: HostRuntime) -> Result<(), test::Fail> {
         // The three lists of a discretionary, each by itself.
         ("[ab|ba|bb]", "[a1b|b2a|b3b]"),
         ("[aba||]", "[a1b2a||]"),
-        // A kern before: at the front of pre, and of replace.
+        // A kern before: at the beginning of pre, and of replace.
         ("a[b||b]", "a[1b||1b]"),
         ("a[b||c]", "a[1b||4c]"),
         ("a[c|b|a]", "a[4c|b|a]"),
         ("a[||b]", "a[||1b]"),
         ("a[.||b]", "a[.||1b]"),
-        // A kern behind: at the end of post, and of replace.
+        // A kern after: at the end of post, and of replace.
         ("[|a|a]b", "[|a1|a1]b"),
         ("[|b|a]b", "[|b3|a1]b"),
         ("[|a|]b", "[|a1|]b"),

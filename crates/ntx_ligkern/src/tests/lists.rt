@@ -110,7 +110,7 @@ pub(crate) fn make_list(heap: &mut PlainHeap, text: &[u8]) -> Result<(), Fail<Tr
     Ok(())
 }
 
-/// Writes a node without lists: a ligature has `'` behind it, a font's kern of 10 times a digit is that digit, and what no
+/// Writes a node without lists: a ligature has `'` after it, a font's kern of 10 times a digit is that digit, and what no
 /// pass makes is `?`.
 fn write_node(out: &mut Vec<u8>, fields: Fields) -> Result<(), Fail<Trouble>> {
     match fields.contents {
