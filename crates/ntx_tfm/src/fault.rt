@@ -25,7 +25,7 @@ pub enum FontFault {
     /// A program of ligatures and kerns begins or leads outside the steps, or a step has no kern, no operation or no
     /// character.
     LigProgram,
-    /// The file is larger than its reader takes: for callers that read files. No call gives it yet.
+    /// The file is larger than the program reads: 2^18 bytes.
     TooLarge,
 }
 
