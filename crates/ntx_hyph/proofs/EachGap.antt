@@ -8,7 +8,7 @@ use Rattle.std.proofs.lemmas.Bool.Decides.{nat_tests}
 use Rattle.ntx_nodes.specs.Heap.{Heap}
 use Rattle.ntx_nodes.specs.declared.node.Node.{Node}
 use Rattle.ntx_nodes.specs.declared.trouble.Trouble.{Trouble}
-use Rattle.ntx_hyph.specs.Trace.{Trace, each_in_turn}
+use Rattle.ntx_num.specs.Trace.{Trace, each_in_turn}
 use Rattle.ntx_hyph.specs.Hyphenation.{hyphen_fields, hyphenated}
 use Rattle.ntx_hyph.specs.Laws.{whole_disc_fields, worn_like, followed_by, record_at, AreMade}
 use Rattle.ntx_hyph.specs.declared.letter.Gap.{Gap}

@@ -7,11 +7,11 @@ use Rattle.ntx_nodes.specs.Heap.{Heap}
 use Rattle.ntx_nodes.specs.declared.field.Field.TheVariants.{Next, Pre}
 use Rattle.ntx_nodes.specs.declared.trouble.Trouble.{Trouble}
 use Rattle.ntx_nodes.proofs.Writes.{taken_off}
-use Rattle.ntx_hyph.specs.Trace.{Trace, stays, trace_and_then, each_in_turn}
+use Rattle.ntx_num.specs.Trace.{Trace, stays, trace_and_then, each_in_turn, EndsAs}
 use Rattle.ntx_hyph.specs.Hyphenation.{disc_fields, hyphen_fields, made_and_linked, hyphenated}
-use Rattle.ntx_hyph.specs.inner.Ends.{EndsAs, StayLive, IsSound}
+use Rattle.ntx_hyph.specs.inner.Ends.{StayLive, IsSound}
 use Rattle.ntx_hyph.specs.declared.letter.Gap.{Gap}
-use Rattle.ntx_hyph.proofs.Traces.{Begins, begins_stays, begins_then, ends_later, ends_there, Goes, goes_on, goes_ended, goes_stopped}
+use Rattle.ntx_num.proofs.Traces.{Begins, begins_stays, begins_then, ends_later, ends_there, Goes, goes_on, goes_ended, goes_stopped}
 use Rattle.ntx_hyph.proofs.Making.{begins_linked}
 
 abbrev with_hyphen : ℕ → Gap → ℕ → Heap → Trace Heap (Unit {0}) Trouble

@@ -8,6 +8,5 @@ pub mod Hyphens
 pub mod Making
 pub mod OneGap
 pub mod SoundGaps
-pub mod Traces
 pub mod WholeLists
 pub mod Words

@@ -19,7 +19,7 @@ use Rattle.ntx_nodes.specs.declared.fields.Fields.{Fields}
 use Rattle.ntx_nodes.specs.declared.node.Node.{Node}
 use Rattle.ntx_nodes.specs.declared.trouble.Trouble.{Trouble}
 use Rattle.ntx_nodes.proofs.Writes.{get-put, insert_again, set_live}
-use Rattle.ntx_hyph.specs.Trace.{Trace, stays, stepped, on_ending, trace_and_then}
+use Rattle.ntx_num.specs.Trace.{Trace, stays, stepped, on_ending, trace_and_then}
 use Rattle.ntx_hyph.specs.Hyphenation.{disc_fields, hyphen_fields, made_like, made_and_linked, hyphenated}
 use Rattle.ntx_hyph.specs.Laws.{whole_disc_fields, worn_like, followed_by}
 use Rattle.ntx_hyph.specs.declared.letter.Gap.{Gap}

@@ -12,7 +12,7 @@ use Rattle.ntx_nodes.specs.declared.node.Node.{Node}
 use Rattle.ntx_nodes.proofs.Fuel.{last_reached}
 use Rattle.ntx_nodes.proofs.Walks.{is_reached-append}
 use Rattle.ntx_item.specs.Settings.{Settings}
-use Rattle.ntx_hyph.specs.Trace.{each_in_turn}
+use Rattle.ntx_num.specs.Trace.{each_in_turn}
 use Rattle.ntx_hyph.specs.Hyphenation.{Points, points_with, list_names, hyphen_char, hyphens, hyphenated, hyphenated_list, hyphenation}
 use Rattle.ntx_hyph.specs.Laws.{Ascend, gaps_of, with_discs, IsHyphenated}
 use Rattle.ntx_hyph.specs.declared.letter.Gap.{Gap}

@@ -21,7 +21,7 @@ use Rattle.ntx_nodes.specs.declared.kind.ListKind.TheVariants.{H}
 use Rattle.ntx_nodes.specs.declared.trouble.Trouble.{Trouble}
 use Rattle.ntx_nodes.specs.declared.trouble.Trouble.TheVariants.{NodesFull, NamesOut}
 use Rattle.ntx_item.specs.Settings.{Settings}
-use Rattle.ntx_hyph.specs.Trace.{Trace, stays, stepped, trace_and_then, each_in_turn}
+use Rattle.ntx_num.specs.Trace.{Trace, stays, stepped, trace_and_then, each_in_turn}
 use Rattle.ntx_hyph.specs.Words.{letter_at, gaps_in}
 use Rattle.ntx_hyph.specs.declared.letter.Gap.{Gap}
 

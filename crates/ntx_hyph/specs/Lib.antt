@@ -1,5 +1,3 @@
--- a pass through several states
-pub mod Trace
 -- words and their gaps
 pub mod Words
 -- the pass over a list

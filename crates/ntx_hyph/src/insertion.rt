@@ -3,9 +3,9 @@
 ghost use Rattle.std.specs.Prelude.{◌≡◌, ℕ, true, All, OnOk, IfOk};
 ghost use Rattle.ntx_nodes.specs.Heap.{is_live};
 ghost use Rattle.ntx_nodes.specs.Writing.{AreMakable};
-ghost use Rattle.ntx_hyph.specs.Trace.{each_in_turn};
+ghost use Rattle.ntx_num.specs.Trace.{each_in_turn, EndsAs};
 ghost use Rattle.ntx_hyph.specs.Hyphenation.{disc_fields, hyphen_fields, made_and_linked, hyphenated};
-ghost use Rattle.ntx_hyph.specs.inner.Ends.{EndsAs, RefusesMakings, StayLive, HasLink, HasFields, IsSound};
+ghost use Rattle.ntx_hyph.specs.inner.Ends.{RefusesMakings, StayLive, HasLink, HasFields, IsSound};
 
 use crate::letter::Gap;
 use ntx_nodes::{

@@ -14,10 +14,10 @@ use Rattle.ntx_nodes.specs.declared.trouble.Trouble.{Trouble}
 use Rattle.ntx_nodes.proofs.Ranges.{makable_fields}
 use Rattle.ntx_nodes.proofs.Writes.{taken_off}
 use Rattle.ntx_tfm.specs.Font.{FontTables}
-use Rattle.ntx_ligkern.specs.Trace.{Trace, stays, trace_and_then, each_in_turn}
+use Rattle.ntx_num.specs.Trace.{Trace, stays, trace_and_then, each_in_turn, EndsAs}
 use Rattle.ntx_ligkern.specs.Making.{made_and_linked, RefusesAs}
-use Rattle.ntx_ligkern.specs.inner.Ends.{EndsAs, RefusesMakings}
-use Rattle.ntx_ligkern.proofs.Traces.{Begins, begins_stays, begins_then, begins_each, passes_first, ends_later, ends_there, Goes, goes_on, goes_ended, goes_stopped}
+use Rattle.ntx_ligkern.specs.inner.Ends.{RefusesMakings}
+use Rattle.ntx_num.proofs.Traces.{Begins, begins_stays, begins_then, begins_each, passes_first, ends_later, ends_there, Goes, goes_on, goes_ended, goes_stopped}
 use Rattle.ntx_ligkern.proofs.Making.{begins_linked}
 use Rattle.ntx_ligkern.specs.Along.{along}
 use Rattle.ntx_ligkern.specs.Kerns.{kerns_of}

@@ -1,4 +1,3 @@
-pub mod Traces
 pub mod Links
 pub mod Making
 pub mod Sounding

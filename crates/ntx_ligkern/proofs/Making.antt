@@ -20,12 +20,12 @@ use Rattle.ntx_nodes.specs.declared.node.Node.{Node}
 use Rattle.ntx_nodes.specs.declared.trouble.Trouble.{Trouble}
 use Rattle.ntx_nodes.proofs.Fills.{made, refused_too}
 use Rattle.ntx_nodes.proofs.Writes.{put_same, insert_again, live_put, set_live}
-use Rattle.ntx_ligkern.specs.Trace.{stepped}
+use Rattle.ntx_num.specs.Trace.{stepped, EndsAs}
 use Rattle.ntx_ligkern.specs.Making.{made_like, made_and_linked}
-use Rattle.ntx_ligkern.specs.inner.Ends.{EndsAs, HasFields}
+use Rattle.ntx_ligkern.specs.inner.Ends.{HasFields}
 use Rattle.ntx_ligkern.specs.inner.Sound.{TakesLink, KeepLinks}
 use Rattle.ntx_ligkern.proofs.Links.{taken, put_keeps}
-use Rattle.ntx_ligkern.proofs.Traces.{Begins, begins_step, begins_then, passes_first, ends_later, ends_there, ends_stepped, ends_refused}
+use Rattle.ntx_num.proofs.Traces.{Begins, begins_step, begins_then, passes_first, ends_later, ends_there, ends_stepped, ends_refused}
 
 -- ---- live nodes
 pub record Live (heap : Heap) (n : ℕ) : Type 0 where

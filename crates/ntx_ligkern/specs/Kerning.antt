@@ -9,7 +9,7 @@ use Rattle.ntx_nodes.specs.declared.fields.Fields.{Fields}
 use Rattle.ntx_nodes.specs.declared.kind.ListKind.TheVariants.{H}
 use Rattle.ntx_nodes.specs.declared.trouble.Trouble.{Trouble}
 use Rattle.ntx_tfm.specs.Font.{FontTables}
-use Rattle.ntx_ligkern.specs.Trace.{Trace, stays, trace_and_then, each_in_turn}
+use Rattle.ntx_num.specs.Trace.{Trace, stays, trace_and_then, each_in_turn}
 use Rattle.ntx_ligkern.specs.Making.{made_and_linked}
 use Rattle.ntx_ligkern.specs.Along.{along}
 use Rattle.ntx_ligkern.specs.Kerns.{kerns_of}

@@ -1,5 +1,3 @@
--- a pass through several states
-pub mod Trace
 -- nodes made in the middle of a pass
 pub mod Making
 -- glyphs and their pairs

@@ -16,7 +16,7 @@ use Rattle.ntx_nodes.specs.declared.fields.Fields.{Fields}
 use Rattle.ntx_nodes.specs.declared.kind.ListKind.TheVariants.{H}
 use Rattle.ntx_nodes.specs.declared.trouble.Trouble.{Trouble}
 use Rattle.ntx_nodes.specs.declared.trouble.Trouble.TheVariants.{NodesFull, NamesOut}
-use Rattle.ntx_ligkern.specs.Trace.{Trace, stepped, trace_and_then}
+use Rattle.ntx_num.specs.Trace.{Trace, stepped, trace_and_then}
 
 -- a node is made with these fields, and then takes the attributes of another
 abbrev pub made_like : Fields → ℕ → Heap → Trace Heap ℕ Trouble

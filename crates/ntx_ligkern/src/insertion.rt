@@ -3,9 +3,9 @@
 ghost use Rattle.std.specs.Prelude.{◌≡◌, true, All, OnOk, IfOk};
 ghost use Rattle.ntx_nodes.specs.Heap.{is_live};
 ghost use Rattle.ntx_nodes.specs.Writing.{AreMakable};
-ghost use Rattle.ntx_ligkern.specs.Trace.{each_in_turn};
+ghost use Rattle.ntx_num.specs.Trace.{each_in_turn, EndsAs};
 ghost use Rattle.ntx_ligkern.specs.Making.{made_and_linked};
-ghost use Rattle.ntx_ligkern.specs.inner.Ends.{EndsAs, RefusesMakings, HasFields};
+ghost use Rattle.ntx_ligkern.specs.inner.Ends.{RefusesMakings, HasFields};
 ghost use Rattle.ntx_ligkern.specs.Kerning.{kern_fields, kern_made};
 ghost use Rattle.ntx_ligkern.specs.inner.Sound.{TakesLink, KeepLinks, IsWide, IsPlaced};
 

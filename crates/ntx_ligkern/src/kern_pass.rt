@@ -2,9 +2,8 @@
 
 ghost use Rattle.std.specs.Prelude.{◌≡◌};
 ghost use Rattle.ntx_num.specs.Answer.{Traces};
-ghost use Rattle.ntx_ligkern.specs.Trace.{states};
+ghost use Rattle.ntx_num.specs.Trace.{states, EndsAs};
 ghost use Rattle.ntx_ligkern.specs.Making.{RefusesAs};
-ghost use Rattle.ntx_ligkern.specs.inner.Ends.{EndsAs};
 ghost use Rattle.ntx_ligkern.specs.Kerning.{kerned_list};
 
 use crate::finding::kerns_of;

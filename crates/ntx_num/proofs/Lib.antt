@@ -1,3 +1,4 @@
 pub mod Answers
 pub mod BadnessLemmas
 pub mod RatioLemmas
+pub mod Traces

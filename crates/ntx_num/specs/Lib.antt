@@ -3,3 +3,4 @@ pub mod Badness
 pub mod Demerits
 pub mod Dimension
 pub mod Ratio
+pub mod Trace

@@ -1,5 +1,5 @@
--- What private calls say of the trace that they go through, and of the nodes that they make.
-use Rattle.std.specs.Prelude.{◌≡◌, ◌≤◌, ℕ, true, List, ◌∷◌, ◌++◌, Some, Result, Ok, Err}
+-- What private calls say of the refusals that they give, and of the nodes that they make.
+use Rattle.std.specs.Prelude.{◌≡◌, ◌≤◌, ℕ, true, Some, Result, Ok, Err}
 use Rattle.std.specs.FinMap as fin
 use Rattle.ntx_num.specs.declared.answer.Fail.{Fail}
 use Rattle.ntx_num.specs.declared.answer.Fail.TheVariants.{NoMemory, Is}
@@ -10,19 +10,8 @@ use Rattle.ntx_nodes.specs.declared.field.FieldValue.TheVariants.{Link}
 use Rattle.ntx_nodes.specs.declared.fields.Fields.{Fields}
 use Rattle.ntx_nodes.specs.declared.node.Node.{Node}
 use Rattle.ntx_nodes.specs.declared.trouble.Trouble.{Trouble}
-use Rattle.ntx_hyph.specs.Trace.{Trace, states}
 use Rattle.ntx_hyph.specs.Hyphenation.{IsOfMaking}
 use Rattle.ntx_hyph.specs.declared.letter.Gap.{Gap}
-
--- a state is one of a trace
-abbrev pub Passes : {S A E : Type 0} → Trace S A E → S → Type 0
-Passes {S} t s = (before : List S) × (more : List S) × (states t ≡ before ++ s ∷ more)
-
--- The call goes through the trace and ends with its ending and its last state. Where memory ran out it stopped in one of its states.
-abbrev pub EndsAs : {S A E : Type 0} → Result A (Fail E) → S → Trace S A E → Type 0
-EndsAs (Ok a) new t = (t.ending ≡ Ok a) × (t.last ≡ new)
-EndsAs (Err (Is e)) new t = (t.ending ≡ Err e) × (t.last ≡ new)
-EndsAs (Err NoMemory) new t = Passes t new
 
 -- a refusal is that of a making
 abbrev pub RefusesMakings : {A : Type 0} → Result A (Fail Trouble) → Type 0

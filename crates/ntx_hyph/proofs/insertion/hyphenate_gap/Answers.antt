@@ -3,7 +3,7 @@ use Rattle.std.proofs.lemmas.Result.{err_from_is_err_and}
 use Rattle.ntx_nodes.specs.declared.field.Field.TheVariants.{Next, Pre}
 use Rattle.ntx_nodes.specs.declared.fields.Fields.{Fields}
 use Rattle.ntx_hyph.specs.Hyphenation.{made_and_linked}
-use Rattle.ntx_hyph.specs.inner.Ends.{EndsAs}
+use Rattle.ntx_num.specs.Trace.{EndsAs}
 use Rattle.ntx_hyph.proofs.Making.{next_taken, pre_taken}
 use Rattle.ntx_hyph.proofs.Hyphens.{disc_stops, hyphen_stops}
 use Rattle.ntx_hyph.proofs.insertion.hyphenate_gap.Goals as goal

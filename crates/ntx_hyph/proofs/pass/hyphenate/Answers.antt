@@ -2,9 +2,9 @@ use Rattle.std.proofs.Common.{subst}
 use Rattle.ntx_num.specs.Answer.{Traces}
 use Rattle.ntx_patterns.specs.Kept.{table}
 use Rattle.ntx_patterns.specs.Points.{points_in}
-use Rattle.ntx_hyph.specs.Trace.{states}
+use Rattle.ntx_num.specs.Trace.{states}
 use Rattle.ntx_hyph.specs.Hyphenation.{Points, hyphenation}
-use Rattle.ntx_hyph.proofs.Traces.{traces}
+use Rattle.ntx_num.proofs.Traces.{traces}
 use Rattle.ntx_hyph.proofs.Endings.{points_same}
 use Rattle.ntx_hyph.proofs.pass.hyphenate.Goals as goal
 

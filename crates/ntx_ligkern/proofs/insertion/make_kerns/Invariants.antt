@@ -2,7 +2,7 @@ use Rattle.std.proofs.Common.{drop}
 use Rattle.std.specs.Prelude.{All}
 use Rattle.ntx_ligkern.specs.Kerning.{kern_made}
 use Rattle.ntx_ligkern.specs.inner.Sound.{IsPlaced}
-use Rattle.ntx_ligkern.proofs.Traces.{Goes}
+use Rattle.ntx_num.proofs.Traces.{Goes}
 use Rattle.ntx_ligkern.proofs.insertion.make_kerns.Given as goal
 
 abbrev pub invariant-loop-k : goal.invariant-loop-k

@@ -1,5 +1,5 @@
 use Rattle.ntx_ligkern.specs.Kerning.{kerned_list}
-use Rattle.ntx_ligkern.proofs.Traces.{traces}
+use Rattle.ntx_num.proofs.Traces.{traces}
 use Rattle.ntx_ligkern.proofs.kern_pass.kern.Goals as goal
 
 pub returns-clause-traced : goal.returns-clause-traced

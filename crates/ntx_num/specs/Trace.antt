@@ -4,7 +4,11 @@
 --     stays, stepped      no step at all; one step of a stated machine
 --     trace_and_then      one pass, and then another that goes on from its value and its last state
 --     each_in_turn        the same pass at each of some items, one after another
-use Rattle.std.specs.Prelude.{List, [], ◌∷◌, ◌++◌, Result, Ok, Err}
+--     Passes              a state is one of these
+--     EndsAs              how a call ends that goes through these states
+use Rattle.std.specs.Prelude.{◌≡◌, List, [], ◌∷◌, ◌++◌, Result, Ok, Err}
+use Rattle.ntx_num.specs.declared.answer.Fail.{Fail}
+use Rattle.ntx_num.specs.declared.answer.Fail.TheVariants.{NoMemory, Is}
 
 pub record Trace (S A E : Type 0) : Type 0 where
   pub earlier : List S
@@ -36,3 +40,13 @@ trace_and_then t next = on_ending t.earlier t.last t.ending next
 abbrev pub each_in_turn : {S X E : Type 0} → (X → S → Trace S (Unit {0}) E) → List X → S → Trace S (Unit {0}) E
 each_in_turn pass [] s = stays s (Ok tt)
 each_in_turn pass (x ∷ xs) s = trace_and_then (pass x s) (λ _ t. each_in_turn pass xs t)
+
+-- a state is one of a trace
+abbrev pub Passes : {S A E : Type 0} → Trace S A E → S → Type 0
+Passes {S} t s = (before : List S) × (more : List S) × (states t ≡ before ++ s ∷ more)
+
+-- The call goes through the trace and ends with its ending and its last state. If memory ran out it stopped in one of its states.
+abbrev pub EndsAs : {S A E : Type 0} → Result A (Fail E) → S → Trace S A E → Type 0
+EndsAs (Ok a) new t = (t.ending ≡ Ok a) × (t.last ≡ new)
+EndsAs (Err (Is e)) new t = (t.ending ≡ Err e) × (t.last ≡ new)
+EndsAs (Err NoMemory) new t = Passes t new

@@ -4,8 +4,7 @@ use Rattle.std.specs.Prelude.{Result, Contains}
 use Rattle.ntx_num.specs.Answer.{Traces}
 use Rattle.ntx_num.specs.declared.answer.Fail.{Fail}
 use Rattle.ntx_num.specs.declared.answer.Fail.TheVariants.{NoMemory, Is}
-use Rattle.ntx_hyph.specs.Trace.{Trace, states, stays, stepped, after, on_ending, trace_and_then, each_in_turn}
-use Rattle.ntx_hyph.specs.inner.Ends.{Passes, EndsAs}
+use Rattle.ntx_num.specs.Trace.{Trace, states, stays, stepped, after, on_ending, trace_and_then, each_in_turn, Passes, EndsAs}
 
 -- ---- the first state
 pub record Begins {S A E : Type 0} (t : Trace S A E) (s : S) : Type 0 where
