@@ -201,7 +201,7 @@ impl Dvi {
     }
 
     /// Sets the character of this code in this font, with its reference point at the place on the page, which then moves right by the
-    /// character's width. `font` is at most 63, and stands for one definition throughout the file. It comes in a page.
+    /// character's width. `font` is at most 63, and represents one definition throughout the file. It comes in a page.
     ///
     /// At the font's first use in the file its definition comes before the character, and then the font is chosen if it is not the page's
     /// current font. Each is an operation by itself: one that finds no room leaves those before it, and the next call goes on from them.

@@ -1,4 +1,4 @@
-//! The functions that give a text: from the bytes that they stand for to the text with these bytes.
+//! The functions that give a text: from the bytes that they represent to the text with these bytes.
 
 ghost use Rattle.std.specs.Prelude.{◌≡◌, List, ℕ, Ok, IfOk, Result};
 ghost use Rattle.ntx_num.specs.Answer.{result_map};

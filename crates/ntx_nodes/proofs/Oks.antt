@@ -1,4 +1,4 @@
--- What stands behind an Ok that a node gave, and numbers and links that fields take.
+-- What stands after an Ok that a node gave, and numbers and links that fields take.
 use Rattle.std.proofs.Common.{◌≡◌, ℕ, ℤ, pos, negsuc, ◌≤◌, Bool, true, false, cond, ◌&&◌, Some, None, Ok, Err, refl, subst, arith}
 use Rattle.std.specs.Prelude.{Option, Result, neg_ℤ, ◌≤ℤ◌, int_le, nat_le}
 use Rattle.std.specs.FinMap as map

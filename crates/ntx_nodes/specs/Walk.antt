@@ -45,7 +45,7 @@ inner_lists _ = no_lists
 abbrev pub max_depth : ℕ
 max_depth = 100
 
--- whether a list lies too deep for a walk: one along a list alone enters none, and does not look at the depth
+-- whether a list is too deep for a walk: one along a list alone enters none, and does not look at the depth
 abbrev pub is_too_deep : Way → ℕ → Bool
 is_too_deep Flat depth = false
 is_too_deep _ depth = nat_lt max_depth depth

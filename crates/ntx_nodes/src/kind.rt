@@ -164,7 +164,7 @@ impl Way {
         }
     }
 
-    /// Whether a list at a depth lies too deep for such a walk.
+    /// Whether a list at a depth is too deep for such a walk.
     pub fn is_too_deep(self, depth: u64) -> bool
         ensures { result ≡ is_too_deep self depth }
     {

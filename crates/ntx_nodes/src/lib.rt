@@ -2,7 +2,7 @@
 //! through their lists (LuaTeX Reference Manual, chapter "Nodes").
 //!
 //! [`Nodes`] is a heap, whichever way it is kept; [`PlainHeap`] keeps each node as a record of its own. Each call on a
-//! heap is one step of a machine over the value that the heap stands for, which `specs/Steps.antt` states.
+//! heap is one step of a machine over the value that the heap represents, which `specs/Steps.antt` states.
 //!
 //! It stands on `ntx_num` alone.
 #![tactic(auto)]

@@ -18,7 +18,7 @@ use ntx_num::{Fail, NoMemory};
 ///
 /// A name is below 2^48 and is given once. A call that refuses, and one for which memory runs out, leaves the heap as it was.
 pub trait Nodes: Drop {
-    /// The heap that it stands for.
+    /// The heap that it represents.
     ghost heap: { Self → Heap };
 
     /// The names visited since the walk began.

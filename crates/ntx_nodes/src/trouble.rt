@@ -21,22 +21,21 @@ pub enum Trouble {
     NamesOut,
     /// There would be a 65th attribute.
     AttrFull,
-    /// A size is beyond TeX's largest dimension, 2^30-1 scaled points, in absolute value. For a position on the page, which
-    /// is of parts that are not built yet, no call gives it.
+    /// A size, or a position on a page, is beyond TeX's largest dimension, 2^30-1 scaled points, in absolute value.
     Dimension,
-    /// The 256th ligature step without a move. It is of parts that are not built yet: no call gives it.
+    /// The 256th ligature step without a move.
     LigLoop,
     /// This glyph names a font or a character that is not there.
     NoChar(u64),
-    /// The paragraph's lines have no hlist at their top level. It is of parts that are not built yet: no call gives it.
+    /// The paragraph's lines have no hlist at their top level.
     NoBox,
-    /// A ninth job would run inside the others. It is of parts that are not built yet: no call gives it.
+    /// A ninth job would run inside the others.
     Deep,
     /// A list that is not empty lies at depth 101 inside others.
     Nest,
 }
 
-/// What was being done when trouble came. It is for parts that are not built yet: no call gives it.
+/// What was being done when trouble came.
 #[derive(Clone, Copy, Debug, PartialEq, Eq)]
 pub enum Phase {
     /// Words were hyphenated.

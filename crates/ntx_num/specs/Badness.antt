@@ -2,7 +2,7 @@
 -- is the shortfall and s the glue that can make up for it, both in scaled points.
 use Rattle.std.specs.Prelude.{ℕ, zero, suc, ◌+◌, ◌*◌, ◌/◌, ◌≤◌, ℤ, pos, negsuc, nat_le, if◌then◌else◌}
 
--- The ratio 297 t/s, near enough: the cube of 297 is about 100 times 2 ^ 18. A large t is divided by s/297, or stands for a ratio that is too
+-- The ratio 297 t/s, near enough: the cube of 297 is about 100 times 2 ^ 18. A large t is divided by s/297, or represents a ratio that is too
 -- large where s is small.
 abbrev pub scaled_ratio : ℕ → ℕ → ℕ
 scaled_ratio t s = if nat_le t 7230584 then t * 297 / s else if nat_le 1663497 s then t / (s / 297) else t

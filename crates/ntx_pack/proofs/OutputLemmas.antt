@@ -17,7 +17,7 @@ use Rattle.ntx_item.proofs.SumLemmas.{signed_sum-cons}
 use Rattle.ntx_pack.proofs.TotalLemmas.{absolute_amount, amount_le, front_in_range}
 
 -- ---- running totals stay in range
--- the change that a sign stands for, as far as bounds go
+-- the change that a sign represents, as far as bounds go
 abbrev bound_of : Bool → GlueChange
 bound_of true = Stretch
 bound_of false = Shrink

@@ -63,7 +63,7 @@ SetSizesAddUp = (size : Item → ℤ) (items : List Item) (x : ℤ) → (glue_se
     sum_of (set_sizes size (glue_set items x) (pos 0) items) ≡ signed_sum size items +ℤ x
 
 -- The same of a box: the widths of an hlist's items are its width, and the heights and depths of a vlist's are its height and depth. A box whose
--- glue is set is overfull just where its badness is 1000000.
+-- glue is set is overfull exactly if its badness is 1000000.
 pub record BoxesAreFilled : Type 0 where
   pub widths : (to : PackTo) (items : List Item) (box : Packed) → packed Horizontal to items ≡ Ok box → box.glue.sign ≢ 0 → box.badness ≢ pos 1000000
       → unsigned_abs (box.size.w -ℤ (hlist_size items).w) ≤ 1000000000 → sum_of (set_widths box.glue items) ≡ box.size.w

@@ -19,7 +19,7 @@ move glue item =
     else if nat_eq glue.sign 2 then neg_ℤ (amount_in Shrink glue.order item)
     else pos 0
 
--- the running total behind these items
+-- the running total after these items
 abbrev pub running : GlueSet → List Item → ℤ
 running glue items = signed_sum (move glue) items
 

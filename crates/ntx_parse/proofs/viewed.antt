@@ -1,4 +1,4 @@
--- Proofs that readings of words that differ behind some word agree up to there.
+-- Proofs that readings of words that differ after some word agree up to there.
 pub mod Blocks
 pub mod DeepNames
 pub mod Deeper

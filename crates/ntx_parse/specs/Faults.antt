@@ -1,5 +1,5 @@
--- Where a script is refused, and why: at the first word that cannot follow those before it, lies too deep, or is a `break` outside of any loop of
--- its function. Words can stand at the front of a script if some words after them make it a script; how deep they lie does not matter for that, nor
+-- Where a script is refused, and why: at the first word that cannot follow those before it, is too deep, or is a `break` outside of any loop of
+-- its function. Words can stand at the beginning of a script if some words after them make it a script; how deep they lie does not matter for that, nor
 -- whether a `break` is in a loop.
 --     IsRefusedAt why words behind   a script of these words is refused for this reason at the first of the words behind, or at the end if there are none
 --     IsRefused bytes words fault    the same with the line
@@ -17,11 +17,11 @@ use Rattle.ntx_syntax.specs.declared.terminal.Terminal.TheVariants as terminal
 use Rattle.ntx_parse.specs.Words.{Word}
 use Rattle.ntx_parse.specs.Grammar.{Placed, IsChunk, IsAllowed, max_nesting}
 
--- The words, each at its place, can stand at the front of a script.
+-- The words, each at its place, can stand at the beginning of a script.
 abbrev pub CanBegin : List Placed → Type 0
 CanBegin front = (others : List Placed) × (chunk : Chunk) × IsChunk chunk (front ++ others)
 
--- Words at places at which they can stand at the front of a script, none of them too deep, and each `break` in a loop of its
+-- Words at places at which they can stand at the beginning of a script, none of them too deep, and each `break` in a loop of its
 -- function.
 pub record Stand (words : List Word) : Type 0 where
   pub placed : List Placed
@@ -29,7 +29,7 @@ pub record Stand (words : List Word) : Type 0 where
   pub can_begin : CanBegin placed
   pub allowed : AllByRecursion IsAllowed placed
 
--- No places let the words stand at the front of a script.
+-- No places let the words stand at the beginning of a script.
 abbrev pub CannotStand : List Word → Type 0
 CannotStand words = (placed : List Placed) → map (λ o. o.word) placed ≡ words → CanBegin placed → ⊥
 
@@ -40,8 +40,8 @@ IsNoScript words = (placed : List Placed) (chunk : Chunk) → map (λ o. o.word)
 abbrev pub at_place : Word → Place → Placed
 at_place o p = record { word = o; place = p }
 
--- What is wrong with the first of the words behind those that stand, which have these places: it cannot follow them, or the script cannot end
--- there; it lies too deep; it is a `break` outside of any loop of its function, and does not
+-- What is wrong with the first of the words after those that stand, which have these places: it cannot follow them, or the script cannot end
+-- there; it is too deep; it is a `break` outside of any loop of its function, and does not
 -- lie too deep.
 abbrev pub IsWrong : SyntaxWhy → List Word → List Placed → List Word → Type 0
 IsWrong Expected front placed [] = IsNoScript front
@@ -51,7 +51,7 @@ IsWrong Break front placed (o ∷ behind) =
     (p : Place) × CanBegin (placed ++ at_place o p ∷ []) × (p.nesting ≤ max_nesting) × (o.is ≡ terminal.Break) × (p.in_loop ≡ false)
 IsWrong _ front placed behind = ⊥
 
--- A script of these words is refused for this reason at the first of the words behind, or at its end if there are none.
+-- A script of these words is refused for this reason at the first of the words after, or at its end if there are none.
 pub record IsRefusedAt (why : SyntaxWhy) (words behind : List Word) : Type 0 where
   pub front : List Word
   pub words_are : words ≡ front ++ behind

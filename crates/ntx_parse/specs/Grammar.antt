@@ -1,7 +1,7 @@
 -- The grammar of scripts: which words spell which tree (Lua 5.3 Reference Manual, sections 3.3, 3.4 and 9).
 -- Most rules read `IsPhrase place tree words rest`: the words begin with a phrase that has this tree, and the rest comes after it. The place is that of
 -- the words which the rule itself names; where a rule puts some of them deeper, it says `within`. The comment before each rule is the grammar that it
--- stands for: `{a}` is any number of a, and `[a]` is a or nothing. Unlike Lua's, it has no `goto` and labels, no `...`, no methods, no calls of a text or
+-- represents: `{a}` is any number of a, and `[a]` is a or nothing. Unlike Lua's, it has no `goto` and labels, no `...`, no methods, no calls of a text or
 -- a table without parentheses, no `/` and no `^`.
 -- The nesting of a word is the number of blocks, bodies of functions, tables, parts in `( )` or `[ ]` with their brackets, operands of unary operators and
 -- right operands of binary operators that hold it. The parameters of a body are one such part. The script's own block is not counted.

@@ -8,7 +8,7 @@ pub mod Input
 pub mod Cursor
 -- what a reading function ensures
 pub mod Reads
--- how deep the calls may lie in one another
+-- how deep the calls may be inside one another
 pub mod Room
 -- what the rules ask of the readers that they are given
 pub mod Nests

@@ -72,7 +72,7 @@ impl<
         }
     }
 
-    /// `function Name body`, behind `local`.
+    /// `function Name body`, after `local`.
     fn local_function_behind(
         &self,
         parser: &mut Parser<'_>,
@@ -89,7 +89,7 @@ impl<
         Ok(StatKind::LocalFunction(name, body))
     }
 
-    /// `namelist [= explist]`, behind `local`.
+    /// `namelist [= explist]`, after `local`.
     fn locals_behind(
         &self,
         parser: &mut Parser<'_>,
@@ -160,7 +160,7 @@ impl<
         }
     }
 
-    /// `{, var} = explist`, behind this variable.
+    /// `{, var} = explist`, after this variable.
     fn assignment_to(
         &self,
         parser: &mut Parser<'_>,
@@ -178,7 +178,7 @@ impl<
         Ok(StatKind::Assign(vars, values))
     }
 
-    /// `{, var}`, behind this variable, which is the first of the list.
+    /// `{, var}`, after this variable, which is the first of the list.
     fn vars_behind(
         &self,
         parser: &mut Parser<'_>,

@@ -86,7 +86,7 @@ impl<
         }))
     }
 
-    /// `[explist]`, behind `return`.
+    /// `[explist]`, after `return`.
     fn returned(
         &self,
         parser: &mut Parser<'_>,

@@ -64,7 +64,7 @@ impl<
     E: Fn(Global, &mut Parser<'_>, u64, Place, Precedence) -> Result<Exp, Fail<SyntaxFault>>,
     B: Fn(Global, &mut Parser<'_>, u64, Place) -> Result<Block, Fail<SyntaxFault>>,
 > Rules<E, B> {
-    /// `exp`, whose own operators bind as tight as this precedence or tighter: an operand, and behind it the operators of
+    /// `exp`, whose own operators bind as tight as this precedence or tighter: an operand, and after it the operators of
     /// each precedence, from the tightest.
     pub fn level(
         &self,
@@ -86,7 +86,7 @@ impl<
         Ok(exp)
     }
 
-    /// The operators of this precedence and their operands, behind this expression of tighter ones.
+    /// The operators of this precedence and their operands, after this expression of tighter ones.
     fn behind(
         &self,
         parser: &mut Parser<'_>,
@@ -138,7 +138,7 @@ impl<
         Ok(Exp::Unary(operator, operand))
     }
 
-    /// `[.. exp]`, behind this expression.
+    /// `[.. exp]`, after this expression.
     fn concat_behind(
         &self,
         parser: &mut Parser<'_>,
@@ -269,7 +269,7 @@ impl<
         self.exps_behind(parser, place, first)
     }
 
-    /// `{, exp}`, behind this expression, which is the first of the list.
+    /// `{, exp}`, after this expression, which is the first of the list.
     fn exps_behind(
         &self,
         parser: &mut Parser<'_>,

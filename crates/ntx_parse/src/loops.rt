@@ -79,7 +79,7 @@ impl<
         }
     }
 
-    /// `= exp , exp [, exp] do block end`, behind `for` and this name.
+    /// `= exp , exp [, exp] do block end`, after `for` and this name.
     fn numeric_for_behind(
         &self,
         parser: &mut Parser<'_>,
@@ -120,7 +120,7 @@ impl<
         Ok(Some(value))
     }
 
-    /// `{, Name} in explist do block end`, behind `for` and this name.
+    /// `{, Name} in explist do block end`, after `for` and this name.
     fn generic_for_behind(
         &self,
         parser: &mut Parser<'_>,

@@ -41,7 +41,7 @@ pub fn names(
     names_behind(alloc, parser, place, first)
 }
 
-/// `{, Name}`, behind this name, which is the first of the list.
+/// `{, Name}`, after this name, which is the first of the list.
 pub fn names_behind(
     alloc: Global,
     parser: &mut Parser<'_>,

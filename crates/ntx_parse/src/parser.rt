@@ -148,7 +148,7 @@ impl<'a> Parser<'a> {
         }
     }
 
-    /// Whether what comes next cannot begin an expression behind `return`, but ends it or its block.
+    /// Whether what comes next cannot begin an expression after `return`, but ends it or its block.
     pub fn ends_returned(&self) -> bool
         ensures { result ≡ reading.ends_returned self.now.words }
     {
@@ -178,7 +178,7 @@ impl<'a> Parser<'a> {
         })
     }
 
-    /// Takes the next word, which stands here. It is refused where there is none (Expected) or where it lies too deep
+    /// Takes the next word, which stands here. It is refused where there is none (Expected) or where it is too deep
     /// (Depth).
     pub fn take_word(&mut self, place: Place) -> Result<Word<'a>, Fail<SyntaxFault>>
         ensures reads { Reads (λ _. reading.take_word place self.old.words) self.old (result_map input.seen result) self.new }

@@ -48,7 +48,7 @@ pub fn extended(alloc: Global, before: Part, tail: Tail) -> Result<Part, AllocEr
     }
 }
 
-/// A prefix, and one more suffix behind it.
+/// A prefix, and one more suffix after it.
 fn with_suffix(alloc: Global, prefix: Prefix, suffix: Suffix) -> Result<Prefix, AllocError>
     ensures { IfOk result (λ p. p ≡ grammar.with_suffix prefix suffix) }
 {

@@ -6,7 +6,7 @@ ghost use Rattle.ntx_parse.specs.Grammar as grammar;
 /// Where a word of a script stands.
 #[derive(Clone, Copy, Debug, PartialEq, Eq)]
 pub struct Place {
-    /// How many counted parts of the script hold it: blocks, bodies of functions, tables, parts in brackets, operands behind
+    /// How many counted parts of the script hold it: blocks, bodies of functions, tables, parts in brackets, operands after
     /// operators. In a script that is accepted it is 200 at most for each word.
     pub nesting: u64,
     /// Whether it stands in a loop of its function.

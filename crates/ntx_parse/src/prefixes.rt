@@ -22,7 +22,7 @@ impl<
     E: Fn(Global, &mut Parser<'_>, u64, Place, Precedence) -> Result<Exp, Fail<SyntaxFault>>,
     B: Fn(Global, &mut Parser<'_>, u64, Place) -> Result<Block, Fail<SyntaxFault>>,
 > Rules<E, B> {
-    /// A name or a parenthesized expression, and all suffixes behind it.
+    /// A name or a parenthesized expression, and all suffixes after it.
     pub fn prefix(&self, parser: &mut Parser<'_>, place: Place) -> Result<Part, Fail<SyntaxFault>>
         requires nests { Nests self.now.depth (E.pre self.now.exp) (E.post self.now.exp) (B.pre self.now.block) (B.post self.now.block) }
         requires shallow { IsShallow place }
@@ -57,7 +57,7 @@ impl<
         Ok(exp)
     }
 
-    /// All suffixes behind this.
+    /// All suffixes after this.
     fn suffixes_behind(
         &self,
         parser: &mut Parser<'_>,

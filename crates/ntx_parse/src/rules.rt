@@ -20,7 +20,7 @@ use std::alloc::Global;
 pub struct Rules<E, B> {
     /// The memory for trees.
     pub alloc: Global,
-    /// How deep expressions and blocks may still lie in one another.
+    /// How deep expressions and blocks may still be inside one another.
     pub depth: u64,
     /// What reads an expression.
     pub exp: E,

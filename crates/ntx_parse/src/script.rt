@@ -25,7 +25,7 @@ use ntx_syntax::{
 };
 use std::alloc::Global;
 
-/// How deep expressions and blocks can lie in one another in a script whose words lie no deeper than they may.
+/// How deep expressions and blocks can be inside one another in a script whose words lie no deeper than they may.
 const MAX_DEPTH: u64 = 406;
 
 /// An expression that stands here, whose own operators bind as tight as this precedence or tighter.
@@ -71,7 +71,7 @@ fn block(
     .statements(parser, place)
 }
 
-/// The number of the last line, from 1: that behind the last LF.
+/// The number of the last line, from 1: that after the last LF.
 fn last_line(bytes: &[u8]) -> u64
     ensures { result ≡ 1 + line_ends bytes.now }
 {
@@ -101,7 +101,7 @@ fn whole(alloc: Global, words: &[Word<'_>], last_line: u64) -> Result<Block, Fai
 /// # Refusals
 ///
 /// A script is refused at its first wrong token, with the line of that token, or with the last line, the one after its last
-/// line feed, where it ends too early. Expected: the tokens before it can be the front of a script, and with it they cannot,
+/// line feed, where it ends too early. Expected: the tokens before it can be the prefix of a script, and with it they cannot,
 /// or the script cannot end there. Depth: it is no such token, and it lies in more than 200 blocks (the script's own not
 /// counted), bodies of functions, tables, parts in `( )` or `[ ]`, and operands of unary and right operands of binary
 /// operators. Break: it is neither of these, and it is a `break` outside of any loop of its function.

@@ -25,7 +25,7 @@ pub fn begins_statement(terminal: Terminal) -> bool
     }
 }
 
-/// Whether this begins no expression behind `return`, but ends it or its block.
+/// Whether this begins no expression after `return`, but ends it or its block.
 pub fn ends_return(terminal: Terminal) -> bool
     ensures { result ≡ reading.ends_return terminal }
 {

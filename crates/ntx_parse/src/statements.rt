@@ -100,7 +100,7 @@ impl<
         Ok(StatKind::If(arms, other))
     }
 
-    /// `{elseif exp then block}`, behind this arm, which is the first of the list.
+    /// `{elseif exp then block}`, after this arm, which is the first of the list.
     fn arms_behind(
         &self,
         parser: &mut Parser<'_>,

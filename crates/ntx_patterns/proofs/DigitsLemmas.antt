@@ -23,7 +23,7 @@ behind (x ∷ xs) [] i inside more = absurd (omega arith)
 behind (x ∷ xs) (y ∷ ys) zero inside more = absurd (omega arith)
 behind (x ∷ xs) (y ∷ ys) (suc i) inside more = ap (λ rest. max x y ∷ rest) (behind xs ys i (omega arith) (omega arith))
 
--- A digit is taken over where a digit is kept already, and behind the last one.
+-- A digit is taken over where a digit is kept already, and after the last one.
 pub raised_within : (old digits kept : List ℕ) (i digit : ℕ) → kept ≡ greater_digits old (take i digits) → i < length kept → i < length digits
     → digit ≡ max (get_or kept i 0) (get_or digits i 0) → set kept i digit ≡ greater_digits old (take (i + 1) digits)
 raised_within old digits kept i digit is inside more greater =

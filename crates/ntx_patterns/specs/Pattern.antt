@@ -7,7 +7,7 @@ pub record Pattern : Type 0 where
   pub symbols : List ℕ
   pub digits : List ℕ
 
--- the dot, which stands for an end of a word
+-- the dot, which represents an end of a word
 abbrev pub dot : ℕ
 dot = 46
 
@@ -20,7 +20,7 @@ is_digit byte = nat_le 48 byte && nat_le byte 57
 abbrev pub is_symbol : ℕ → Bool
 is_symbol byte = not (is_digit byte)
 
--- a word without a dot at its front
+-- a word without a dot at its beginning
 abbrev pub after_dot : List ℕ → List ℕ
 after_dot [] = []
 after_dot (byte ∷ bytes) = if byte == dot then bytes else byte ∷ bytes
@@ -38,7 +38,7 @@ is_spaced after_digit (byte ∷ bytes) = if is_digit byte then not after_digit &
 abbrev pub is_lettered : List ℕ → Bool
 is_lettered bytes = is_spaced false bytes && nat_le 1 (count_by is_letter bytes) && nat_le (count_by is_letter bytes) 63
 
--- the same with an optional dot at the front and at the end
+-- the same with an optional dot at the beginning and at the end
 abbrev pub is_pattern : List ℕ → Bool
 is_pattern word = is_lettered (before_dot (after_dot word))
 

@@ -131,7 +131,7 @@ fn add_line(
 
 /// The patterns of a file. Spaces, tabs, CR and LF separate them, and `%` begins a comment to the end of its line, which is
 /// before the next LF. A pattern is an optional dot, 1 to 63 letters from `a` to `z` with at most one digit before, between and
-/// after them, and an optional dot. A dot stands for an end of a word. Patterns may be repeated.
+/// after them, and an optional dot. A dot represents an end of a word. Patterns may be repeated.
 ///
 /// # Refusals
 ///

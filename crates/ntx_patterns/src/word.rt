@@ -46,7 +46,7 @@ fn is_lettered(bytes: &[u8]) -> bool
     is_spaced(bytes) && 1 <= letters && letters <= MAX_LETTERS
 }
 
-/// The word without a dot at its front.
+/// The word without a dot at its beginning.
 fn after_dot(word: &[u8]) -> &[u8]
     ensures { result.now ≡ pattern.after_dot word.now }
 {

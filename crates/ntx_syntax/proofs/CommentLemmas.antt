@@ -1,4 +1,4 @@
--- The longest comment at the front.
+-- The longest comment at the beginning.
 use Rattle.std.proofs.Common.{◌≡◌, ℕ, zero, suc, ◌+◌, ◌-◌, ◌<◌, ◌≤◌, min, Bool, true, false, ◌&&◌, cond, List, [], ◌∷◌, length, take, drop, Option, Some, None, refl, sym, ap, ◌∙◌, subst, ⊎_elim, arith}
 use Rattle.std.specs.Prelude.{slice_index, nat_eq, option_map, not, ◌==◌}
 use Rattle.std.specs.List.{prefix_len, list_all}
@@ -21,7 +21,7 @@ use Rattle.ntx_syntax.proofs.OptionLemmas.{is_at, is_at-zero, is_at-suc, map-suc
 abbrev signs : List ℕ → ℕ
 signs bytes = prefix_len (λ b. b == 61) bytes
 
--- what a bracket of this level at the front is
+-- what a bracket of this level at the beginning is
 pub record IsBracket (mark level : ℕ) (b : ℕ) (bytes : List ℕ) : Type 0 where
   pub level_is : signs bytes ≡ level
   pub first : nat_eq b mark ≡ true
@@ -37,7 +37,7 @@ bracket_to : (mark level b : ℕ) (bytes : List ℕ) → IsBracket mark level b 
 bracket_to mark level b bytes h =
     ap (λ n. cond (nat_eq b mark && nat_eq (slice_index (b ∷ bytes) (n + 1)) mark) (Some n) None) h.level_is ∙ rw (h.first, h.last) refl
 
--- A bracket stands in a front just where it stands in the whole and ends in the front.
+-- A bracket stands in a prefix exactly if it stands in the whole and ends in the prefix.
 bracket-take : (mark level b : ℕ) (bytes : List ℕ) (m : ℕ) → level + 2 ≤ suc m → bracket_level mark (b ∷ bytes) ≡ Some level → bracket_level mark (b ∷ take m bytes) ≡ Some level
 bracket-take mark level b bytes m within h =
     let bracket = bracket_from mark level b bytes h in
@@ -123,7 +123,7 @@ bracketed-take level (b ∷ bytes) (suc m) h =
 
 -- ---- comments
 
--- What stands behind an opening bracket is a comment where it ends at the first closing bracket.
+-- What stands after an opening bracket is a comment where it ends at the first closing bracket.
 long_piece : (level : ℕ) (bytes : List ℕ) → 0 < length bytes → long_comment_piece level bytes ≡ piece_if (ends_at_bracket level bytes) Gap
 long_piece level [] h = absurd (omega arith)
 long_piece level (b ∷ bytes) h = refl
@@ -165,7 +165,7 @@ module _ (bytes : List ℕ) (level : ℕ) (bracket : bracket_level 91 bytes ≡ 
       let fits : m ≤ length body = omega (arith, body_long) in
       behind m ∙ long_piece level (take m body) (omega (arith, length-take-le m body fits)) ∙ ap (λ t. piece_if t Gap) (bracketed-take level body m fits)
 
-  -- at a place, a longer front
+  -- at a place, a longer prefix
   at_place : (n : ℕ) → level + 2 ≤ n → (m : ℕ) × (level + 2 + m ≡ n)
   at_place n h = (n - (level + 2), omega arith)
 

@@ -1,4 +1,4 @@
--- The longest piece at the front, by its first byte.
+-- The longest piece at the beginning, by its first byte.
 use Rattle.std.proofs.Common.{◌≡◌, ℕ, zero, suc, ◌<◌, ◌≤◌, Bool, true, false, ◌&&◌, cond, List, [], ◌∷◌, length, take, drop, Option, None, refl, ap, ◌∙◌, arith}
 use Rattle.std.specs.Prelude.{slice_index, nat_eq}
 use Rattle.std.specs.Char.{is_ascii_digit}
@@ -14,7 +14,7 @@ abbrev pub choice : Bool → Bool → Bool → Bool → Bool → (gap word numer
 choice blank name digit quote dashes gap word numeral text comment symbol =
     cond blank gap (cond name word (cond digit numeral (cond quote text (cond dashes comment symbol))))
 
--- A front of pieces of one sort is one of pieces, where all fronts that are as long or longer are of that sort.
+-- A prefix of pieces of one sort is one of pieces, where all prefixes that are as long or longer are of that sort.
 front_as : (spelled : List ℕ → Option Piece) (bytes : List ℕ) (len : ℕ) (piece : Piece) → IsFrontOf spelled bytes len piece → ((n : ℕ) → len ≤ n → n ≤ length bytes → piece_of (take n bytes) ≡ spelled (take n bytes)) → IsFront bytes len piece
 front_as spelled bytes len piece h same = record {
   some = h.some;

@@ -59,12 +59,12 @@ byte_alone b e =
     one_of (is_blank b) (begins_name b) (is_ascii_digit b) (is_quote b) (begins_comment (b ∷ [])) (Some Gap) (word_piece (b ∷ [])) (numeral_piece (b ∷ [])) (text_piece (b ∷ [])) (comment_piece []) (symbol_piece (b ∷ []))
     (no_dashes b) (λ _. none_some Gap) (word_alone b) (digit_alone b) (quote_alone b) (symbol_piece-one b) (sym (piece_of-cons b []) ∙ e)
 
--- ---- bytes have a piece at the front
+-- ---- bytes have a piece at the beginning
 
 abbrev HasFront : List ℕ → Type 0
 HasFront bytes = (len : ℕ) × (piece : Piece) × IsFront bytes len piece
 
--- the longest front of n bytes at most, if those above spell nothing
+-- the longest prefix of n bytes at most, if those above spell nothing
 front_at : (b : ℕ) (bytes : List ℕ) (n : ℕ) → suc n ≤ length (b ∷ bytes) → ((m : ℕ) → suc n < m → m ≤ length (b ∷ bytes) → piece_of (take m (b ∷ bytes)) ≡ None) → (0 < n → ((m : ℕ) → n < m → m ≤ length (b ∷ bytes) → piece_of (take m (b ∷ bytes)) ≡ None) → HasFront (b ∷ bytes)) → (o : Option Piece) → piece_of (take (suc n) (b ∷ bytes)) ≡ o → HasFront (b ∷ bytes)
 front_at b bytes n within longer below (Some piece) is = (suc n, piece, record { some = omega arith; within = within; spells = is; longest = longer })
 front_at b bytes n within longer below None is = ⊎_elim
@@ -79,7 +79,7 @@ front_below b bytes (suc n) within some longer = front_at b bytes n within longe
 has_front : (b : ℕ) (bytes : List ℕ) → HasFront (b ∷ bytes)
 has_front b bytes = front_below b bytes (length (b ∷ bytes)) (omega arith) (omega arith) (λ m past whole. absurd (omega arith))
 
--- ---- fronts and longest pieces
+-- ---- prefixes and longest pieces
 
 longest_from_front : (bytes : List ℕ) (len : ℕ) (piece : Piece) → IsFront bytes len piece → IsLongestPiece (take len bytes) (drop len bytes)
 longest_from_front bytes len piece h = record {
@@ -167,7 +167,7 @@ from_earlier : (bytes : List ℕ) (from later : ℕ) (tokens : List token.Token)
 from_earlier bytes from later [] h stand = tt
 from_earlier bytes from later (t ∷ tokens) h stand = (omega (arith, stand.0), stand.1, stand.2, stand.3, stand.4, stand.5)
 
--- what stands behind a front of the bytes
+-- what stands after a prefix of the bytes
 module _ (bytes : List ℕ) where
   ok_from : (first : token.Token) (answer : Result (List token.Token) SyntaxFault) (tokens : List token.Token) → result_map (λ others. first ∷ others) answer ≡ Ok tokens → (others : List token.Token) × (answer ≡ Ok others) × (first ∷ others ≡ tokens)
   ok_from first (Ok others) tokens h = (others, refl, cc)

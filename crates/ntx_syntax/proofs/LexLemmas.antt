@@ -22,7 +22,7 @@ longest_from (Some piece) n len bytes p q = q piece refl
 none_some : (piece : Piece) → None ≡ Some piece → ⊥
 none_some piece e = cc
 
--- The longest front is the piece at the front.
+-- The longest prefix is the piece at the beginning.
 pub longest_front-is : (bytes : List ℕ) (len : ℕ) (piece : Piece) (n : ℕ) → IsFront bytes len piece → len ≤ n → n ≤ length bytes → longest_front n bytes ≡ len
 longest_front-is bytes len piece zero h above within = absurd (omega (arith, h.some))
 longest_front-is bytes len piece (suc n) h above within = ⊎_elim

@@ -1,4 +1,4 @@
--- The longest numeral at the front.
+-- The longest numeral at the beginning.
 use Rattle.std.proofs.Common.{◌≡◌, ℕ, zero, suc, ◌+◌, ◌-◌, ◌*◌, ◌^◌, ◌<◌, ◌≤◌, Bool, true, false, ◌&&◌, ◌||◌, cond, List, [], ◌∷◌, length, take, drop, Option, Some, None, ℤ, refl, sym, ap, ◌∙◌, subst, ⊎_elim, arith}
 use Rattle.std.specs.Prelude.{slice_index, is_some, nat_lt, nat_eq}
 use Rattle.std.specs.List.{prefix_len, list_all}
@@ -53,7 +53,7 @@ too_large_after n i digits all is within large =
 abbrev has_form : List ℕ → Bool
 has_form bytes = is_decimal bytes || is_hexadecimal bytes
 
--- a front with some bytes is decimal where all of them are digits
+-- a prefix with some bytes is decimal where all of them are digits
 decimal-take : (n : ℕ) (bytes : List ℕ) → 0 < n → n ≤ length bytes → is_decimal (take n bytes) ≡ list_all is_ascii_digit (take n bytes)
 decimal-take zero bytes some within = absurd (omega arith)
 decimal-take (suc n) [] some within = absurd (omega arith)
@@ -169,7 +169,7 @@ form_only false false small value other h none = h
 decimal_from_form : (bytes : List ℕ) → has_form bytes ≡ true → is_some (numeral_value bytes) ≡ false → is_decimal bytes ≡ true
 decimal_from_form bytes form none = form_only (is_hexadecimal bytes) (is_decimal bytes) _ _ _ form none
 
--- the last byte of a front, and the front before it
+-- the last byte of a prefix, and the prefix before it
 spoiled-take : (n : ℕ) (bytes : List ℕ) → n + 1 ≤ length bytes → is_spoiled (take (n + 1) bytes) ≡ (has_form (take n bytes) && spoils_numeral (slice_index bytes n))
 spoiled-take n bytes within =
     let long : length (take (n + 1) bytes) ≡ n + 1 = length-take-le (n + 1) bytes within in
@@ -202,7 +202,7 @@ not_spoiling true spoils h = h
 not_spoiling false spoils h = refl
 
 module _ {bytes : List ℕ} {len : ℕ} (ends : EndsForm bytes len) where
-  -- a longer front is spoiled only where its last byte stands behind the form
+  -- a longer prefix is spoiled only where its last byte stands after the form
   spoiled_past : (n : ℕ) → len < n → n ≤ length bytes → (n ≡ len + 1 → spoils_numeral (slice_index bytes len) ≡ false) → is_spoiled (take n bytes) ≡ false
   spoiled_past n more whole unspoiled =
       let back : n - 1 + 1 ≡ n = omega arith in

@@ -1,4 +1,4 @@
--- Runs of bytes of one class, and fronts of lists.
+-- Runs of bytes of one class, and prefixes of lists.
 use Rattle.std.proofs.Common.{◌≡◌, ℕ, zero, suc, ◌+◌, ◌<◌, ◌≤◌, min, Bool, true, false, ◌&&◌, cond, List, [], ◌∷◌, length, take, refl, arith}
 use Rattle.std.specs.Prelude.{slice_index}
 use Rattle.std.specs.List.{list_all, prefix_len}
@@ -8,7 +8,7 @@ all_of_front : (b rest : Bool) (n k : ℕ) → (n ≤ k → rest ≡ true) → s
 all_of_front true rest n k others h = others (omega arith)
 all_of_front false rest n k others h = absurd (omega arith)
 
--- each element of a front that is no longer than the run passes
+-- each element of a prefix that is no longer than the run passes
 pub list_all-take : {X : Type 0} (p : X → Bool) (n : ℕ) (xs : List X) → n ≤ prefix_len p xs → list_all p (take n xs) ≡ true
 list_all-take p zero xs h = refl
 list_all-take p (suc n) [] h = refl
@@ -29,13 +29,13 @@ run_of_front : (b : Bool) (n k j : ℕ) → j ≡ min n k → cond b (1 + j) 0 �
 run_of_front true n k j h = omega arith
 run_of_front false n k j h = omega arith
 
--- the run of a front
+-- the run of a prefix
 pub prefix_len-take : {X : Type 0} (p : X → Bool) (n : ℕ) (xs : List X) → prefix_len p (take n xs) ≡ min n (prefix_len p xs)
 prefix_len-take p zero xs = omega arith
 prefix_len-take p (suc n) [] = omega arith
 prefix_len-take p (suc n) (x ∷ xs) = run_of_front (p x) n (prefix_len p xs) (prefix_len p (take n xs)) (prefix_len-take p n xs)
 
--- a front has the bytes of the whole, and 0 past its end
+-- a prefix has the bytes of the whole, and 0 past its end
 pub slice_index-take : (n : ℕ) (bytes : List ℕ) (i : ℕ) → i < n → slice_index (take n bytes) i ≡ slice_index bytes i
 slice_index-take n bytes i h = get_or-take n bytes i 0 h
 

@@ -1,4 +1,4 @@
--- The longest symbol at the front.
+-- The longest symbol at the beginning.
 use Rattle.std.proofs.Common.{◌≡◌, ℕ, suc, ◌<◌, ◌≤◌, Bool, true, false, ◌||◌, cond, List, [], ◌∷◌, length, take, Option, Some, None, refl, sym, ap, ◌∙◌, subst, ⊎_elim, arith}
 use Rattle.std.specs.Prelude.{nat_lt, nat_le, nat_eq, bytes_eq, is_some}
 use Rattle.std.specs.List.{list_all}
@@ -60,7 +60,7 @@ pub symbol_at-one : (bytes : List ℕ) → 0 < length bytes → symbol_at 1 byte
 symbol_at-one [] some h = absurd (omega arith)
 symbol_at-one (b ∷ bytes) some h = symbol_piece-one b (sym (ap (λ t. cond t (symbol_piece (b ∷ [])) None) (le-leb 1 (length (b ∷ bytes)) (omega arith))) ∙ h)
 
--- ---- fronts
+-- ---- prefixes
 
 at_some : (test : Bool) (o : Option Piece) (piece : Piece) → cond test o None ≡ Some piece → (test ≡ true) × (o ≡ Some piece)
 at_some true o piece h = (refl, h)

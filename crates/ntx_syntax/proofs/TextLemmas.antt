@@ -1,4 +1,4 @@
--- The longest text at the front.
+-- The longest text at the beginning.
 use Rattle.std.proofs.Common.{◌≡◌, ℕ, zero, suc, ◌+◌, ◌-◌, ◌*◌, ◌<◌, ◌≤◌, Bool, true, false, ◌&&◌, cond, List, [], ◌∷◌, length, take, drop, Option, Some, None, refl, sym, ap, ◌∙◌, subst, inl, inr, ⊎_elim, ◌⊎◌, arith}
 use Rattle.std.specs.Prelude.{slice_index, is_some, nat_eq, nat_le, option_map, option_and_then}
 use Rattle.std.specs.List.{prefix_len}
@@ -88,7 +88,7 @@ escape_alike c d e f =
     (λ _. inr (hexadecimal_reaches 2 d e (omega arith), hexadecimal_reaches 2 d f (omega arith)))
     (λ _. alike_choice 2 (is_ascii_digit c) (decimal_escape (c ∷ d ∷ e ∷ [])) _ (decimal_escape (c ∷ d ∷ f ∷ [])) _ (λ digit. decimal_alike c d e f digit) (λ _. inl refl))
 
--- The escape of a front is that of the whole, unless both go to the end of the front or past it.
+-- The escape of a prefix is that of the whole, unless both go to the end of the prefix or past it.
 escape-take : (m : ℕ) (bytes : List ℕ) → Alike m (escape (take m bytes)) (escape bytes)
 escape-take zero bytes = inr (reaches_zero (escape (take 0 bytes)), reaches_zero (escape bytes))
 escape-take (suc zero) bytes =
@@ -145,7 +145,7 @@ empty_front zero bytes h = refl
 empty_front (suc m) [] h = absurd (omega arith)
 empty_front (suc m) (b ∷ bytes) h = sym (ne_eqb 1 (suc (suc m)) (λ e. omega arith))
 
--- A front is characters and the closing quote just where it has the length of the text.
+-- A prefix is characters and the closing quote exactly if it has the length of the text.
 pub characters-take : (quote k : ℕ) (bytes : List ℕ) (m : ℕ) → m ≤ length bytes → is_some (characters quote k (take m bytes)) ≡ is_at m (quoted_len quote k bytes)
 characters-take quote k [] zero h = refl
 characters-take quote k [] (suc m) h = refl
@@ -159,7 +159,7 @@ characters-take quote zero (b ∷ bytes) (suc m) h =
     (λ _. after_escape quote bytes m (escape (take m bytes)) (escape bytes) (λ k. characters-take quote k bytes m (omega arith)) (escape-take m bytes))
     (λ _. is_some-map (λ others. b ∷ others) (characters quote 0 (take m bytes)) ∙ characters-take quote 0 bytes m (omega arith) ∙ sym (is_at-suc m (quoted_len quote 0 bytes)))))
 
--- ---- texts at the front
+-- ---- texts at the beginning
 
 text_piece_is : (some one : Bool) → some ≡ true → cond some (Some (Token sort.Text)) (piece_if one (Wrong why.Text)) ≡ Some (Token sort.Text)
 text_piece_is some one h = rw h refl
@@ -170,7 +170,7 @@ no_text_piece some one h e = rw (h, e) refl
 lone_quote : (some one : Bool) → some ≡ false → one ≡ true → cond some (Some (Token sort.Text)) (piece_if one (Wrong why.Text)) ≡ Some (Wrong why.Text)
 lone_quote some one h e = rw (h, e) refl
 
--- A front with a quote is a text just where it has the length of one.
+-- A prefix with a quote is a text exactly if it has the length of one.
 text_value-take : (quote : ℕ) (bytes : List ℕ) (m : ℕ) → is_quote quote ≡ true → m ≤ length bytes → is_some (text_value (quote ∷ take m bytes)) ≡ is_at m (quoted_len quote 0 bytes)
 text_value-take quote bytes m h within = ap (λ t. is_some (cond t (characters quote 0 (take m bytes)) None)) h ∙ characters-take quote 0 bytes m within
 

@@ -1,4 +1,4 @@
--- What numerals and texts stand for.
+-- What numerals and texts represent.
 use Rattle.std.proofs.Common.{◌≡◌, ℕ, zero, suc, ◌+◌, ◌*◌, ◌/◌, ◌%◌, ◌^◌, ◌<◌, ◌≤◌, Bool, true, false, ◌&&◌, ◌||◌, cond, List, [], ◌∷◌, ◌++◌, length, drop, Option, Some, None, ℤ, pos, refl, sym, ap, ◌∙◌, ⊎_elim, append_assoc, arith}
 use Rattle.std.specs.Prelude.{is_some, IsSome, not, nat_eq, nat_lt, slice_index, option_map, option_and_then}
 use Rattle.std.specs.List.{list_all}

@@ -1,4 +1,4 @@
--- The longest word at the front.
+-- The longest word at the beginning.
 use Rattle.std.proofs.Common.{◌≡◌, ℕ, ◌<◌, ◌≤◌, Bool, true, false, ◌||◌, List, [], ◌∷◌, length, take, refl, sym, ap, ◌∙◌, subst, arith}
 use Rattle.std.specs.Prelude.{slice_index, ◌==◌}
 use Rattle.std.specs.Int.{is_in_range}

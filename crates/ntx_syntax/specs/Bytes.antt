@@ -18,7 +18,7 @@ begins_name b = is_ascii_alphabetic b || b == 95
 abbrev pub continues_name : ℕ → Bool
 continues_name b = is_ascii_alphanumeric b || b == 95
 
--- a letter, `_` or `.`, which may not stand directly behind a numeral
+-- a letter, `_` or `.`, which may not stand directly after a numeral
 abbrev pub spoils_numeral : ℕ → Bool
 spoils_numeral b = begins_name b || b == 46
 

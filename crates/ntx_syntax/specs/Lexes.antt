@@ -15,7 +15,7 @@ use Rattle.ntx_syntax.specs.Pieces.{piece_of}
 
 -- ---- the cut
 
--- This part, before this rest, spells a piece, and no longer front does.
+-- This part, before this rest, spells a piece, and no longer prefix does.
 pub record IsLongestPiece (part rest : List ℕ) : Type 0 where
   pub spelled : IsSome (piece_of part)
   pub longest : (more others : List ℕ) → rest ≡ more ++ others → 0 < length more → piece_of (part ++ more) ≡ None
@@ -57,12 +57,12 @@ IsRefused bytes fault = (parts : List (List ℕ)) × IsCut bytes parts × (token
 
 -- ---- the same, computed
 
--- the length of the longest front, of this many bytes at most, that spells a piece
+-- the length of the longest prefix, of this many bytes at most, that spells a piece
 abbrev pub longest_front : ℕ → List ℕ → ℕ
 longest_front zero bytes = 0
 longest_front (suc n) bytes = if is_some (piece_of (take (suc n) bytes)) then suc n else longest_front n bytes
 
--- The parts of the bytes. The number counts the bytes at the front that belong to the part before.
+-- The parts of the bytes. The number counts the bytes at the beginning that belong to the part before.
 abbrev pub cut_from : ℕ → List ℕ → List (List ℕ)
 cut_from inside [] = []
 cut_from (suc inside) (b ∷ bytes) = cut_from inside bytes

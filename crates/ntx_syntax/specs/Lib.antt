@@ -2,7 +2,7 @@
 pub mod Bytes
 -- the terminals, with the tables of keywords and symbols
 pub mod Terminals
--- what numerals and texts stand for
+-- what numerals and texts represent
 pub mod Values
 -- what bytes spell that stand alone
 pub mod Pieces

@@ -1,6 +1,6 @@
 -- What bytes spell that stand alone: a blank or a comment, a token, or what may not stand in a script (Lua 5.3 Reference Manual, section 3.1).
 -- Unlike Lua it has integers alone, and no decimal one above 2^63-1; texts on one line, without the escapes `\z` and `\u`; no long texts; fewer
--- symbols; space, tab, CR and LF as the only blanks, and LF alone to end a line; and no letter, `_` or `.` directly behind a numeral.
+-- symbols; space, tab, CR and LF as the only blanks, and LF alone to end a line; and no letter, `_` or `.` directly after a numeral.
 -- What may not stand is spelled too, so that the piece at a place is the longest that is spelled there, whatever it is: `3a` is not a numeral
 -- and then a name, but a wrong number, and a quote that no text begins with is a wrong text by itself.
 use Rattle.std.specs.Prelude.{ℕ, ◌+◌, ◌-◌, ◌==◌, ◌&&◌, ◌||◌, not, Bool, false, List, [], ◌∷◌, length, take, drop, slice_index, Option, None, Some, is_some, if◌then◌else◌, bytes_eq, codes}
@@ -31,7 +31,7 @@ word_piece bytes = piece_if (list_all continues_name bytes) (Token (word_sort by
 
 -- ---- numerals
 
--- The bytes but the last have the form of a numeral, and the last may not stand behind one.
+-- The bytes but the last have the form of a numeral, and the last may not stand after one.
 abbrev pub is_spoiled : List ℕ → Bool
 is_spoiled bytes =
     let numeral = take (length bytes - 1) bytes in
@@ -49,7 +49,7 @@ text_piece bytes = if is_some (text_value bytes) then Some (Token sort.Text) els
 
 -- ---- comments
 
--- The level of the long bracket at the front: this mark, as many `=` as the level says, and the mark again. `[` opens and `]` closes.
+-- The level of the long bracket at the beginning: this mark, as many `=` as the level says, and the mark again. `[` opens and `]` closes.
 abbrev pub bracket_level : ℕ → List ℕ → Option ℕ
 bracket_level mark bytes =
     let level = prefix_len (λ b. b == 61) (drop 1 bytes) in
@@ -65,12 +65,12 @@ ends_at_bracket level [] = false
 ends_at_bracket level (b ∷ bytes) =
     if is_level level (bracket_level 93 (b ∷ bytes)) then length (b ∷ bytes) == level + 2 else ends_at_bracket level bytes
 
--- What stands behind the opening bracket of a long comment. One that no closing bracket follows is wrong by itself.
+-- What stands after the opening bracket of a long comment. One that no closing bracket follows is wrong by itself.
 abbrev pub long_comment_piece : ℕ → List ℕ → Option Piece
 long_comment_piece level [] = Some (Wrong why.Comment)
 long_comment_piece level (b ∷ bytes) = piece_if (ends_at_bracket level (b ∷ bytes)) Gap
 
--- What stands behind the two dashes of a comment: without an opening bracket, anything on the line.
+-- What stands after the two dashes of a comment: without an opening bracket, anything on the line.
 abbrev pub comment_piece_at : Option ℕ → List ℕ → Option Piece
 comment_piece_at None bytes = piece_if (list_all (λ b. not (is_line_end b)) bytes) Gap
 comment_piece_at (Some level) bytes = long_comment_piece level (drop (level + 2) bytes)

@@ -1,4 +1,4 @@
--- What the bytes of a numeral and of a text stand for (Lua 5.3 Reference Manual, section 3.1). A name stands for its bytes.
+-- What the bytes of a numeral and of a text represent (Lua 5.3 Reference Manual, section 3.1). A name represents its bytes.
 use Rattle.std.specs.Prelude.{ℕ, zero, suc, ◌^◌, ◌%◌, nat_lt, nat_le, ◌==◌, ◌&&◌, ◌||◌, Bool, false, List, [], ◌∷◌, take, drop, slice_index, ℤ, pos, Option, None, Some, option_map, option_and_then, if◌then◌else◌}
 use Rattle.std.specs.List.{list_all, prefix_len}
 use Rattle.std.specs.Char.{is_ascii_digit, is_ascii_hexdigit}
@@ -18,7 +18,7 @@ abbrev pub is_hexadecimal : List ℕ → Bool
 is_hexadecimal (o ∷ x ∷ d ∷ ds) = o == 48 && x == 120 && is_ascii_hexdigit d && list_all is_ascii_hexdigit ds
 is_hexadecimal _ = false
 
--- The integer that a numeral stands for. A hexadecimal one wraps to 64 bits, and a decimal one above 2 ^ 63 - 1 stands for none.
+-- The integer that a numeral represents. A hexadecimal one wraps to 64 bits, and a decimal one above 2 ^ 63 - 1 represents none.
 abbrev pub numeral_value : List ℕ → Option ℤ
 numeral_value bytes =
     if is_hexadecimal bytes then Some (cast_signed w64 (digits_value 16 (drop 2 bytes) % 2 ^ 64))
@@ -27,7 +27,7 @@ numeral_value bytes =
 
 -- ---- escapes
 
--- the byte that a letter or a mark behind a backslash stands for
+-- the byte that a letter or a mark after a backslash represents
 abbrev pub plain_escape : ℕ → Option ℕ
 plain_escape c =
     if c == 97 then Some 7
@@ -40,7 +40,7 @@ plain_escape c =
     else (if c == 92 || is_quote c then Some c
     else None)))))))
 
--- The byte that the digits at the front write, of which up to three are taken, and how many they are. It is 255 at most.
+-- The byte that the digits at the beginning write, of which up to three are taken, and how many they are. It is 255 at most.
 abbrev pub decimal_escape : List ℕ → Option (ℕ × ℕ)
 decimal_escape bytes =
     let count = prefix_len is_ascii_digit (take 3 bytes) in
@@ -52,14 +52,14 @@ abbrev pub hexadecimal_escape : ℕ → ℕ → Option (ℕ × ℕ)
 hexadecimal_escape high low =
     if is_ascii_hexdigit high && is_ascii_hexdigit low then Some (digits_value 16 (high ∷ low ∷ []), 3) else None
 
--- The byte that c, d and e behind a backslash write, and how many of them write it.
+-- The byte that c, d and e after a backslash write, and how many of them write it.
 abbrev pub escape_of : ℕ → ℕ → ℕ → Option (ℕ × ℕ)
 escape_of c d e =
     if c == 120 then hexadecimal_escape d e
     else (if is_ascii_digit c then decimal_escape (c ∷ d ∷ e ∷ [])
     else option_map (λ value. (value, 1)) (plain_escape c))
 
--- The escape behind a backslash, with 0 for what stands past the end, which writes nothing.
+-- The escape after a backslash, with 0 for what stands past the end, which writes nothing.
 abbrev pub escape : List ℕ → Option (ℕ × ℕ)
 escape bytes = escape_of (slice_index bytes 0) (slice_index bytes 1) (slice_index bytes 2)
 
@@ -69,8 +69,8 @@ abbrev pub if_empty : List ℕ → Option (List ℕ)
 if_empty [] = Some []
 if_empty (b ∷ bytes) = None
 
--- The characters that the bytes behind an opening quote spell, up to the closing quote, which is their last byte. A backslash begins an
--- escape, LF stands in no text, and any other byte stands for itself. The number counts the bytes at the front that belong to an escape.
+-- The characters that the bytes after an opening quote spell, up to the closing quote, which is their last byte. A backslash begins an
+-- escape, LF stands in no text, and any other byte represents itself. The number counts the bytes at the beginning that belong to an escape.
 abbrev pub characters : ℕ → ℕ → List ℕ → Option (List ℕ)
 characters quote escaped [] = None
 characters quote (suc escaped) (b ∷ bytes) = characters quote escaped bytes
@@ -80,7 +80,7 @@ characters quote zero (b ∷ bytes) =
     else (if b == 92 then option_and_then (λ e. option_map (λ others. e.0 ∷ others) (characters quote e.1 bytes)) (escape bytes)
     else option_map (λ others. b ∷ others) (characters quote 0 bytes)))
 
--- The bytes that a text stands for, of those that spell it with its quotes.
+-- The bytes that a text represents, of those that spell it with its quotes.
 abbrev pub text_value : List ℕ → Option (List ℕ)
 text_value [] = None
 text_value (quote ∷ bytes) = if is_quote quote then characters quote 0 bytes else None

@@ -1,3 +1,3 @@
 -- What private calls say among themselves. No contract of a public call cites these definitions.
--- the piece at the front of bytes, and how its end is found
+-- the piece at the beginning of bytes, and how its end is found
 pub mod Front

@@ -33,7 +33,7 @@ fn is_in(class: Class, b: u8) -> bool
     }
 }
 
-/// How many bytes at the front are of this class.
+/// How many bytes at the beginning are of this class.
 pub fn run(class: Class, bytes: &[u8]) -> usize
     ensures value { result ≡ prefix_len (is_in class) bytes.now }
     ensures within { result ≤ length bytes.now }
@@ -67,7 +67,7 @@ pub fn begins_name(b: u8) -> bool
     b.is_ascii_alphabetic() || b == b'_'
 }
 
-/// Whether a byte may not stand directly behind a numeral: a letter, `_` or `.`.
+/// Whether a byte may not stand directly after a numeral: a letter, `_` or `.`.
 pub fn spoils_numeral(b: u8) -> bool
     ensures { result ≡ class.spoils_numeral b }
 {

@@ -8,7 +8,7 @@ use crate::bytes::{Class, byte, run};
 use crate::fault::SyntaxWhy;
 use crate::piece::Piece;
 
-/// The level of the long bracket at the front: the mark, as many `=` as the level says, and the mark again.
+/// The level of the long bracket at the beginning: the mark, as many `=` as the level says, and the mark again.
 fn bracket_level(mark: u8, bytes: &[u8]) -> Option<usize>
     requires { 0 < mark }
     ensures value { result ≡ bracket_level mark bytes.now }
@@ -55,14 +55,14 @@ fn comment_rest(bytes: &[u8]) -> (Piece, usize)
     }
 }
 
-/// Whether two dashes stand at the front.
+/// Whether two dashes stand at the beginning.
 pub fn begins_comment(bytes: &[u8]) -> bool
     ensures { result ≡ begins_comment bytes.now }
 {
     byte(bytes, 0) == b'-' && byte(bytes, 1) == b'-'
 }
 
-/// The comment at the front.
+/// The comment at the beginning.
 pub fn comment(bytes: &[u8]) -> (Piece, usize)
     requires { begins_comment bytes.now ≡ true }
     ensures front { IsFrontOf (λ part. comment_piece (drop 2 part)) bytes.now result.1 result.0 }

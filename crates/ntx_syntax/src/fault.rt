@@ -23,10 +23,9 @@ pub enum SyntaxWhy {
     /// A token that lies in more than 200 of these: blocks (the script's own not counted), bodies of functions, tables, parts
     /// in `( )` or `[ ]`, operands of unary and right operands of binary operators.
     Depth,
-    /// More named locals of one function in scope at once than there may be. It is for a part that is not built yet: no
-    /// call gives it.
+    /// More named locals of one function in scope at once than there may be: 201.
     Locals,
-    /// More bytes than a script may have. It is for a part that is not built yet: no call gives it.
+    /// More bytes than a script may have.
     Size,
 }
 
@@ -53,7 +52,7 @@ impl SyntaxWhy {
 /// A refused script: the line, and what is wrong there.
 #[derive(Clone, Copy, Debug, PartialEq, Eq)]
 pub struct SyntaxFault {
-    /// The number of the line, from 1; 0 is for a script that is too large as a whole, of which no call tells yet.
+    /// The number of the line, from 1; 0 is for a script that is too large as a whole.
     pub line: u64,
     /// What is wrong there.
     pub why: SyntaxWhy,

@@ -17,7 +17,7 @@ use crate::word::word;
 use ntx_num::Fail;
 use std::alloc::Global;
 
-/// The piece at the front, the longest that is spelled there, and its length in bytes.
+/// The piece at the beginning, the longest that is spelled there, and its length in bytes.
 fn front(bytes: &[u8]) -> (Piece, usize)
     requires { 0 < length bytes.now }
     ensures { IsFront bytes.now result.1 result.0 }

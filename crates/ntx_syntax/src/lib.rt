@@ -2,7 +2,7 @@
 //!
 //! Scripts are written in a profile of Lua 5.3 (Lua 5.3 Reference Manual, sections 3.1 and 9). Unlike Lua it has integers
 //! alone, and no decimal one above 2^63-1; texts on one line, without the escapes `\z` and `\u`; no long texts; fewer
-//! symbols; space, tab, CR and LF as the only blanks, and LF alone to end a line; and no letter, `_` or `.` directly behind
+//! symbols; space, tab, CR and LF as the only blanks, and LF alone to end a line; and no letter, `_` or `.` directly after
 //! a numeral.
 //!
 //! The crate cuts a script into its tokens, and has the types of the tree that a parser makes of them. It stands on

@@ -46,7 +46,7 @@ fn hexadecimal_value(digits: &[u8]) -> u64
     value
 }
 
-/// The integer that a numeral stands for. A hexadecimal one wraps to 64 bits.
+/// The integer that a numeral represents. A hexadecimal one wraps to 64 bits.
 ///
 /// `bytes` spell one numeral, as those of a token of sort `Numeral` do: decimal digits, one or more, that write 2^63-1 at
 /// most, or `0x` and one hexadecimal digit or more.
@@ -65,14 +65,14 @@ pub fn numeral_value(bytes: &[u8]) -> i64
     }
 }
 
-/// Whether `0x` and a hexadecimal digit stand at the front.
+/// Whether `0x` and a hexadecimal digit stand at the beginning.
 fn begins_hexadecimal(bytes: &[u8]) -> bool
     ensures { result ≡ begins_hexadecimal bytes.now }
 {
     byte(bytes, 0) == b'0' && byte(bytes, 1) == b'x' && byte(bytes, 2).is_ascii_hexdigit()
 }
 
-/// How many bytes at the front have the form of a numeral, and whether an integer stands for them.
+/// How many bytes at the beginning have the form of a numeral, and whether an integer represents them.
 fn form_len(bytes: &[u8]) -> (usize, bool)
     requires { is_ascii_digit (slice_index bytes.now 0) ≡ true }
     ensures end { EndsForm bytes.now result.0 }
@@ -86,7 +86,7 @@ fn form_len(bytes: &[u8]) -> (usize, bool)
     }
 }
 
-/// The numeral at the front, wrong where it is too large or where a letter, `_` or `.` stands directly behind it.
+/// The numeral at the beginning, wrong where it is too large or where a letter, `_` or `.` stands directly after it.
 pub fn numeral(bytes: &[u8]) -> (Piece, usize)
     requires { is_ascii_digit (slice_index bytes.now 0) ≡ true }
     ensures { IsFrontOf numeral_piece bytes.now result.1 result.0 }

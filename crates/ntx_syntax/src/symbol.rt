@@ -40,7 +40,7 @@ fn symbol_piece(bytes: &[u8]) -> Option<Piece>
     }
 }
 
-/// What so many bytes at the front spell as a symbol, if there are so many.
+/// What so many bytes at the beginning spell as a symbol, if there are so many.
 fn symbol_at(len: usize, bytes: &[u8]) -> Option<Piece>
     ensures { result ≡ symbol_at len bytes.now }
 {
@@ -51,7 +51,7 @@ fn symbol_at(len: usize, bytes: &[u8]) -> Option<Piece>
     }
 }
 
-/// The symbol at the front, the longest that stands there, or the byte there that begins nothing.
+/// The symbol at the beginning, the longest that stands there, or the byte there that begins nothing.
 pub fn symbol(bytes: &[u8]) -> (Piece, usize)
     requires { 0 < length bytes.now }
     ensures { IsFrontOf symbol_piece bytes.now result.1 result.0 }

@@ -183,7 +183,7 @@ static REFUSED: [(&[u8], u64, SyntaxWhy); 47] = [
     (b"\"a\" 3a !", 1, SyntaxWhy::Number),
 ];
 
-/// The table of scripts with tokens, of which a proof knows nothing.
+/// The table of scripts with tokens.
 fn accepted() -> &'static [(&'static [u8], &'static [(Sort, u64, u64, u64)])] {
     &ACCEPTED
 }

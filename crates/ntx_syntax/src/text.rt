@@ -15,7 +15,7 @@ use crate::token::Sort;
 use ntx_num::NoMemory;
 use std::alloc::Global;
 
-/// The byte that a letter or a mark behind a backslash stands for.
+/// The byte that a letter or a mark after a backslash represents.
 fn plain_escape(c: u8) -> Option<u8>
     ensures { result ≡ value.plain_escape c }
 {
@@ -53,7 +53,7 @@ fn decimal_escape(c: u8, d: u8, e: u8) -> Option<(u8, usize)>
     }
 }
 
-/// The byte that two hexadecimal digits write behind `x`.
+/// The byte that two hexadecimal digits write after `x`.
 fn hexadecimal_escape(high: u8, low: u8) -> Option<(u8, usize)>
     ensures { result ≡ value.hexadecimal_escape high low }
 {
@@ -64,7 +64,7 @@ fn hexadecimal_escape(high: u8, low: u8) -> Option<(u8, usize)>
     }
 }
 
-/// The byte that the escape behind a backslash stands for, and how many bytes it takes.
+/// The byte that the escape after a backslash represents, and how many bytes it takes.
 fn escape(bytes: &[u8]) -> Option<(u8, usize)>
     ensures value { result ≡ value.escape bytes.now }
     ensures within { IfSome result (λ e. (0 < e.1) × (e.1 ≤ length bytes.now)) }
@@ -82,7 +82,7 @@ fn escape(bytes: &[u8]) -> Option<(u8, usize)>
     }
 }
 
-/// How many bytes behind a backslash its escape takes.
+/// How many bytes after a backslash its escape takes.
 fn escape_len(bytes: &[u8]) -> Option<usize>
     ensures value { result ≡ option_map (λ e. e.1) (value.escape bytes.now) }
     ensures within { IfSome result (λ len. len ≤ length bytes.now) }
@@ -91,7 +91,7 @@ fn escape_len(bytes: &[u8]) -> Option<usize>
     Some(len)
 }
 
-/// How many bytes behind an opening quote its text takes, the closing quote among them.
+/// How many bytes after an opening quote its text takes, the closing quote among them.
 fn quoted_len(quote: u8, bytes: &[u8]) -> Option<usize>
     ensures value { result ≡ quoted_len quote 0 bytes.now }
     ensures within { IfSome result (λ len. len ≤ length bytes.now) }
@@ -113,7 +113,7 @@ fn quoted_len(quote: u8, bytes: &[u8]) -> Option<usize>
     None
 }
 
-/// The text at the front, wrong where its line does not close it or where an escape is none.
+/// The text at the beginning, wrong where its line does not close it or where an escape is none.
 pub fn text(bytes: &[u8]) -> (Piece, usize)
     requires { is_quote (slice_index bytes.now 0) ≡ true }
     ensures { IsFrontOf text_piece bytes.now result.1 result.0 }
@@ -124,7 +124,7 @@ pub fn text(bytes: &[u8]) -> (Piece, usize)
     }
 }
 
-/// The character at the front of bytes within a text, and how many bytes spell it.
+/// The character at the beginning of bytes within a text, and how many bytes spell it.
 fn character(bytes: &[u8]) -> Option<(u8, usize)>
     requires { 0 < length bytes.now }
     ensures value { result ≡ character bytes.now }
@@ -138,7 +138,7 @@ fn character(bytes: &[u8]) -> Option<(u8, usize)>
     }
 }
 
-/// The bytes that a text stands for, of those that spell it with its quotes.
+/// The bytes that a text represents, of those that spell it with its quotes.
 ///
 /// `bytes` spell one text from its opening quote to its closing one, as those of a token of sort `Text` do.
 pub fn text_value(alloc: Global, bytes: &[u8]) -> Result<Vec<u8>, NoMemory>

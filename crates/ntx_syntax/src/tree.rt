@@ -1,6 +1,6 @@
 //! The tree of a script (Lua 5.3 Reference Manual, section 9).
 //!
-//! Operators of one precedence that associate to the left and stand one behind the other, the suffixes of a name or of a
+//! Operators of one precedence that associate to the left and stand one after the other, the suffixes of a name or of a
 //! parenthesized expression, and the arms of an `if` are lists: a long flat script has a flat tree.
 //!
 //! The wide parts of statements, expressions and fields are boxed, so that lists of these are narrow: a statement takes 72
@@ -82,7 +82,7 @@ pub enum StatKind {
     NumericFor(Boxed<LocalName>, Boxed<Exp>, Boxed<Exp>, Option<Boxed<Exp>>, Boxed<Block>),
     /// `for namelist in explist do block end`
     GenericFor(Items<LocalName>, Items<Exp>, Boxed<Block>),
-    /// `function Name {. Name} body`: the first name, those behind each `.`, and the body.
+    /// `function Name {. Name} body`: the first name, those after each `.`, and the body.
     Function(Name, Items<Name>, Boxed<FunctionBody>),
     /// `local function Name body`
     LocalFunction(LocalName, Boxed<FunctionBody>),
@@ -90,7 +90,7 @@ pub enum StatKind {
     Local(Items<LocalName>, Items<Exp>),
 }
 
-/// `exp then block`, behind `if` or `elseif`.
+/// `exp then block`, after `if` or `elseif`.
 #[cycle(tree)]
 #[derive(Drop)]
 pub struct IfArm {
@@ -132,13 +132,13 @@ pub struct Call {
     pub arguments: Items<Exp>,
 }
 
-/// A variable, a call or a parenthesized expression: its head, and what stands behind it from the left.
+/// A variable, a call or a parenthesized expression: its head, and what stands after it from the left.
 #[cycle(tree)]
 #[derive(Drop)]
 pub struct Prefix {
     /// What it begins with.
     pub head: Head,
-    /// What stands behind, each applied to all before it.
+    /// What stands after, each applied to all before it.
     pub suffixes: Items<Suffix>,
 }
 
@@ -152,7 +152,7 @@ pub enum Head {
     Parenthesized(Boxed<Exp>),
 }
 
-/// What stands behind a prefix.
+/// What stands after a prefix.
 #[cycle(tree)]
 #[derive(Drop)]
 pub enum Suffix {
@@ -174,9 +174,9 @@ pub enum Exp {
     False,
     /// `true`
     True,
-    /// A numeral, as the integer that it stands for.
+    /// A numeral, as the integer that it represents.
     Numeral(i64),
-    /// A text, as the bytes that it stands for.
+    /// A text, as the bytes that it represents.
     Text(Items<u8>),
     /// `function body`
     Function(Boxed<FunctionBody>),
@@ -184,14 +184,14 @@ pub enum Exp {
     Prefix(Prefix),
     /// `{ [field {(,|;) field} [,|;]] }`
     Table(Items<Field>),
-    /// `exp binop exp`: the first operand, and each operator of one precedence with the operand behind it. Operators
+    /// `exp binop exp`: the first operand, and each operator of one precedence with the operand after it. Operators
     /// that associate to the right stand alone in their list.
     Binary(Boxed<Exp>, Items<Operation>),
     /// `unop exp`
     Unary(UnaryOp, Boxed<Exp>),
 }
 
-/// An operator and the operand behind it.
+/// An operator and the operand after it.
 #[cycle(tree)]
 #[derive(Drop)]
 pub struct Operation {

@@ -20,7 +20,7 @@ fn word_sort(word: &[u8]) -> Sort
     }
 }
 
-/// The name or the keyword at the front.
+/// The name or the keyword at the beginning.
 pub fn word(bytes: &[u8]) -> (Piece, usize)
     requires { begins_name (slice_index bytes.now 0) ≡ true }
     ensures { IsFrontOf word_piece bytes.now result.1 result.0 }

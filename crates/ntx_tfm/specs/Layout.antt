@@ -1,4 +1,4 @@
--- The twelve lengths at the front of a TFM file, and the word at which each table begins ("TeX: The Program", sections 540 and 541): six
+-- The twelve lengths at the beginning of a TFM file, and the word at which each table begins ("TeX: The Program", sections 540 and 541): six
 -- words of lengths, the header, and the tables in the order of their lengths.
 use Rattle.std.specs.Prelude.{ℕ, ◌+◌, ◌-◌, ◌<◌, ◌≤◌, ◌*◌, Bool, ◌&&◌, nat_lt, nat_le, List, length}
 use Rattle.ntx_tfm.specs.declared.layout.Lengths.{Lengths}

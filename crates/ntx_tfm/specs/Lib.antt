@@ -2,7 +2,7 @@
 pub mod Each
 -- a file as numbers and words
 pub mod Words
--- the lengths at its front, and where each table begins
+-- the lengths at its beginning, and where each table begins
 pub mod Layout
 -- a fix_word times a size
 pub mod Scaling

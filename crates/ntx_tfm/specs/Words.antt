@@ -1,4 +1,4 @@
--- A TFM file as bytes: big-endian numbers of 16 bits at its front, and then words of four bytes ("TeX: The Program", sections 540 and 564).
+-- A TFM file as bytes: big-endian numbers of 16 bits at its beginning, and then words of four bytes ("TeX: The Program", sections 540 and 564).
 use Rattle.std.specs.Prelude.{ℕ, ◌+◌, ◌*◌, ◌/◌, ◌%◌, ℤ, List, drop, slice_index}
 use Rattle.byteorder.specs.Endian.{big_number, twos_complement}
 use Rattle.ntx_tfm.specs.declared.words.Quad.{Quad}

@@ -4,7 +4,7 @@ ghost use Rattle.std.specs.Prelude.{◌≡◌, ◌<◌, ◌≤◌, ◌+◌, leng
 
 use crate::words::half;
 
-/// The twelve numbers at the front of a TFM file ("TeX: The Program", section 540).
+/// The twelve numbers at the beginning of a TFM file ("TeX: The Program", section 540).
 #[derive(Clone, Copy)]
 pub struct Lengths {
     /// The length of the whole file, in words.

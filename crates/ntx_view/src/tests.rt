@@ -39,7 +39,7 @@ fn made(nodes: &mut PlainHeap, kind: Kind, fields: &[(Field, i64)]) -> Result<u6
     Ok(n)
 }
 
-/// Puts a node behind another, or into its field.
+/// Puts a node after another, or into its field.
 fn join(nodes: &mut PlainHeap, n: u64, field: Field, to: u64) -> Result<(), Fail<Trouble>> {
     match nodes.set(n, field, FieldValue::Link(Some(to))) {
         Ok(()) => Ok(()),

@@ -21,7 +21,7 @@ abbrev pub lowered : Entries → ℕ → ℕ → Value → Value
 lowered entries p m (Int (pos k)) = if nat_le p k && nat_lt k m then item_at entries (k + 1) else item_at entries k
 lowered entries p m key = value_at entries key
 
--- the values of a table were moved; nothing refuses that but want of memory
+-- the values of a table were moved; nothing refuses that but lack of memory
 abbrev pub Moves : Result (Unit {0}) (Fail LuaWhy) → StoreState → StoreState → TableId → (Value → Value) → Type 0
 Moves (Ok u) old new t value_of = new ≡ with_table old t (refilled value_of (table_of old t))
 Moves (Err (Is why)) old new t value_of = ⊥

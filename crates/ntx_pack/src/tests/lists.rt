@@ -27,7 +27,7 @@ pub fn small_font(alloc: Global) -> Result<Vec<u8>, AllocError> {
     Ok(out)
 }
 
-/// Puts a node behind another, or into its field.
+/// Puts a node after another, or into its field.
 pub fn join(nodes: &mut PlainHeap, n: u64, field: Field, to: u64) -> Result<(), Fail<Trouble>> {
     match nodes.set(n, field, FieldValue::Link(Some(to))) {
         Ok(()) => Ok(()),

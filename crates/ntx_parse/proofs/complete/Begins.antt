@@ -18,12 +18,12 @@ use Rattle.ntx_parse.proofs.complete.Comes.{Boundary, IsBad, too_deep, no_loop, 
 abbrev pub plain : List Placed → List Word
 plain placed = map (λ o. o.word) placed
 
--- Each is allowed, or at the boundary, or behind it.
+-- Each is allowed, or at the boundary, or after it.
 abbrev pub AreAllowedBefore : Boundary → List Placed → Type 0
 AreAllowedBefore boundary [] = ⊤
 AreAllowedBefore boundary (o ∷ words) = IsAllowedBefore boundary o (plain words) × AreAllowedBefore boundary words
 
--- ---- what can be behind a phrase
+-- ---- what can be after a phrase
 
 abbrev pub is_this : Terminal → Terminal → Bool
 is_this u t = same_terminal t u
@@ -103,7 +103,7 @@ taken_here words i allowed = rw (enough i allowed.nesting)
 pub begins_here : {p : Place} {t : Terminal} {o : Placed} → Is p t o → same_terminal o.word.is t ≡ true
 begins_here {p} {t} {o} i = same_when_equal o.word.is t i.is
 
--- At one that is not allowed and no `break` the reading stops, since it lies too deep.
+-- At one that is not allowed and no `break` the reading stops, since it is too deep.
 taken_bad : {p : Place} {t : Terminal} {o : Placed} (words : List Word) (reason : SyntaxWhy) → Is p t o → is_this terminal.Break t ≡ false → IsBad reason o
     → take_word p (o.word ∷ words) ≡ stopped reason (o.word ∷ words)
 taken_bad words _ i other (too_deep h) = rw (too_much i h)
@@ -118,7 +118,7 @@ expected_word : {boundary : Boundary} {p : Place} {t : Terminal} {o : Placed} {w
     → Comes boundary (o.word ∷ words) (λ n. expect_word p t (o.word ∷ words)) (read o.word words)
 expected_word {words = words} i other allowed = comes_if (λ n. stopped why.Expected _) (begins_here i) (comes_word i other allowed)
 
--- A word that is there is taken, and what is behind it is read.
+-- A word that is there is taken, and what is after it is read.
 pub comes_taken : {boundary : Boundary} {A : Type 0} {p : Place} {t : Terminal} {o : Placed} {words : List Word} {x : Answer A} (g : ℕ → Word → List Word → Answer A)
     → Is p t o → is_this terminal.Break t ≡ false → IsAllowedBefore boundary o words → Comes boundary words (λ n. g n o.word words) x
     → Comes boundary (o.word ∷ words) (λ n. and_then (take_word p (o.word ∷ words)) (g n)) x

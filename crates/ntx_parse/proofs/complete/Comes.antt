@@ -1,5 +1,5 @@
--- What readings come to, once the calls may lie deep enough. A word that is not allowed, since it lies too deep or is a `break` outside of any loop, is the
--- boundary: they stop at it, and what is behind it does not matter.
+-- What readings come to, once the calls may lie deep enough. A word that is not allowed, since it is too deep or is a `break` outside of any loop, is the
+-- boundary: they stop at it, and what is after it does not matter.
 --     IsBad reason o         the word is not allowed, for this reason
 --     IsAllowedBefore boundary o behind      the word, which has these behind it, is allowed and before the boundary, or not allowed and at the boundary, or behind the boundary
 --     Comes boundary words f x    the reading f of these words comes to x, or stops at the boundary if x is behind that
@@ -37,7 +37,7 @@ pub record Boundary : Type 0 where
   pub words : ℕ
   pub stop : Stop
 
--- The word, which has these behind it, is allowed and before the boundary, or not allowed and at the boundary, or behind the boundary.
+-- The word, which has these after it, is allowed and before the boundary, or not allowed and at the boundary, or after the boundary.
 pub data IsAllowedBefore (boundary : Boundary) (o : Placed) (behind : List Word) : Type 0 where
   is_allowed : boundary.words ≤ length behind → IsAllowed o → IsAllowedBefore boundary o behind
   is_bad : {reason : SyntaxWhy} → boundary.words ≡ 1 + length behind → IsBad reason o → boundary.stop ≡ record { why = reason; words = o.word ∷ behind }
@@ -56,7 +56,7 @@ rest_of (Some (Ok found)) = found.1
 abbrev pub cut : {A : Type 0} → Boundary → Answer A → Answer A
 cut boundary x = if nat_le boundary.words (length (rest_of x)) then x else Some (Err boundary.stop)
 
--- From some depth on the reading of these words is this, or the stop at the boundary. Nothing is said of it where they all are behind the boundary.
+-- From some depth on the reading of these words is this, or the stop at the boundary. Nothing is said of it where they all are after the boundary.
 pub record Comes (boundary : Boundary) {A : Type 0} (words : List Word) (f : ℕ → Answer A) (x : Answer A) : Type 0 where
   pub from : ℕ
   pub shorter : length (rest_of x) ≤ length words
@@ -101,7 +101,7 @@ then_is {words = words} boundary x next false behind e shorter more =
     let less : length words < boundary.words = leb-false boundary.words (length words) behind in
     ap (λ z. and_then z next) e ∙ sym (cut_behind boundary x (omega arith))
 
--- One reading, and another behind it.
+-- One reading, and another after it.
 pub comes_then : {boundary : Boundary} {A B : Type 0} {words behind : List Word} {f : ℕ → Answer A} {a : A} {x : Answer B} (g : ℕ → A → List Word → Answer B)
     → Comes boundary words f (read a behind) → Comes boundary behind (λ n. g n a behind) x → Comes boundary words (λ n. and_then (f n) (g n)) x
 comes_then {boundary} {behind = behind} {x = x} g c d = record {

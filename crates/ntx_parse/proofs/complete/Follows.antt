@@ -1,4 +1,4 @@
--- What can stand behind phrases, and what they begin with.
+-- What can stand after phrases, and what they begin with.
 use Rattle.std.specs.Prelude.{◌≡◌, nat_eq, nat_lt, Bool, true, false, not, ◌&&◌, Option, None, Some}
 use Rattle.std.proofs.Common.{refl}
 use Rattle.ntx_syntax.specs.declared.tree.BinaryOp.{BinaryOp}
@@ -53,7 +53,7 @@ abbrev pub ends_exps : Terminal → Bool
 ends_exps terminal.Comma = false
 ends_exps t = ends_exp precedence.Or t
 
--- what stands behind the arms of an `if`
+-- what stands after the arms of an `if`
 abbrev pub ends_arms : Terminal → Bool
 ends_arms terminal.Else = true
 ends_arms terminal.End = true

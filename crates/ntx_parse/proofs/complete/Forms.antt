@@ -1,4 +1,4 @@
--- What is proved of each phrase that derives: what the reading of it comes to, up to the boundary, and what is known of the words behind it.
+-- What is proved of each phrase that derives: what the reading of it comes to, up to the boundary, and what is known of the words after it.
 use Rattle.std.specs.Prelude.{◌≡◌, ℕ, List, [], ◌∷◌, ◌++◌, Some}
 use Rattle.std.proofs.Common.{sym, ap, append_assoc, append-nil}
 use Rattle.ntx_syntax.specs.declared.tree.Block.{Block}
@@ -18,7 +18,7 @@ use Rattle.ntx_parse.specs.inner.Reading.{Answer, read, readers, read_prefix, re
 use Rattle.ntx_parse.proofs.complete.Begins.{plain, AreAllowedBefore}
 use Rattle.ntx_parse.proofs.complete.Comes.{Boundary, Comes}
 
--- The reading of these words comes to this, and each of the words that it leaves is allowed, or at the boundary, or behind it.
+-- The reading of these words comes to this, and each of the words that it leaves is allowed, or at the boundary, or after it.
 pub record Done (boundary : Boundary) {A : Type 0} (words : List Word) (f : ℕ → Answer A) (a : A) (rest : List Placed) : Type 0 where
   pub comes : Comes boundary words f (read a (plain rest))
   pub allowed : AreAllowedBefore boundary rest
@@ -28,7 +28,7 @@ pub record ListDone (boundary : Boundary) {A : Type 0} (words : List Word) (f : 
   pub comes : (before : List A) → Comes boundary words (λ n. f n before) (read (before ++ all) (plain rest))
   pub allowed : AreAllowedBefore boundary rest
 
--- What is behind the first in a list that has commas between.
+-- What is after the first in a list that has commas between.
 pub record RestDone (boundary : Boundary) {A : Type 0} (words : List Word) (first : ℕ → Answer A) (others : ℕ → List A → List Word → Answer (List A)) (all : List A) (rest : List Placed) : Type 0 where
   pub one : A
   pub behind : List Word
@@ -36,7 +36,7 @@ pub record RestDone (boundary : Boundary) {A : Type 0} (words : List Word) (firs
   pub tail : (before : List A) → Comes boundary behind (λ n. others n (before ++ one ∷ []) behind) (read (before ++ all) (plain rest))
   pub allowed : AreAllowedBefore boundary rest
 
--- A statement is read, and then those behind it.
+-- A statement is read, and then those after it.
 pub record StatDone (boundary : Boundary) (p : Place) (s : Stat) (words : List Word) (rest : List Placed) : Type 0 where
   pub goes_on : {x : Answer (List Stat)} (before : List Stat) → Comes boundary (plain rest) (λ n. (readers n).stats p (before ++ s ∷ []) (plain rest)) x
       → Comes boundary words (λ n. (readers n).stats p before words) x

@@ -1,4 +1,4 @@
--- Which words name a field: an expression in front of them is none that begins so.
+-- Which words name a field: an expression before them is none that begins so.
 use Rattle.std.specs.Prelude.{◌≡◌, nat_eq, false, List, ◌∷◌}
 use Rattle.std.proofs.Common.{refl}
 use Rattle.std.proofs.lemmas.Bool.{and_left, and_right}

@@ -57,7 +57,7 @@ names_done (more_names {n = n} {c = c} {names = names} {words = words} {rest = r
       allowed = others.allowed;
     }
 
--- Behind the first of some names stands a comma, or what stands behind them all.
+-- After the first of some names stands a comma, or what stands after them all.
 pub behind_first : (boundary : Boundary) {p : Place} {names : List LocalName} {words rest : List Placed} (u : Terminal) (d : IsNames p names words rest) (allowed : AreAllowedBefore boundary words)
     (h : begins terminal.Comma (plain rest) ≡ false) → same_terminal terminal.Comma u ≡ false → begins u (plain rest) ≡ false
     → begins u (names_done d allowed h).behind ≡ false

@@ -1,4 +1,4 @@
--- Operators in front of words.
+-- Operators before words.
 use Rattle.std.specs.Prelude.{◌≡◌, ◌≤◌, ◌<◌, ℕ, nat_eq, nat_lt, Bool, true, false, not, List, [], ◌∷◌, Option, None, Some}
 use denote.Enum.Bare.{true_same, false_same}
 use Rattle.std.proofs.Common.{refl, sym, ap, ◌∙◌, arith, true≢false, lt-ltb, ltb-true, ltb-false, eq-eqb, eqb-true}
@@ -69,7 +69,7 @@ not_of_precedence at None h = refl
 not_of_precedence at (Some op) h = cond-false (same_precedence (binary_precedence op) at) (Some op) None
     (other_precedence (binary_precedence op) at (ltb-true (rank (binary_precedence op)) (rank at) h))
 
--- Behind an expression stands no operator of its precedence.
+-- After an expression stands no operator of its precedence.
 pub no_operator_at : (at : Precedence) (words : List Placed) → Follows (ends_exp at) words → operator_at at (plain words) ≡ None
 no_operator_at at [] h = refl
 no_operator_at at (o ∷ words) h =

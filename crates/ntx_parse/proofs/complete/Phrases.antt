@@ -1,4 +1,4 @@
--- Each phrase that derives is read, up to the boundary, where its words before the boundary are allowed and what ends it stands behind it.
+-- Each phrase that derives is read, up to the boundary, where its words before the boundary are allowed and what ends it stands after it.
 use Rattle.std.specs.Prelude.{◌≡◌, Bool, true, false, List, Option}
 use Rattle.std.proofs.Common.{refl, ap, ◌∙◌, subst}
 use Rattle.ntx_syntax.specs.declared.tree.Block.{Block}
@@ -34,7 +34,7 @@ use Rattle.ntx_parse.proofs.complete.Kinds.{KindDone, assignment_done, called_do
 use Rattle.ntx_parse.proofs.complete.Statements.{empty_done, break_done, do_done, while_done, repeat_done, ArmDone, arm_done, ArmsDone, no_arms_done, more_arms_done, ElseDone, no_else_done, else_done, if_done, StepDone, no_step_done, step_done, numeric_for_done, generic_for_done, BodyDone, function_stat_done, local_function_done, locals_done}
 use Rattle.ntx_parse.proofs.complete.Blocks.{stat_done, StatsDone, no_stats_done, more_stats_done, ReturnedDone, returns_nothing_done, returns_done, LastDone, no_return_done, last_return_done, block_done}
 
--- ---- what stands behind
+-- ---- what stands after
 
 concat_follows : {p : Place} {o : Placed} (at : Precedence) → at ≡ precedence.Concat → Is p terminal.DoubleDot o → ends_exp (tighter at) o.word.is ≡ true
 concat_follows {p} {o} at is i = ap (λ k. ends_exp (tighter k) o.word.is) is ∙ passes (ends_exp (tighter precedence.Concat)) i refl

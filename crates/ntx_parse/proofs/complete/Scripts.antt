@@ -69,7 +69,7 @@ one_tree words a b first second =
 
 -- ---- words that are not all allowed
 
--- the boundary at this word, which has these behind it and is not allowed for this reason
+-- the boundary at this word, which has these after it and is not allowed for this reason
 abbrev bar_at : Placed → List Placed → SyntaxWhy → Boundary
 bar_at o behind reason = record { words = length (plain (o ∷ behind)); stop = record { why = reason; words = plain (o ∷ behind) } }
 
@@ -98,7 +98,7 @@ stops_at_bad front o behind reason chunk allowed bad derives =
 
 -- ---- the first word that is not allowed
 
--- The first of the words that is not allowed, with those before it and behind it, and the reason why it is not.
+-- The first of the words that is not allowed, with those before it and after it, and the reason why it is not.
 pub record FirstBad (placed : List Placed) : Type 0 where
   pub front : List Placed
   pub first : Placed

@@ -1,4 +1,4 @@
--- What the words of a phrase begin with, and what can stand behind the phrase before it.
+-- What the words of a phrase begin with, and what can stand after the phrase before it.
 use Rattle.std.specs.Prelude.{◌≡◌, Bool, true, false, List, Option}
 use Rattle.std.proofs.Common.{refl}
 use Rattle.ntx_syntax.specs.declared.tree.Block.{Block}
@@ -105,7 +105,7 @@ kind_starts (locals l names es) = passes begins_statement l refl
 pub stat_starts : {p : Place} {s : Stat} {words rest : List Placed} → IsStat p s words rest → Starts begins_statement words
 stat_starts (statement kind) = kind_starts kind
 
--- ---- what stands behind
+-- ---- what stands after
 
 pub stats_follow : {p : Place} {ss : List Stat} {words rest : List Placed} → IsStats p ss words rest → Follows ends_stats rest → Follows ends_stat words
 stats_follow no_stats h = follows_also ends_stats ends_stat stats_end_stat _ h

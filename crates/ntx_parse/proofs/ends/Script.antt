@@ -1,6 +1,6 @@
 -- The reading of a script ends, so that each script has a tree or a fault.
--- Between two words that are taken, the calls for an expression lie in one another as deep as there are precedences, and two more are those of the fields
--- of a table and of a block. So for each word that is left it is enough if 13 calls may lie in one another.
+-- Between two words that are taken, the calls for an expression are inside one another as deep as there are precedences, and two more are those of the fields
+-- of a table and of a block. So for each word that is left it is enough if 13 calls may be inside one another.
 --     script_ends     a script is read or stops, with calls that may lie deep enough
 --     decided         so it has a tree or a fault
 use Rattle.std.specs.Prelude.{◌≡◌, ◌<◌, ◌≤◌, ℕ, zero, suc, ◌+◌, ◌*◌, ◌||◌, List, [], ◌∷◌, length, Option, Some, Result, Ok, Err}
@@ -36,7 +36,7 @@ use Rattle.ntx_parse.proofs.faults.Refused.{refused_with_line}
 use Rattle.ntx_parse.proofs.sound.Scripts.{sound_script}
 use Rattle.ntx_parse.proofs.WordValues.{words_have_values}
 
--- The readings end if so many calls may lie in one another: at k words at most each has a number that is enough.
+-- The readings end if so many calls may be inside one another: at k words at most each has a number that is enough.
 record Handles (r : Readers) (n : ℕ) : Type 0 where
   pub block : (p : Place) (words : List Word) (k : ℕ) → length words < suc k → 13 * k + 2 ≤ n → Ends (suc k) (r.block p words)
   pub stats : (p : Place) (before : List Stat) (words : List Word) (k : ℕ) → length words < suc k → 13 * k + 1 ≤ n → Ends (suc k) (r.stats p before words)

@@ -52,13 +52,13 @@ split (w ∷ placed) (o ∷ front) behind e =
     let same : w.word ≡ o = cc in
     record { first = w ∷ rest.first; second = rest.second; is = ap (λ l. w ∷ l) rest.is; spells = ap₂ (λ one l. one ∷ l) same rest.spells }
 
--- Where words can stand at the front of a script, so can the first of them.
+-- Where words can stand at the beginning of a script, so can the first of them.
 stands_less : (front behind : List Word) (placed : List Placed) → plain placed ≡ front ++ behind → CanBegin placed → CannotStand front → ⊥
 stands_less front behind placed e begin none =
     let parts = split placed front behind e in
     none parts.first parts.spells (begins_less parts.first parts.second (subst CanBegin parts.is begin))
 
--- ---- where one list of words goes on behind another
+-- ---- where one list of words goes on after another
 
 data Order (f g b c : List Word) : Type 0 where
   together : f ≡ g → b ≡ c → Order f g b c
@@ -80,7 +80,7 @@ order (o ∷ f) (u ∷ g) b c e =
 
 -- ---- a word that is not allowed
 
--- A word is not allowed at this place, behind words that are, and together they can stand at the front of a script.
+-- A word is not allowed at this place, after words that are, and together they can stand at the beginning of a script.
 record IsBarred (front : List Word) (o : Word) (reason : SyntaxWhy) : Type 0 where
   pub placed : List Placed
   pub place : Place
@@ -121,7 +121,7 @@ whole_stops e = cc
 same_stop : {stop other : Stop} → ◌≡◌ {A = Result (Block × List Word) Stop} (Err stop) (Err other) → stop ≡ other
 same_stop e = stop-injective (ap (λ x. Some x) e)
 
--- No words that go on behind it are all allowed.
+-- No words that go on after it are all allowed.
 none_fine : {front : List Word} {o : Word} {reason : SyntaxWhy} → IsBarred front o reason → (placed others : List Placed) (middle : List Word) (chunk : Chunk)
     → IsChunk chunk (placed ++ others) → AllByRecursion IsAllowed placed → plain placed ≡ front ++ o ∷ middle → ⊥
 none_fine {front} {o} {reason} s placed others middle chunk derives allowed e =
@@ -159,7 +159,7 @@ fault_there _ front s behind h = absurd h
 fault_of : {reason : SyntaxWhy} {words behind : List Word} → (r : IsRefusedAt reason words behind) → IsFault r.front reason behind
 fault_of {reason} {behind = behind} r = fault_there reason r.front r.stand behind r.wrong
 
--- No words that go on behind the fault stand.
+-- No words that go on after the fault stand.
 none_stand : {front longer : List Word} {reason : SyntaxWhy} {o : Word} {behind : List Word} (middle : List Word) → IsFault front reason (o ∷ behind) → Stand longer
     → longer ≡ front ++ o ∷ middle → ⊥
 none_stand {front} {o = o} middle (no_word none) s e =

@@ -14,21 +14,21 @@ use Rattle.ntx_parse.specs.inner.Reading.{Answer, Stop, read, stopped, and_then,
 use Rattle.ntx_parse.proofs.complete.Begins.{plain}
 use Rattle.ntx_parse.proofs.TerminalLemmas.{other_terminal, begins-is}
 
--- A relation of a tree, the placed words at whose front it stands, and those behind it.
+-- A relation of a tree, the placed words at whose beginning it stands, and those after it.
 abbrev pub Phrase : Type 0 → Type 1
 Phrase A = A → List Placed → List Placed → Type 0
 
 abbrev pub AreAllowed : List Placed → Type 0
 AreAllowed placed = AllByRecursion IsAllowed placed
 
--- The words can be placed before these, so that the phrase stands at their front and they are allowed where these are.
+-- The words can be placed before these, so that the phrase stands at their beginning and they are allowed where these are.
 pub record IsSpelled {A : Type 0} (D : Phrase A) (words : List Word) (x : A) (behind : List Placed) : Type 0 where
   pub placed : List Placed
   pub words_are : plain placed ≡ words
   pub derives : D x placed behind
   pub allowed : AreAllowed behind → AreAllowed placed
 
--- What is read from these words, if anything is, stands at their front.
+-- What is read from these words, if anything is, stands at their beginning.
 pub record IsSound {A : Type 0} (D : Phrase A) (words : List Word) (answer : Answer A) : Type 0 where
   pub holds : (x : A) (behind : List Placed) → answer ≡ read x (plain behind) → IsSpelled D words x behind
 
@@ -43,7 +43,7 @@ not_read stop e = absurd cc
 nothing_read : {A : Type 0} {X : Type 0} {found : A × List Word} → ◌≡◌ {A = Answer A} None (Some (Ok found)) → X
 nothing_read e = absurd cc
 
--- What is read behind a part comes from what the part is and what is behind it.
+-- What is read after a part comes from what the part is and what is after it.
 pub parts_read : {A B : Type 0} (a : Answer A) (next : A → List Word → Answer B) (y : B) (rest : List Word) → and_then a next ≡ read y rest → (x : A) × (middle : List Word) × (a ≡ read x middle) × (next x middle ≡ read y rest)
 parts_read None next y rest e = nothing_read e
 parts_read (Some (Err stop)) next y rest e = not_read stop e
@@ -80,7 +80,7 @@ module _ {A : Type 0} {D : Phrase A} {words : List Word} where
         record { placed = found.placed; words_are = found.words_are; derives = f x found.placed behind found.derives; allowed = found.allowed };
   }
 
--- Behind a part that is this, what completes it to this phrase.
+-- After a part that is this, what completes it to this phrase.
 abbrev pub Completes : {A B : Type 0} → Phrase A → A → Phrase B → Phrase B
 Completes D x F = λ y placed behind. (start : List Placed) → D x start placed → F y start behind
 
@@ -99,7 +99,7 @@ sound_then {D = D} {a = a} {next = next} h g = record {
       };
 }
 
--- Nothing is read where what comes behind always stops.
+-- Nothing is read where what comes after always stops.
 pub sound_never : {A B : Type 0} {F : Phrase B} {words : List Word} (a : Answer A) (next : A → List Word → Answer B) → ((x : A) (rest : List Word) → (stop : Stop) × (next x rest ≡ Some (Err stop))) → IsSound F words (and_then a next)
 sound_never a next h = record {
   holds = λ y behind e.

@@ -1,4 +1,4 @@
--- Phrases between those of the grammar: lists behind their first part, prefixes by their last part, and runs that go on.
+-- Phrases between those of the grammar: lists after their first part, prefixes by their last part, and runs that go on.
 use Rattle.std.proofs.Common.{◌≡◌, ℕ, List, [], ◌∷◌, ◌++◌, sym, ◌∙◌, subst, append_assoc, append-nil}
 use Rattle.ntx_syntax.specs.declared.tree.LocalName.{LocalName}
 use Rattle.ntx_syntax.specs.declared.tree.Var.{Var}
@@ -29,7 +29,7 @@ pub data IsLocalName : Place → LocalName → List Placed → List Placed → T
 
 -- ---- lists
 
--- These parts, and behind them such a list.
+-- These parts, and after them such a list.
 pub record IsBehind {A : Type 0} (before : List A) (D : Phrase (List A)) (all : List A) (words rest : List Placed) : Type 0 where
   pub others : List A
   pub all_are : all ≡ before ++ others

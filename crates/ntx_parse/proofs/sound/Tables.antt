@@ -59,7 +59,7 @@ pub data IsBraced : Place → List Field → List Placed → List Placed → Typ
 pub table_read : {p : Place} {o c : Word} {fields : List Field} {words inner close rest : List Placed} → IsTaken p terminal.LeftBrace o words inner → IsBehind [] (IsFields p) fields inner close → IsTaken p terminal.RightBrace c close rest → IsBraced p fields words rest
 table_read (word_taken open_) fields (word_taken closed) = in_braces open_ (behind_none fields) closed
 
--- where one of two words is at the front
+-- where one of two words is at the beginning
 sound_either : {A : Type 0} {D : Phrase A} {words : List Word} {one other : Answer A} (a b : Bool) → (a ≡ true → IsSound D words one) → (b ≡ true → IsSound D words one) → IsSound D words other → IsSound D words (cond (a || b) one other)
 sound_either true b h g k = h refl
 sound_either false true h g k = g refl

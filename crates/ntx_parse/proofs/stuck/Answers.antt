@@ -57,7 +57,7 @@ pub data IsWrongWord : SyntaxWhy → List Word → List Placed → Type 0 where
   too_deep : {o : Word} {behind : List Word} {p : Place} → max_nesting < p.nesting → IsWrongWord why.Depth (o ∷ behind) (at_place o p ∷ [])
   no_loop : {o : Word} {behind : List Word} {p : Place} → p.nesting ≤ max_nesting → o.is ≡ terminal.Break → p.in_loop ≡ false → IsWrongWord why.Break (o ∷ behind) (at_place o p ∷ [])
 
--- The words before the stop have places at which they can be completed, together with the word of the stop if it lies too deep there or is a `break`.
+-- The words before the stop have places at which they can be completed, together with the word of the stop if it is too deep there or is a `break`.
 pub record IsStuck {A : Type 0} (b c : Ends) (D : Phrase A) (words : List Word) (s : Stop) : Type 0 where
   pub front : List Placed
   pub words_are : words ≡ plain front ++ s.words
@@ -98,7 +98,7 @@ pub allowed_twice : (one two : List Placed) → AreAllowed one → AreAllowed tw
 allowed_twice [] two f g = g
 allowed_twice (o ∷ one) two f g = (f.0, allowed_twice one two f.1 g)
 
--- ---- one reading, and behind it another
+-- ---- one reading, and after it another
 
 module _ {A B : Type 0} {b m c : Ends} {D : Phrase A} {F : Phrase B} where
   pub whole_then : (w : HasPhrase b m D) → HasPhrase m c (Completes D w.tree F) → HasPhrase b c F

@@ -42,7 +42,7 @@ nil_phrase p = record {
 no_value : {X : Type 0} (found : Option X) → IsSome found → found ≡ None → ⊥
 no_value found is none = false≢true (sym (ap is_some none) ∙ is)
 
--- A word that has a value: it stands for this, or it does not lie too deep.
+-- A word that has a value: it represents this, or it does not lie too deep.
 viable_value : {X : Type 0} (p : Place) (o : Word) (words : List Word) (f : X → Exp) (value : List ℕ → Option X) (found : Option X) (fits : Bool) → value o.spelled ≡ found → nat_le p.nesting max_nesting ≡ fits → (o.is ≡ terminal.Break → ⊥) → (EachHasValue (o ∷ words) → IsSome (value o.spelled)) → ((x : X) → value o.spelled ≡ Some x → IsWordOf (IsSimple p) o p (f x)) → IsViable no_call no_call (IsSimple p) (o ∷ words) (and_then (cond fits (read o words) (stopped why.Depth (o ∷ words))) (λ n rest. read_value f (value n.spelled) (o ∷ words) rest))
 viable_value p o words f value None true e fits other has h = subst (λ x. IsViable no_call no_call (IsSimple p) (o ∷ words) (read_value f x (o ∷ words) words)) (sym e) (viable_stopped (nil_phrase p))
 viable_value p o words f value (Some x) true e fits other has h = subst (λ x. IsViable no_call no_call (IsSimple p) (o ∷ words) (read_value f x (o ∷ words) words)) (sym e) (viable_one p o words (nil_phrase p) (record { nesting = leb-true p.nesting max_nesting fits; in_loop = λ breaks. absurd (other breaks) }) (h x e))

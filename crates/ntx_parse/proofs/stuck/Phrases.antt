@@ -16,7 +16,7 @@ use Rattle.ntx_parse.specs.inner.Reading.{Readers}
 use Rattle.ntx_parse.proofs.sound.Phrases.{IsBehind, IsMoreNames, IsMoreExps, IsMoreVars, IsLonger, IsOperated}
 use Rattle.ntx_parse.proofs.stuck.Answers.{any_words, no_call, IsViable}
 
--- Only a path stands in front of a parenthesis.
+-- Only a path stands before a parenthesis.
 pub record AreViable (r : Readers) : Type 0 where
   pub block : (p : Place) (words : List Word) → IsViable no_call no_call (IsBlock p) words (r.block p words)
   pub stats : (p : Place) (before : List Stat) (words : List Word) → IsViable no_call no_call (IsBehind before (IsStats p)) words (r.stats p before words)

@@ -34,7 +34,7 @@ empty_phrase p = record {
   begins = λ behind _. refl;
 }
 
--- A `break` outside of any loop: it lies too deep, or is wrong there.
+-- A `break` outside of any loop: it is too deep, or is wrong there.
 viable_break_outside : (p : Place) (o : Word) (words : List Word) (fits : Bool) → nat_le p.nesting max_nesting ≡ fits → p.in_loop ≡ false → o.is ≡ terminal.Break → IsViable no_call no_call (IsKind p) (o ∷ words) (and_then (cond fits (read o words) (stopped why.Depth (o ∷ words))) (λ _ rest. stopped why.Break (o ∷ words)))
 viable_break_outside p o words true fits outside is = viable_wrong p o words (empty_phrase p) refl (no_loop (leb-true p.nesting max_nesting fits) is outside) (λ _. (stat.Break, λ behind. grammar.break (record { is = is; place = refl })))
 viable_break_outside p o words false fits outside is = viable_wrong p o words (empty_phrase p) refl (too_deep (leb-false p.nesting max_nesting fits)) (λ _. (stat.Break, λ behind. grammar.break (record { is = is; place = refl })))

@@ -16,7 +16,7 @@ use Rattle.ntx_parse.proofs.stuck.Phrases.{AreViable}
 use Rattle.ntx_parse.proofs.stuck.Lists.{viable_name, viable_read_names}
 use Rattle.ntx_parse.proofs.stuck.Prefixes.{viable_index}
 
--- where one of two words is at the front
+-- where one of two words is at the beginning
 viable_either : {A : Type 0} {b c : Ends} {D : Phrase A} {words : List Word} {one other : Answer A} (first second : Bool) → (first ≡ true → IsViable b c D words one) → (second ≡ true → IsViable b c D words one) → IsViable b c D words other → IsViable b c D words (cond (first || second) one other)
 viable_either true second h g k = h refl
 viable_either false true h g k = g refl

@@ -90,7 +90,7 @@ module _ {A : Type 0} {D : Phrase A} where
   viable_if true h g = h refl
   viable_if false h g = g refl
 
-  -- What is a phrase in front of any words is one in front of these.
+  -- What is a phrase before any words is one before these.
   pub opened : {b c : Ends} {words : List Word} {answer : Answer A} → IsViable b c D words answer → IsViable any_words c D words answer
   opened h = record {
     whole = record { others = h.whole.others; tree = h.whole.tree; derives = h.whole.derives; begins = λ _ _. tt };
@@ -167,7 +167,7 @@ viable_taken c p t words other none h = viable_taken_where c p t words (no_break
 pub viable_expected : (c : Ends) (p : Place) (t : Terminal) (words : List Word) → IsOther t → IsNoCall t → IsViable no_call c (IsTaken p t) words (expect_word p t words)
 viable_expected c p t words other none = viable_if (begins t words) (λ h. viable_taken c p t words other none h) (λ _. viable_stopped (taken_phrase no_call p t none))
 
--- an opening parenthesis, behind any words
+-- an opening parenthesis, after any words
 pub viable_open : (c : Ends) (p : Place) (words : List Word) → IsViable any_words c (IsTaken p terminal.LeftParenthesis) words (expect_word p terminal.LeftParenthesis words)
 viable_open c p words =
     let w : HasPhrase any_words c (IsTaken p terminal.LeftParenthesis) = taken_phrase any_words p terminal.LeftParenthesis tt in

@@ -1,4 +1,4 @@
--- An expression that begins with a name which lies too deep: its reading stops at the name, or tells nothing since its calls are too few.
+-- An expression that begins with a name which is too deep: its reading stops at the name, or tells nothing since its calls are too few.
 --     StopsDeep words a    the answer is that the reading stops before these words, of which the first lies too deep, or it is nothing
 --     AreDeep r            these readings answer so
 --     deep_name            the name alone

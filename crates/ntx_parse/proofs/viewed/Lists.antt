@@ -19,8 +19,8 @@ use Rattle.ntx_parse.specs.inner.Reading.{Readers, read_name, read_local_name, p
 use Rattle.ntx_parse.proofs.viewed.DeepNames.{AreDeep}
 use Rattle.ntx_parse.proofs.viewed.Views.{View, Situation, lost, At, Goes, goes_read, goes_then, goes_where, goes_taken, goes_expected}
 
--- Each reading of the first tells what that of the second tells. An expression that begins with a name behind which nothing is looked at takes it; where it
--- lies too deep, both stop at it or tell nothing.
+-- Each reading of the first tells what that of the second tells. An expression that begins with a name after which nothing is looked at takes it; where it
+-- is too deep, both stop at it or tell nothing.
 pub record Go (V : View) (r other : Readers) : Type 0 where
   pub block : (p : Place) {s : Situation} {words others : List Word} → At V s words others → Goes V s (r.block p words) (other.block p others)
   pub stats : (p : Place) (before : List Stat) {s : Situation} {words others : List Word} → At V s words others

@@ -50,7 +50,7 @@ stopped_words : {A : Type 0} {stop : Stop} {reason : SyntaxWhy} {words : List Wo
     → stop.words ≡ words
 stopped_words e = cc
 
--- Where the first reading stops, and behind the word where it stops come all of those, the second stops too.
+-- Where the first reading stops, and after the word where it stops come all of those, the second stops too.
 pub stops_as_well : {A : Type 0} (those these words : List Word) (reason : SyntaxWhy) (a b : Answer A) → Tells (up_to those these) alike a b
     → a ≡ stopped reason words → length those < length words → StopsToo those these words reason b
 unfolding up_to

@@ -1,4 +1,4 @@
--- Two readings side by side: expressions that begin with a name which does not lie too deep, and behind which nothing is looked at.
+-- Two readings side by side: expressions that begin with a name which does not lie too deep, and after which nothing is looked at.
 use Rattle.std.proofs.Common.{◌≡◌, true, nat_eq, nat_le, List, [], ◌∷◌, sym, ap, subst}
 use Rattle.ntx_syntax.specs.Terminals.{same_terminal}
 use Rattle.ntx_parse.specs.declared.part.Part.TheVariants as part

@@ -1,4 +1,4 @@
--- Two readings side by side: tables, and a name behind which nothing is looked at.
+-- Two readings side by side: tables, and a name after which nothing is looked at.
 use Rattle.std.proofs.Common.{◌≡◌, ℕ, Bool, true, false, ◌||◌, ◌&&◌, nat_eq, nat_le, cond, List, [], ◌∷◌, ◌++◌, refl, ap, ap₂}
 use Rattle.ntx_syntax.specs.declared.tree.Field.{Field}
 use Rattle.ntx_syntax.specs.declared.tree.Field.TheVariants as field
@@ -22,12 +22,12 @@ module _ {V : View} (p : Place) (o : Word) (words : List Word) (h : V.Lost words
   lost_if false named next other e fits g = absurd cc
   lost_if fits false next other e _ g = absurd cc
 
-  -- A name in front of what is lost is taken, if it does not lie too deep.
+  -- A name before what is lost is taken, if it does not lie too deep.
   pub lost_name : same_terminal o.is terminal.Name ≡ true → nat_le p.nesting max_nesting ≡ true
       → Goes V lost (read_name p (o ∷ words)) (read_name p (o ∷ words))
   lost_name e fits = lost_if (nat_le p.nesting max_nesting) (same_terminal o.is terminal.Name) _ _ e fits (λ rest l. goes_read (at_lost l))
 
--- Both readings stop at a name that lies too deep, or tell nothing.
+-- Both readings stop at a name that is too deep, or tell nothing.
 goes_deep : {A : Type 0} {V : View} {words others : List Word} {a b : Answer A} → V.Alike words others → V.CanBeShort → StopsDeep words a → StopsDeep others b
     → Goes V alike a b
 goes_deep same short tells_nothing d = goes_nothing
@@ -41,7 +41,7 @@ keyed_by r p words =
     and_then (expect_word p terminal.Assign behind) (λ _ second.
     and_then (r.exp p precedence.Or second) (λ value rest. read (field.Keyed key value) rest)))
 
--- = exp, behind a name
+-- = exp, after a name
 abbrev value_of : Readers → Place → List ℕ → List Word → Answer Field
 value_of r p name words =
     and_then (expect_word p terminal.Assign words) (λ _ second. and_then (r.exp p precedence.Or second) (λ value rest. read (field.Named name value) rest))
@@ -57,7 +57,7 @@ positional_by r p words = and_then (r.exp p precedence.Or words) (λ value rest.
 abbrev named_or_positional : Readers → Place → Bool → List Word → Answer Field
 named_or_positional r p named words = cond named (named_by r p words) (positional_by r p words)
 
--- A name that lies too deep is not taken, be it that of a field or the beginning of a value.
+-- A name that is too deep is not taken, be it that of a field or the beginning of a value.
 deep_field : {r : Readers} → AreDeep r → (p : Place) (o : Word) (words : List Word) (test : Bool) → same_terminal o.is terminal.Name ≡ true
     → nat_le p.nesting max_nesting ≡ false → StopsDeep (o ∷ words) (named_or_positional r p test (o ∷ words))
 deep_field {r} d p o words true e deep = deep_then (λ name behind. value_of r p name behind) (deep_name p o words e deep)
@@ -83,13 +83,13 @@ module _ {V : View} {r other : Readers} (g : Go V r other) where
       → Goes V s (positional_by r p words) (positional_by other p others)
   goes_positional p h = goes_then (g.exp p precedence.Or h) (λ value _ _ _ h. goes_read h)
 
-  -- Whether the name in front of what is lost is that of a field or begins a value, it is taken.
+  -- Whether the name before what is lost is that of a field or begins a value, it is taken.
   lost_field : (p : Place) (o : Word) (words : List Word) (test : Bool) {s : Situation} {c : Answer Field} → same_terminal o.is terminal.Name ≡ true
       → nat_le p.nesting max_nesting ≡ true → V.Lost words → Goes V s (named_or_positional r p test (o ∷ words)) c
   lost_field p o words true e fits l = goes_lost (goes_then (lost_name p o words l e fits) (λ name _ _ _ h. goes_value_of p name h))
   lost_field p o words false e fits l = goes_lost (goes_then (g.named p precedence.Or o words e fits l) (λ value _ _ _ h. goes_read h))
 
-  -- What it is shows behind it, and is not the same in both readings. If it lies too deep they stop at it all the same.
+  -- What it is shows after it, and is not the same in both readings. If it is too deep they stop at it all the same.
   field_with_name : (p : Place) (o : Word) {words others : List Word} (fits : Bool) (one two : Bool) → nat_le p.nesting max_nesting ≡ fits
       → same_terminal o.is terminal.Name ≡ true → V.Alike (o ∷ words) (o ∷ others) → V.Lost words
       → Goes V alike (named_or_positional r p one (o ∷ words)) (named_or_positional other p two (o ∷ others))

@@ -12,15 +12,15 @@ use Rattle.ntx_parse.specs.Words.{Word}
 use Rattle.ntx_parse.specs.Grammar.{max_nesting}
 use Rattle.ntx_parse.specs.inner.Reading.{Answer, Stop, read, stopped, and_then, begins, take_word, expect_word}
 
--- Words that begin alike: both are none, or they have the same first word, behind which they are lost or alike.
+-- Words that begin alike: both are none, or they have the same first word, after which they are lost or alike.
 pub data Begin (Lost : List Word → Type 0) (Alike : List Word → List Word → Type 0) : List Word → List Word → Type 0 where
   both_end : Begin Lost Alike [] []
   then_lost : {o : Word} {words others : List Word} → Lost words → Begin Lost Alike (o ∷ words) (o ∷ others)
   then_alike : {o : Word} {words others : List Word} → Alike words others → Begin Lost Alike (o ∷ words) (o ∷ others)
 
 -- `Lost words`: what is told before these words is of no interest. `Alike words others`: one of the readings stands before these words, and the other before
--- those. Where the words behind a name are lost, one may take it for the name of a field and the other for the beginning of an expression. `CanBeShort`: if it
--- lies too deep, so that both are to stop at it, the second may tell nothing, since its calls are too few for an expression.
+-- those. Where the words after a name are lost, one may take it for the name of a field and the other for the beginning of an expression. `CanBeShort`: if it
+-- is too deep, so that both are to stop at it, the second may tell nothing, since its calls are too few for an expression.
 pub record View : Type 1 where
   pub Lost : List Word → Type 0
   pub CanBeShort : Type 0
@@ -145,7 +145,7 @@ module _ {V : View} (p : Place) where
   pub goes_expected : {s : Situation} {words others : List Word} (t : Terminal) → At V s words others → Goes V s (expect_word p t words) (expect_word p t others)
   goes_expected t h = goes_where t h (goes_taken h) (goes_stopped h)
 
--- ---- words behind the first
+-- ---- words after the first
 
 pub data Behind (V : View) : Situation → List Word → List Word → Type 0 where
   behind_lost : {s : Situation} {words others : List Word} → V.Lost words → Behind V s words others
@@ -188,7 +188,7 @@ module _ {B : Type 0} {V : View} {s : Situation} where
   taking_first p h no_first g = goes_stopped h
   taking_first {next = next} {other = other} p h (first {o} {words} {others} behind) g = taking_if next other (nat_le p.nesting max_nesting) h (g o words others behind)
 
-  -- a word is taken, and what comes behind it may stop at it
+  -- a word is taken, and what comes after it may stop at it
   pub goes_taking : {words others : List Word} {next other : Word → List Word → Answer B} (p : Place) → At V s words others
       → ((o : Word) (words others : List Word) → Behind V s words others → Goes V s (next o words) (other o others))
       → Goes V s (and_then (take_word p words) next) (and_then (take_word p others) other)

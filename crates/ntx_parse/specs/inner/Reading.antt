@@ -1,4 +1,4 @@
--- How words are read from the left, one phrase after the other (Lua 5.3 Reference Manual, section 9): the tree of the phrase at their front and the
+-- How words are read from the left, one phrase after the other (Lua 5.3 Reference Manual, section 9): the tree of the phrase at their beginning and the
 -- words that are left, or the word at which the reading stops and why. `readers n` reads with calls that lie n deep at most, and tells nothing where
 -- that is too few.
 use Rattle.std.specs.Prelude.{ℕ, zero, suc, nat_le, Bool, true, false, ◌||◌, ◌&&◌, List, [], ◌∷◌, ◌++◌, Option, None, Some, Result, Ok, Err, if◌then◌else◌}
@@ -47,7 +47,7 @@ pub record Stop : Type 0 where
   pub why : SyntaxWhy
   pub words : List Word
 
--- What is read and the words behind it, or where the reading stops. Nothing where the calls lie too deep.
+-- What is read and the words after it, or where the reading stops. Nothing where the calls lie too deep.
 abbrev pub Answer : Type 0 → Type 0
 Answer A = Option (Result (A × List Word) Stop)
 
@@ -57,7 +57,7 @@ read a words = Some (Ok (a, words))
 abbrev pub stopped : {A : Type 0} → SyntaxWhy → List Word → Answer A
 stopped reason words = Some (Err (record { why = reason; words = words }))
 
--- One reading, and behind it another that knows what was read.
+-- One reading, and after it another that knows what was read.
 abbrev pub and_then : {A B : Type 0} → Answer A → (A → List Word → Answer B) → Answer B
 and_then None next = None
 and_then (Some (Err stop)) next = Some (Err stop)
@@ -122,7 +122,7 @@ abbrev pub of_precedence : Precedence → Option BinaryOp → Option BinaryOp
 of_precedence at None = None
 of_precedence at (Some op) = if same_precedence (binary_precedence op) at then Some op else None
 
--- the operator of this precedence at the front
+-- the operator of this precedence at the beginning
 abbrev pub operator_at : Precedence → List Word → Option BinaryOp
 operator_at at [] = None
 operator_at at (o ∷ words) = of_precedence at (binary_of o.is)
@@ -150,7 +150,7 @@ var_of (part.Call before arguments) = None
 
 -- ---- readers
 
--- One reading for each kind of phrase. A list is read behind the parts of it that are read already.
+-- One reading for each kind of phrase. A list is read after the parts of it that are read already.
 pub record Readers : Type 0 where
   pub block : Place → List Word → Answer Block
   pub stats : Place → List Stat → List Word → Answer (List Stat)
@@ -271,7 +271,7 @@ read_field r p words =
     and_then (r.exp p precedence.Or second) (λ value rest. read (field.Named name value) rest)))
     else and_then (r.exp p precedence.Or words) (λ value rest. read (field.Positional value) rest)
 
--- the fields behind these, up to the closing brace
+-- the fields after these, up to the closing brace
 abbrev pub fields_behind : Readers → Place → List Field → List Word → Answer (List Field)
 fields_behind r p before words =
     if begins terminal.RightBrace words then read before words
@@ -516,7 +516,7 @@ begins_statement terminal.Name = true
 begins_statement terminal.LeftParenthesis = true
 begins_statement _ = false
 
--- the statements behind these
+-- the statements after these
 abbrev pub stats_behind : Readers → Place → List Stat → List Word → Answer (List Stat)
 stats_behind r p before [] = read before []
 stats_behind r p before (o ∷ words) =
@@ -529,7 +529,7 @@ abbrev pub semicolon_behind : Place → List Word → Answer Bool
 semicolon_behind p words =
     if begins terminal.Semicolon words then and_then (take_word p words) (λ _ rest. read true rest) else read false words
 
--- Behind `return` these begin no expression, but what ends it or its block.
+-- After `return` these begin no expression, but what ends it or its block.
 abbrev pub ends_return : Terminal → Bool
 ends_return terminal.End = true
 ends_return terminal.Else = true
@@ -597,7 +597,7 @@ abbrev pub readers : ℕ → Readers
 readers zero = nothing
 readers (suc n) = over (readers n)
 
--- A script ends behind its block.
+-- A script ends after its block.
 abbrev pub ended : Block → List Word → Answer Block
 ended block [] = read block []
 ended block (o ∷ words) = stopped why.Expected (o ∷ words)

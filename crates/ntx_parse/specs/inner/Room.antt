@@ -1,4 +1,4 @@
--- How deep the calls of the parser may lie in one another.
+-- How deep the calls of the parser may be inside one another.
 -- A place is one deeper for each part that is counted, and between two such parts lie two calls at most: of a reader of blocks and of one of expressions.
 -- So the calls that are still allowed and twice the nesting of the place are together as many as the deepest script needs.
 use Rattle.std.specs.Prelude.{ℕ, ◌+◌, ◌*◌, ◌≤◌}

@@ -13,7 +13,7 @@ use Rattle.ntx_parse.specs.Words.{Word}
 use Rattle.ntx_parse.specs.Grammar.{within, run_of}
 use Rattle.ntx_parse.specs.inner.Reading.{Answer, Readers, and_then, read, begins, take_word, read_name, read_index, read_arguments, joined, concat_behind}
 
--- the operators of this precedence and their operands, behind this
+-- the operators of this precedence and their operands, after this
 abbrev pub behind_at : Readers → Place → Precedence → Exp → List Word → Answer Exp
 behind_at r p precedence.Concat first words = concat_behind r p first words
 behind_at r p at first words = and_then (r.operations p at [] words) (λ others rest. read (run_of first others) rest)

@@ -32,7 +32,7 @@ fn accepts(rt: &(impl Abort + AllocGlobal), times: u64, parts: [&[u8]; 5]) {
     }
 }
 
-/// Asserts that one of so many parts lies too deep.
+/// Asserts that one of so many parts is too deep.
 fn too_deep(rt: &(impl Abort + AllocGlobal), times: u64, parts: [&[u8]; 5]) {
     match nested(rt.alloc(), times, parts) {
         Err(_) => panic!(rt; "no memory"),

@@ -1,4 +1,4 @@
--- The piece at the front of bytes, and how its end is found.
+-- The piece at the beginning of bytes, and how its end is found.
 use Rattle.std.specs.Prelude.{◌≡◌, ◌<◌, ◌≤◌, ℕ, zero, suc, ◌+◌, ◌==◌, ◌&&◌, ◌||◌, true, false, not, slice_index, nat_le, Bool, List, [], ◌∷◌, length, take, Option, None, Some, option_map, option_and_then, if◌then◌else◌}
 use Rattle.std.specs.Char.{is_ascii_digit, is_ascii_hexdigit}
 use Rattle.ntx_syntax.specs.declared.bytes.Class.{Class}
@@ -8,7 +8,7 @@ use Rattle.ntx_syntax.specs.Bytes.{is_line_end, continues_name}
 use Rattle.ntx_syntax.specs.Values.{escape, is_decimal, is_hexadecimal}
 use Rattle.ntx_syntax.specs.Pieces.{piece_of, bracket_level, is_level, comment_piece, symbol_piece}
 
--- The front of this length spells this piece, and no longer front spells one, as `spelled` has it.
+-- The prefix of this length spells this piece, and no longer prefix spells one, as `spelled` has it.
 pub record IsFrontOf (spelled : List ℕ → Option Piece) (bytes : List ℕ) (len : ℕ) (piece : Piece) : Type 0 where
   pub some : 0 < len
   pub within : len ≤ length bytes
@@ -42,8 +42,8 @@ pub record EndsForm (bytes : List ℕ) (len : ℕ) : Type 0 where
 
 -- ---- texts
 
--- How many of the bytes behind an opening quote its text takes, the closing quote among them, if there is one. The number counts the bytes
--- at the front that belong to an escape.
+-- How many of the bytes after an opening quote its text takes, the closing quote among them, if there is one. The number counts the bytes
+-- at the beginning that belong to an escape.
 abbrev pub quoted_len : ℕ → ℕ → List ℕ → Option ℕ
 quoted_len quote escaped [] = None
 quoted_len quote (suc escaped) (b ∷ bytes) = option_map suc (quoted_len quote escaped bytes)
@@ -53,7 +53,7 @@ quoted_len quote zero (b ∷ bytes) =
     else (if b == 92 then option_and_then (λ e. option_map suc (quoted_len quote e.1 bytes)) (escape bytes)
     else option_map suc (quoted_len quote 0 bytes)))
 
--- the character at the front of bytes within a text, and how many bytes spell it
+-- the character at the beginning of bytes within a text, and how many bytes spell it
 abbrev pub character : List ℕ → Option (ℕ × ℕ)
 character [] = None
 character (b ∷ bytes) = if b == 92 then option_map (λ e. (e.0, e.1 + 1)) (escape bytes) else Some (b, 1)
@@ -66,7 +66,7 @@ bracketed_len level [] = None
 bracketed_len level (b ∷ bytes) =
     if is_level level (bracket_level 93 (b ∷ bytes)) then Some (level + 2) else option_map suc (bracketed_len level bytes)
 
--- Behind the dashes of a comment: so many bytes are this piece, and with more there is none.
+-- After the dashes of a comment: so many bytes are this piece, and with more there is none.
 pub record IsCommentRest (bytes : List ℕ) (len : ℕ) (piece : Piece) : Type 0 where
   pub within : len ≤ length bytes
   pub spells : comment_piece (take len bytes) ≡ Some piece
@@ -74,6 +74,6 @@ pub record IsCommentRest (bytes : List ℕ) (len : ℕ) (piece : Piece) : Type 0
 
 -- ---- symbols
 
--- what so many bytes at the front spell as a symbol, if there are so many
+-- what so many bytes at the beginning spell as a symbol, if there are so many
 abbrev pub symbol_at : ℕ → List ℕ → Option Piece
 symbol_at len bytes = if nat_le len (length bytes) then symbol_piece (take len bytes) else None
