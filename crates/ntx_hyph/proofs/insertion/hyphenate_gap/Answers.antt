@@ -6,12 +6,17 @@ use Rattle.ntx_nodes.specs.Fields.{kind_of}
 use Rattle.ntx_nodes.specs.declared.field.Field.TheVariants.{Next, Pre}
 use Rattle.ntx_nodes.specs.declared.fields.Fields.{Fields}
 use Rattle.ntx_lists.specs.MadeNodes.{made_and_linked}
-use Rattle.ntx_lists.proofs.MadeLinks.{takes_next, takes_as_made}
+use Rattle.ntx_lists.proofs.MadeLinks.{takes_next, takes_as_made, live_later}
 use Rattle.ntx_hyph.proofs.Hyphens.{disc_stops, hyphen_stops}
 use Rattle.ntx_hyph.proofs.insertion.hyphenate_gap.Goals as goal
 
 pub make_linked-requires-clause-linkable : goal.make_linked-requires-clause-linkable
 make_linked-requires-clause-linkable g c = takes_next (g.N.Nodes.heap c.args.nodes.now) c.args.gap.before c.requires.before
+
+pub make_linked-requires-2-clause-like : goal.make_linked-requires-2-clause-like
+make_linked-requires-2-clause-like g c =
+    let h = g.N.Nodes.heap in
+    live_later (h c.args.nodes.now) (h c.make_linked.new.nodes) c.in_ok-disc.ensures.keep c.args.gap.before c.requires.before
 
 pub make_linked-requires-2-clause-linkable : goal.make_linked-requires-2-clause-linkable
 make_linked-requires-2-clause-linkable g c =
