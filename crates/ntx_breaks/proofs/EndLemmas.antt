@@ -2,6 +2,7 @@
 use Rattle.std.proofs.Common.{◌≡◌, ℕ, zero, suc, ◌+◌, ◌-◌, ◌<◌, ◌≤◌, ℤ, pos, ◌+ℤ◌, ◌-ℤ◌, List, [], ◌∷◌, ◌++◌, get_or, take, drop, map, Bool, true, false, not, ◌&&◌, ◌||◌, cond, Option, Some, None, length, refl, ap, sym, ◌∙◌, subst, length-append, length-drop, add-one, arith}
 use Rattle.std.specs.Prelude.{int_lt, int_le, nat_lt, nat_eq, neg_ℤ, is_some, unsigned_abs}
 use Rattle.std.specs.List.{All, AllPairs, filter, fold, list_all, list_any, range_with_len, slice_get}
+use Rattle.std.proofs.lemmas.Bool.{eq-eqb}
 use Rattle.std.proofs.lemmas.Bool.Decides.{nat_tests}
 use Rattle.std.proofs.lemmas.List.{take_more, get_or_push, length_push, length-map}
 use Rattle.std.proofs.lemmas.List.Elements.{All-nil, All-cons, All-append, All-drop, All-filter, All-map, All-weaker, All-push, filter-append}
@@ -272,14 +273,11 @@ first_of_some : (xs : List State) → 0 < length xs → is_some (fold first_less
 first_of_some [] lt = let no : ⊥ = omega arith in elim no [ ]
 first_of_some (x ∷ xs) lt = fold_first (Some x) xs refl
 
-same : (a b : ℕ) → a ≡ b → nat_eq a b ≡ true
-same a b e = grind (arith, nat_tests)
-
 chosen_some : (to : ℕ) (states more : List State) (ext : Extends (IsAt to) states more) → 0 < length ext.made → is_some (chosen to more) ≡ true
 chosen_some to states more ext lt =
     let at = λ (s : State). nat_eq s.place to in
     let kept : filter at more ≡ filter at states ++ ext.made =
-    ap (filter at) ext.is ∙ filter-append at states ext.made ∙ ap (λ l. filter at states ++ l) (filter_every at ext.made (λ k d less. same (get_or ext.made k d).place to (ext.each k d less).0)) in
+    ap (filter at) ext.is ∙ filter-append at states ext.made ∙ ap (λ l. filter at states ++ l) (filter_every at ext.made (λ k d less. eq-eqb (get_or ext.made k d).place to (ext.each k d less).0)) in
     let size : length (filter at more) ≡ length (filter at states) + length ext.made = ap length kept ∙ length-append (filter at states) ext.made in
     first_of_some (filter at more) (omega (arith, size, lt))
 

@@ -3,7 +3,7 @@ use Rattle.std.proofs.Common.{◌≡◌, ℕ, zero, suc, ◌+◌, ◌<◌, ◌�
 use Rattle.std.specs.Prelude.{int_lt, int_le, nat_eq, ◌≤ℤ◌, IfSome, IsSomeAnd, unsigned_abs}
 use Rattle.std.specs.List.{All, fold}
 use Rattle.std.proofs.lemmas.Int.{ints}
-use Rattle.std.proofs.lemmas.Bool.Decides.{nat_tests}
+use Rattle.std.proofs.lemmas.Bool.{eq-eqb}
 use Rattle.std.proofs.lemmas.List.{length_push}
 use Rattle.ntx_item.specs.Settings.{Settings}
 use Rattle.ntx_breaks.specs.declared.state.State.{State}
@@ -42,16 +42,13 @@ by_class : (b : Bool) (z : ℤ) (best : Option State) (x : State) (rest : List S
 by_class true z best x rest f = f (lesser best x)
 by_class false z best x rest f = f best
 
-same : (a b : ℕ) → a ≡ b → nat_eq a b ≡ true
-same a b e = grind (arith, nat_tests)
-
 itself : (z : ℤ) → z ≤ℤ z
 itself z = omega (arith, ints)
 
 low_at : (class : ℕ) (best : Option State) (xs : List State) (k : ℕ) (d : State) → k < length xs → (get_or xs k d).class ≡ class → IsLow (get_or xs k d).total (fold lesser best (of_class class xs))
 low_at class best [] k d lt e = let no : ⊥ = omega arith in elim no [ ]
 low_at class best (x ∷ xs) zero d lt e =
-    subst (λ b. IsLow x.total (fold lesser best (cond b (x ∷ of_class class xs) (of_class class xs)))) (sym (same x.class class e))
+    subst (λ b. IsLow x.total (fold lesser best (cond b (x ∷ of_class class xs) (of_class class xs)))) (sym (eq-eqb x.class class e))
     (fold_low x.total (lesser best x) (of_class class xs) (lesser_new x.total best x (itself x.total)))
 low_at class best (x ∷ xs) (suc k) d lt e =
     let less_tail : k < length xs = omega arith in

@@ -12,9 +12,9 @@ use Rattle.ntx_patterns.specs.Points.{points_in, points_of}
 use Rattle.ntx_patterns.specs.Table.{Table, table_of}
 use Rattle.ntx_patterns.proofs.PairsLemmas.{points_agree}
 use Rattle.ntx_num.specs.Trace.{each_in_turn, EndsAs}
+use Rattle.ntx_lists.specs.MadeNodes.{RefusesMakings, RefusesAs}
 use Rattle.ntx_hyph.specs.Words.{letter_at, gaps_in}
-use Rattle.ntx_hyph.specs.Hyphenation.{Points, points_with, list_names, hyphen_char, hyphens, hyphenated, hyphenated_list, hyphenation, RefusesAs}
-use Rattle.ntx_hyph.specs.inner.Ends.{RefusesMakings}
+use Rattle.ntx_hyph.specs.Hyphenation.{Points, points_with, list_names, hyphen_char, hyphens, hyphenated, hyphenated_list, hyphenation}
 use Rattle.ntx_hyph.specs.declared.letter.Gap.{Gap}
 use Rattle.ntx_num.proofs.Traces.{Begins, begins_stays, begins_each, passes_first}
 use Rattle.ntx_hyph.proofs.Hyphens.{begins_hyphenated}

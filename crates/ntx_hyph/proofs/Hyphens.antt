@@ -8,11 +8,13 @@ use Rattle.ntx_nodes.specs.declared.field.Field.TheVariants.{Next, Pre}
 use Rattle.ntx_nodes.specs.declared.trouble.Trouble.{Trouble}
 use Rattle.ntx_nodes.proofs.Writes.{taken_off}
 use Rattle.ntx_num.specs.Trace.{Trace, stays, trace_and_then, each_in_turn, EndsAs}
-use Rattle.ntx_hyph.specs.Hyphenation.{disc_fields, hyphen_fields, made_and_linked, hyphenated}
-use Rattle.ntx_hyph.specs.inner.Ends.{StayLive, IsSound}
+use Rattle.ntx_lists.specs.MadeNodes.{made_and_linked, KeepLinks}
+use Rattle.ntx_lists.proofs.MadeLinks.{live_later}
+use Rattle.ntx_lists.proofs.MadeNodes.{begins_linked}
+use Rattle.ntx_hyph.specs.Hyphenation.{disc_fields, hyphen_fields, hyphenated}
+use Rattle.ntx_hyph.specs.inner.Sound.{IsSound}
 use Rattle.ntx_hyph.specs.declared.letter.Gap.{Gap}
 use Rattle.ntx_num.proofs.Traces.{Begins, begins_stays, begins_then, ends_later, ends_there, Goes, goes_on, goes_ended, goes_stopped}
-use Rattle.ntx_hyph.proofs.Making.{begins_linked}
 
 abbrev with_hyphen : ℕ → Gap → ℕ → Heap → Trace Heap (Unit {0}) Trouble
 with_hyphen char gap disc inserted = trace_and_then (made_and_linked (hyphen_fields char gap) gap.before disc Pre inserted) (λ _ whole. stays whole (Ok tt))
@@ -55,5 +57,7 @@ gap_stops char gaps old now new i d e lt g stops =
 pub gaps_done : (char : ℕ) (gaps left : List Gap) (old now : Heap) → left ≡ [] → Goes (hyphenated char) gaps old left now → EndsAs (Ok tt) now (each_in_turn (hyphenated char) gaps old)
 gaps_done char gaps left old now none g = goes_ended (hyphenated char) gaps old now (subst (λ x. Goes (hyphenated char) gaps old x now) none g)
 
-pub sound_later : (old new : Heap) (gaps : List Gap) → StayLive old new → All (IsSound old) gaps → All (IsSound new) gaps
-sound_later old new gaps stay h = All-weaker (IsSound old) (IsSound new) (λ gap s. record { before = stay gap.before s.before; after = stay gap.after s.after; font = s.font }) gaps h
+pub sound_later : (old new : Heap) (gaps : List Gap) → KeepLinks old new → All (IsSound old) gaps → All (IsSound new) gaps
+sound_later old new gaps keep h =
+    let stay = live_later old new keep in
+    All-weaker (IsSound old) (IsSound new) (λ gap s. record { before = stay gap.before s.before; after = stay gap.after s.after; font = s.font }) gaps h

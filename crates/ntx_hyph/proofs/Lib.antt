@@ -5,7 +5,6 @@ pub mod Endings
 pub mod FlatWalks
 pub mod GapOrder
 pub mod Hyphens
-pub mod Making
 pub mod OneGap
 pub mod SoundGaps
 pub mod WholeLists

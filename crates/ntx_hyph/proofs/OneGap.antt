@@ -20,10 +20,11 @@ use Rattle.ntx_nodes.specs.declared.node.Node.{Node}
 use Rattle.ntx_nodes.specs.declared.trouble.Trouble.{Trouble}
 use Rattle.ntx_nodes.proofs.Writes.{get-put, insert_again, set_live}
 use Rattle.ntx_num.specs.Trace.{Trace, stays, stepped, on_ending, trace_and_then}
-use Rattle.ntx_hyph.specs.Hyphenation.{disc_fields, hyphen_fields, made_like, made_and_linked, hyphenated}
+use Rattle.ntx_lists.specs.MadeNodes.{made_like, made_and_linked}
+use Rattle.ntx_lists.proofs.MadeNodes.{worn}
+use Rattle.ntx_hyph.specs.Hyphenation.{disc_fields, hyphen_fields, hyphenated}
 use Rattle.ntx_hyph.specs.Laws.{whole_disc_fields, worn_like, followed_by}
 use Rattle.ntx_hyph.specs.declared.letter.Gap.{Gap}
-use Rattle.ntx_hyph.proofs.Making.{worn}
 
 -- ---- traces that end well
 pub record WentOn {S A B E : Type 0} (earlier : List S) (last : S) (r : Result A E) (f : A → S → Trace S B E) (b : B) : Type 0 where

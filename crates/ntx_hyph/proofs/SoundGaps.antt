@@ -17,7 +17,7 @@ use Rattle.ntx_nodes.specs.Heap.{IsInRange}
 use Rattle.ntx_nodes.specs.Fields.{field_of, kind_of}
 use Rattle.ntx_nodes.proofs.Ranges.{down_to}
 use Rattle.ntx_hyph.specs.Words.{letter_of, letter_at, goes_on, in_front, words_of, gap_in, gaps_in_word, gaps_in}
-use Rattle.ntx_hyph.specs.inner.Ends.{IsSound}
+use Rattle.ntx_hyph.specs.inner.Sound.{IsSound}
 use Rattle.ntx_hyph.specs.declared.letter.Letter.{Letter}
 use Rattle.ntx_hyph.specs.declared.letter.Gap.{Gap}
 

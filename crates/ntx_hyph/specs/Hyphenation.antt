@@ -4,24 +4,18 @@
 --     hyphenated char gap heap      a discretionary in one gap, with a hyphen before the break
 --     hyphenation points s head heap      the pass over the list, in each gap with a point, from the left to the right; `points`
 --                                   gives the points of a word
-use Rattle.std.specs.Prelude.{◌≡◌, ◌⊎◌, ℕ, ℤ, pos, negsuc, unsigned_abs, List, map, Option, None, Some, Result, Ok, Err}
-use Rattle.ntx_num.specs.Answer.{result_map, result_and_then}
-use Rattle.ntx_num.specs.declared.answer.Fail.{Fail}
-use Rattle.ntx_num.specs.declared.answer.Fail.TheVariants.{Is}
+use Rattle.std.specs.Prelude.{ℕ, ℤ, pos, negsuc, unsigned_abs, List, map, Option, None, Some, Result, Ok, Err}
+use Rattle.ntx_num.specs.Answer.{result_and_then}
+use Rattle.ntx_num.specs.Trace.{Trace, stays, trace_and_then, each_in_turn}
 use Rattle.ntx_nodes.specs.Heap.{Heap}
-use Rattle.ntx_nodes.specs.Steps.{same_attrs_step, set_step}
 use Rattle.ntx_nodes.specs.Walk.{checked_walk, flat_walk}
-use Rattle.ntx_nodes.specs.Writing.{make_filled_step}
-use Rattle.ntx_nodes.specs.declared.field.Field.{Field}
 use Rattle.ntx_nodes.specs.declared.field.Field.TheVariants.{Next, Pre}
-use Rattle.ntx_nodes.specs.declared.field.FieldValue.TheVariants.{Link}
 use Rattle.ntx_nodes.specs.declared.fields.Contents.TheVariants as contents
 use Rattle.ntx_nodes.specs.declared.fields.Fields.{Fields}
 use Rattle.ntx_nodes.specs.declared.kind.ListKind.TheVariants.{H}
 use Rattle.ntx_nodes.specs.declared.trouble.Trouble.{Trouble}
-use Rattle.ntx_nodes.specs.declared.trouble.Trouble.TheVariants.{NodesFull, NamesOut}
+use Rattle.ntx_lists.specs.MadeNodes.{made_and_linked}
 use Rattle.ntx_item.specs.Settings.{Settings}
-use Rattle.ntx_num.specs.Trace.{Trace, stays, stepped, trace_and_then, each_in_turn}
 use Rattle.ntx_hyph.specs.Words.{letter_at, gaps_in}
 use Rattle.ntx_hyph.specs.declared.letter.Gap.{Gap}
 
@@ -33,17 +27,6 @@ disc_fields gap = record { subtype = 3; next = Some gap.after; contents = conten
 -- the hyphen alone
 abbrev pub hyphen_fields : ℕ → Gap → Fields
 hyphen_fields char gap = record { subtype = 0; next = None; contents = contents.Glyph (record { char = char; font = gap.font }) }
-
--- ---- steps
--- a node is made with these fields, and then takes the attributes of another
-abbrev pub made_like : Fields → ℕ → Heap → Trace Heap ℕ Trouble
-made_like fields from heap =
-    trace_and_then (stepped (make_filled_step fields heap) heap) (λ n made. stepped (result_map (λ done. (n, done.1)) (same_attrs_step n from made)) made)
-
--- and then a link of a node is set to it
-abbrev pub made_and_linked : Fields → ℕ → ℕ → Field → Heap → Trace Heap ℕ Trouble
-made_and_linked fields from n f heap =
-    trace_and_then (made_like fields from heap) (λ new made. stepped (result_map (λ done. (new, done.1)) (set_step n f (Link (Some new)) made)) made)
 
 -- The discretionary stands in the list before its hyphen is made. Both take the attributes of the glyph before the gap.
 abbrev pub hyphenated : ℕ → Gap → Heap → Trace Heap (Unit {0}) Trouble
@@ -79,13 +62,3 @@ hyphenated_list points s (Ok names) heap = hyphens (hyphen_char s.hyphenchar) (g
 
 abbrev pub hyphenation : Points → Settings → ℕ → Heap → Trace Heap (Unit {0}) Trouble
 hyphenation points s head heap = hyphenated_list points s (list_names heap head) heap
-
--- ---- refusals
--- a making is refused
-abbrev pub IsOfMaking : Trouble → Type 0
-IsOfMaking why = (why ≡ NodesFull) ⊎ (why ≡ NamesOut)
-
--- the walk that checks the list stops, or a making is refused
-abbrev pub RefusesAs : {A : Type 0} → Heap → ℕ → Result A (Fail Trouble) → Type 0
-RefusesAs heap head (Err (Is why)) = (checked_walk heap (Some head) H ≡ Err why) ⊎ IsOfMaking why
-RefusesAs heap head _ = Unit {0}

@@ -1,16 +1,14 @@
 //! Making discretionaries in the gaps of a list.
 
-ghost use Rattle.std.specs.Prelude.{◌≡◌, ℕ, true, All, OnOk, IfOk};
-ghost use Rattle.ntx_nodes.specs.Heap.{is_live};
-ghost use Rattle.ntx_nodes.specs.Writing.{AreMakable};
+ghost use Rattle.std.specs.Prelude.{◌≡◌, All, OnOk};
 ghost use Rattle.ntx_num.specs.Trace.{each_in_turn, EndsAs};
-ghost use Rattle.ntx_hyph.specs.Hyphenation.{disc_fields, hyphen_fields, made_and_linked, hyphenated};
-ghost use Rattle.ntx_hyph.specs.inner.Ends.{RefusesMakings, StayLive, HasLink, HasFields, IsSound};
+ghost use Rattle.ntx_lists.specs.MadeNodes.{RefusesMakings, KeepLinks};
+ghost use Rattle.ntx_hyph.specs.Hyphenation.{disc_fields, hyphen_fields, hyphenated};
+ghost use Rattle.ntx_hyph.specs.inner.Sound.{IsSound};
 
 use crate::letter::Gap;
-use ntx_nodes::{
-    Contents, DiscFields, Field, FieldValue, Fields, GlyphFields, Nodes, Trouble, make_like, write,
-};
+use ntx_lists::make_linked;
+use ntx_nodes::{Contents, DiscFields, Field, Fields, GlyphFields, Nodes, Trouble};
 use ntx_num::Fail;
 
 /// The subtype of a regular discretionary.
@@ -45,35 +43,12 @@ fn hyphen_fields(char: u8, gap: Gap) -> Fields
     }
 }
 
-/// Makes a node with these fields and the attributes of the node `like`, and sets the link `f` of the node `n` to it.
-/// Refuses as the making of a node.
-fn make_linked<N: Nodes>(
-    nodes: &mut N,
-    fields: Fields,
-    like: u64,
-    n: u64,
-    f: Field,
-) -> Result<u64, Fail<Trouble>>
-    requires makable { AreMakable (N.heap nodes.old) fields }
-    requires like { is_live (N.heap nodes.old) like ≡ true }
-    requires linkable { HasLink (N.heap nodes.old) n f }
-    ensures traced { EndsAs result (N.heap nodes.new) (made_and_linked fields like n f (N.heap nodes.old)) }
-    ensures refused { RefusesMakings result }
-    ensures live { OnOk result (StayLive (N.heap nodes.old) (N.heap nodes.new)) }
-    ensures made { IfOk result (λ new. HasFields (N.heap nodes.new) new fields) }
-{
-    nodes.lawful();
-    let new = make_like(nodes, fields, like)?;
-    write(nodes, n, f, FieldValue::Link(Some(new)));
-    Ok(new)
-}
-
 /// Makes a discretionary in a gap, and its hyphen. Refuses as the making of a node.
 fn hyphenate_gap<N: Nodes>(nodes: &mut N, char: u8, gap: Gap) -> Result<(), Fail<Trouble>>
     requires { IsSound (N.heap nodes.old) gap }
     ensures traced { EndsAs result (N.heap nodes.new) (hyphenated char gap (N.heap nodes.old)) }
     ensures refused { RefusesMakings result }
-    ensures live { OnOk result (StayLive (N.heap nodes.old) (N.heap nodes.new)) }
+    ensures keep { OnOk result (KeepLinks (N.heap nodes.old) (N.heap nodes.new)) }
 {
     let disc = make_linked(nodes, disc_fields(gap), gap.before, gap.before, Field::Next)?;
     make_linked(

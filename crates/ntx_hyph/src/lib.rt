@@ -4,8 +4,8 @@
 //! [`hyphenate`] puts a discretionary with a hyphen into each gap between letters at which patterns allow a break. It is
 //! stated as a trace of heaps, in `specs/Hyphenation.antt`, since it may stop in the middle.
 //!
-//! It stands on `ntx_patterns` for the points of a word, on `ntx_nodes` for lists, on `ntx_item` for the parameters, and on
-//! `ntx_num` for answers.
+//! It stands on `ntx_patterns` for the points of a word, on `ntx_lists` and `ntx_nodes` for lists, on `ntx_item` for the
+//! parameters, and on `ntx_num` for answers.
 #![tactic(auto)]
 
 mod insertion;

@@ -2,12 +2,13 @@
 
 ghost use Rattle.std.specs.Prelude.{◌≡◌, List};
 ghost use Rattle.ntx_num.specs.Answer.{Answers, Traces, result_map};
+ghost use Rattle.ntx_lists.specs.MadeNodes.{RefusesAs};
 ghost use Rattle.ntx_patterns.specs.Kept.{table};
 ghost use Rattle.ntx_patterns.specs.Pattern.{Pattern};
 ghost use Rattle.ntx_patterns.specs.Points.{points_in, points_of};
 ghost use Rattle.ntx_patterns.specs.Table.{table_of};
 ghost use Rattle.ntx_num.specs.Trace.{states, EndsAs};
-ghost use Rattle.ntx_hyph.specs.Hyphenation.{list_names, hyphen_char, hyphenation, RefusesAs};
+ghost use Rattle.ntx_hyph.specs.Hyphenation.{list_names, hyphen_char, hyphenation};
 
 use crate::insertion::hyphenate_gaps;
 use crate::reading::gaps_in;

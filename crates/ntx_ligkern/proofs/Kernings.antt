@@ -1,31 +1,29 @@
 -- How a kern is made, and one kern after another, and how the pass over a list ends.
-use Rattle.std.proofs.Common.{◌≡◌, ℕ, ◌+◌, ◌<◌, List, [], length, drop, get_or, true, Some, Ok, Err, inl, inr, refl, sym, ◌∙◌, ap, subst, arith}
+use Rattle.std.proofs.Common.{◌≡◌, ℕ, ◌+◌, ◌<◌, List, [], length, drop, get_or, Some, Ok, Err, inl, inr, refl, sym, ◌∙◌, ap, subst, arith}
 use Rattle.std.specs.Prelude.{Result, All}
 use Rattle.std.proofs.lemmas.List.Elements.{All-weaker}
 use Rattle.ntx_num.specs.Answer.{result_map}
 use Rattle.ntx_num.specs.declared.answer.Fail.{Fail}
 use Rattle.ntx_num.specs.declared.answer.Fail.TheVariants.{NoMemory, Is}
 use Rattle.ntx_num.proofs.Answers.{same_Err}
-use Rattle.ntx_nodes.specs.Heap.{Heap, is_live}
+use Rattle.ntx_nodes.specs.Heap.{Heap}
 use Rattle.ntx_nodes.specs.Walk.{checked_walk}
 use Rattle.ntx_nodes.specs.Writing.{AreMakable}
 use Rattle.ntx_nodes.specs.declared.kind.ListKind.TheVariants.{H}
 use Rattle.ntx_nodes.specs.declared.trouble.Trouble.{Trouble}
 use Rattle.ntx_nodes.proofs.Ranges.{makable_fields}
 use Rattle.ntx_nodes.proofs.Writes.{taken_off}
+use Rattle.ntx_lists.specs.MadeNodes.{made_and_linked, RefusesMakings, RefusesAs, KeepLinks}
+use Rattle.ntx_lists.proofs.MadeLinks.{live_later}
+use Rattle.ntx_lists.proofs.MadeNodes.{begins_linked}
 use Rattle.ntx_tfm.specs.Font.{FontTables}
 use Rattle.ntx_num.specs.Trace.{Trace, stays, trace_and_then, each_in_turn, EndsAs}
-use Rattle.ntx_ligkern.specs.Making.{made_and_linked, RefusesAs}
-use Rattle.ntx_ligkern.specs.inner.Ends.{RefusesMakings}
 use Rattle.ntx_num.proofs.Traces.{Begins, begins_stays, begins_then, begins_each, passes_first, ends_later, ends_there, Goes, goes_on, goes_ended, goes_stopped}
-use Rattle.ntx_ligkern.proofs.Making.{begins_linked}
 use Rattle.ntx_ligkern.specs.Along.{along}
 use Rattle.ntx_ligkern.specs.Kerns.{kerns_of}
 use Rattle.ntx_ligkern.specs.Kerning.{kern_fields, kern_made, kerned_if, kerned_list}
-use Rattle.ntx_ligkern.specs.inner.Sound.{KeepLinks, IsWide, IsPlaced}
+use Rattle.ntx_ligkern.specs.inner.Sound.{IsWide, IsPlaced}
 use Rattle.ntx_ligkern.specs.declared.place.Kerning.{Kerning}
-use Rattle.ntx_ligkern.proofs.Links.{takes_live}
-use Rattle.ntx_ligkern.proofs.Sounding.{takes_next}
 
 -- ---- one kern
 abbrev link_of : Kerning → Heap → Trace Heap ℕ Trouble
@@ -58,7 +56,7 @@ kerns_done kerns left old now none g = goes_ended kern_made kerns old now (subst
 
 pub placed_later : (old new : Heap) (kerns : List Kerning) → KeepLinks old new → All (IsPlaced old) kerns → All (IsPlaced new) kerns
 placed_later old new kerns keep h =
-    let alive : (n : ℕ) → is_live old n ≡ true → is_live new n ≡ true = λ n l. takes_live new n _ (keep n _ (takes_next old n l)) in
+    let alive = live_later old new keep in
     All-weaker (IsPlaced old) (IsPlaced new) (λ k p. record { left = alive k.left p.left; next = λ n e. alive n (p.next n e); link = keep k.place.at k.place.field p.link }) kerns h
 
 -- ---- the pass

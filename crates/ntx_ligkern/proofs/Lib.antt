@@ -1,5 +1,3 @@
-pub mod Links
-pub mod Making
 pub mod Sounding
 pub mod Kernings
 pub mod FoundKerns

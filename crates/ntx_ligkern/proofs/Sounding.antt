@@ -13,20 +13,19 @@ use Rattle.ntx_nodes.specs.declared.field.Field.{Field}
 use Rattle.ntx_nodes.specs.declared.field.Field.TheVariants.{Next, Pre, Replace}
 use Rattle.ntx_nodes.specs.declared.fields.Contents.{Contents}
 use Rattle.ntx_nodes.specs.declared.fields.Contents.TheVariants as contents
-use Rattle.ntx_nodes.specs.declared.kind.Kind.{Kind}
 use Rattle.ntx_nodes.specs.declared.kind.Kind.TheVariants as kind
 use Rattle.ntx_nodes.specs.declared.node.Node.{Node}
+use Rattle.ntx_lists.specs.MadeNodes.{TakesLink}
+use Rattle.ntx_lists.proofs.MadeLinks.{takes_next}
 use Rattle.ntx_tfm.specs.Font.{FontTables}
 use Rattle.ntx_pairs.specs.declared.command.Pair.{Pair}
 use Rattle.ntx_pairs.specs.declared.command.Pair.TheVariants as pairs
-use Rattle.ntx_ligkern.proofs.Making.{live}
 use Rattle.ntx_ligkern.specs.Along.{along}
-use Rattle.ntx_ligkern.specs.Glyphs.{glyph_of, glyph_at, pair_of_glyphs, pair_of_two, pair_between}
+use Rattle.ntx_ligkern.specs.Glyphs.{glyph_of, glyph_at, pair_of_glyphs, pair_of_two}
 use Rattle.ntx_ligkern.specs.Kerns.{kerned_by, kerned, after_node, kerns_after, kerns_in, kerns_in_disc, kerns_at_end, last_of, kerns_around, kerns_by_contents, kerns_by, kerns_at, kerns_from, kerns_of}
-use Rattle.ntx_ligkern.specs.inner.Sound.{TakesLink, IsPlaced}
+use Rattle.ntx_ligkern.specs.inner.Sound.{IsPlaced}
 use Rattle.ntx_ligkern.specs.declared.glyph.Glyph.{Glyph}
 use Rattle.ntx_ligkern.specs.declared.place.Place.{Place}
-use Rattle.ntx_ligkern.specs.declared.place.Kerning.{Kerning}
 
 -- ---- glyphs are live
 found_glyph : (o : Option Node) (g : Glyph) → option_and_then (λ node. glyph_of node.fields.contents) o ≡ Some g → is_some o ≡ true
@@ -37,19 +36,6 @@ glyph_live : (heap : Heap) (n : ℕ) (g : Glyph) → glyph_at heap n ≡ Some g 
 glyph_live heap n g e = found_glyph (fin.get heap.nodes n) g e
 
 -- ---- links
-next_linked : (k : Kind) → held k Next ≡ Linked
-next_linked kind.Hlist = refl
-next_linked kind.Vlist = refl
-next_linked kind.Rule = refl
-next_linked kind.Disc = refl
-next_linked kind.Glue = refl
-next_linked kind.Kern = refl
-next_linked kind.Penalty = refl
-next_linked kind.Glyph = refl
-
-pub takes_next : (heap : Heap) (n : ℕ) → is_live heap n ≡ true → TakesLink heap n Next
-takes_next heap n alive = let l = live heap n alive in record { node = l.node; at = l.at; linked = next_linked (kind_of l.node.fields.contents) }
-
 takes_part : (heap : Heap) (n : ℕ) (node : Node) (d : DiscFields) (f : Field) → fin.get heap.nodes n ≡ Some node → node.fields.contents ≡ contents.Disc d → held kind.Disc f ≡ Linked → TakesLink heap n f
 takes_part heap n node d f at is linked = record { node = node; at = at; linked = ap (λ c. held (kind_of c) f) is ∙ linked }
 

@@ -1,19 +1,18 @@
 -- The nodes of a list, one after another, are those that a flat walk reaches.
-use Rattle.std.proofs.Common.{◌≡◌, ℕ, zero, suc, ◌<◌, ◌≤◌, ◌-◌, List, [], ◌∷◌, ◌++◌, Some, None, Ok, Err, refl, sym, ◌∙◌, ap, subst, append_assoc, append-nil, arith}
-use Rattle.std.specs.Prelude.{Option, Result}
+use Rattle.std.proofs.Common.{◌≡◌, ℕ, zero, suc, ◌<◌, ◌≤◌, ◌-◌, List, [], ◌∷◌, ◌++◌, Some, None, Ok, refl, sym, ◌∙◌, ap, append_assoc, append-nil, arith}
+use Rattle.std.specs.Prelude.{Option}
 use Rattle.std.specs.Option.{option_and_then}
 use Rattle.std.specs.FinMap as fin
 use Rattle.ntx_num.specs.Answer.{result_map, result_and_then}
 use Rattle.ntx_num.proofs.Answers.{same_Ok, mapped_Ok, went_Ok}
 use Rattle.ntx_nodes.specs.Heap.{Heap}
-use Rattle.ntx_nodes.specs.Walk.{no_lists, in_turn, entered, enter, node_reached, walk, fuel_of, flat_walk}
+use Rattle.ntx_nodes.specs.Walk.{no_lists, in_turn, entered, enter, node_reached, walk, fuel_of}
 use Rattle.ntx_nodes.specs.declared.kind.ListKind.{ListKind}
 use Rattle.ntx_nodes.specs.declared.kind.ListKind.TheVariants.{H}
 use Rattle.ntx_nodes.specs.declared.kind.Way.TheVariants.{Flat}
 use Rattle.ntx_nodes.specs.declared.node.Node.{Node}
-use Rattle.ntx_nodes.specs.declared.trouble.Trouble.{Trouble}
 use Rattle.ntx_nodes.proofs.Fuel.{passes}
-use Rattle.ntx_ligkern.specs.Along.{next_of, first_along, along, AlongIsTheWalk}
+use Rattle.ntx_ligkern.specs.Along.{next_of, first_along, AlongIsTheWalk}
 
 walk_none : (heap : Heap) (fuel : ℕ) (reached : List ℕ) (depth : ℕ) (k : ListKind) → walk heap Flat fuel reached None depth k ≡ Ok reached
 walk_none heap zero reached depth k = refl

@@ -2,15 +2,15 @@
 --     kern_made k heap               one kern, with the attributes of the glyph on its left
 --     kerned_list fonts head heap    the pass over the list at a head: its value is the head, which stays
 use Rattle.std.specs.Prelude.{ℕ, List, Some, Result, Ok, Err}
+use Rattle.ntx_num.specs.Trace.{Trace, stays, trace_and_then, each_in_turn}
 use Rattle.ntx_nodes.specs.Heap.{Heap}
 use Rattle.ntx_nodes.specs.Walk.{checked_walk}
 use Rattle.ntx_nodes.specs.declared.fields.Contents.TheVariants as contents
 use Rattle.ntx_nodes.specs.declared.fields.Fields.{Fields}
 use Rattle.ntx_nodes.specs.declared.kind.ListKind.TheVariants.{H}
 use Rattle.ntx_nodes.specs.declared.trouble.Trouble.{Trouble}
+use Rattle.ntx_lists.specs.MadeNodes.{made_and_linked}
 use Rattle.ntx_tfm.specs.Font.{FontTables}
-use Rattle.ntx_num.specs.Trace.{Trace, stays, trace_and_then, each_in_turn}
-use Rattle.ntx_ligkern.specs.Making.{made_and_linked}
 use Rattle.ntx_ligkern.specs.Along.{along}
 use Rattle.ntx_ligkern.specs.Kerns.{kerns_of}
 use Rattle.ntx_ligkern.specs.declared.place.Kerning.{Kerning}

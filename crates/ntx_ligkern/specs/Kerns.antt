@@ -9,8 +9,7 @@
 --     kerns_of = (left 1, width w, before 2, by the link `next` of 1), (left 2, width v, before 3, by the link `next` of 2)
 -- and over 1 = A, a discretionary 2 with nothing in its lists, 3 = V: one kern alone, (left 1, width w, before nothing, by the link `replace` of 2).
 use Rattle.std.specs.Prelude.{ℕ, ◌-◌, ℤ, List, [], ◌∷◌, ◌++◌, length, slice_get, Option, None, Some}
-use Rattle.std.specs.List.{cons_option}
-use Rattle.std.specs.Option.{option_map, option_or, option_and_then}
+use Rattle.std.specs.Option.{option_or}
 use Rattle.std.specs.FinMap as fin
 use Rattle.ntx_nodes.specs.Heap.{Heap}
 use Rattle.ntx_nodes.specs.declared.contents.DiscFields.{DiscFields}

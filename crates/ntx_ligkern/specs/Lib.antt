@@ -1,5 +1,3 @@
--- nodes made in the middle of a pass
-pub mod Making
 -- glyphs and their pairs
 pub mod Glyphs
 -- the nodes of a list

@@ -1,9 +1,8 @@
 //! The pass that puts kerns into a list.
 
-ghost use Rattle.std.specs.Prelude.{◌≡◌};
 ghost use Rattle.ntx_num.specs.Answer.{Traces};
 ghost use Rattle.ntx_num.specs.Trace.{states, EndsAs};
-ghost use Rattle.ntx_ligkern.specs.Making.{RefusesAs};
+ghost use Rattle.ntx_lists.specs.MadeNodes.{RefusesAs};
 ghost use Rattle.ntx_ligkern.specs.Kerning.{kerned_list};
 
 use crate::finding::kerns_of;

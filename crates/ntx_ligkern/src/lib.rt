@@ -4,8 +4,8 @@
 //! [`kern`] puts the kerns of their fonts between the glyphs of a list, and into and around its discretionaries. It is
 //! stated as a trace of heaps, in `specs/Kerning.antt`, since it may stop in the middle.
 //!
-//! It stands on `ntx_pairs` for what a font says of two characters, on `ntx_nodes` for lists, on `ntx_tfm` for
-//! fonts, and on `ntx_num` for answers.
+//! It stands on `ntx_pairs` for what a font says of two characters, on `ntx_lists` and `ntx_nodes` for lists, on `ntx_tfm`
+//! for fonts, and on `ntx_num` for answers.
 #![tactic(auto)]
 
 mod finding;

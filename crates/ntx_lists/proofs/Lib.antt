@@ -4,6 +4,8 @@ pub mod Trees
 pub mod Changes
 pub mod CopyMaps
 pub mod Making
+pub mod MadeLinks
+pub mod MadeNodes
 pub mod FreedRuns
 pub mod Relinks
 pub mod CopyNames

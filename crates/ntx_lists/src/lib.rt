@@ -3,7 +3,7 @@
 //!
 //! Each call is one step of the heap: `specs/Lists.antt` states those along one list, `specs/Trees.antt` freeing, and
 //! `specs/Copies.antt` copying. A call that refuses leaves the heap as it was, except that names once given to copies stay
-//! given.
+//! given. [`make_linked`], which is a part of passes, takes several steps, which `specs/MadeNodes.antt` states.
 //!
 //! It stands on `ntx_num` and `ntx_nodes`.
 #![tactic(auto)]
@@ -13,6 +13,7 @@ mod copy_laws;
 mod free;
 mod insert;
 mod links;
+mod make;
 mod survey;
 #[cfg(test)]
 mod tests;
@@ -21,3 +22,4 @@ pub use copy::{copy_list, copy_tree};
 pub use copy_laws::{copies_are_lists, copies_are_trees, copies_stop_rightly};
 pub use free::{flush_list, free_tree};
 pub use insert::{insert_after, insert_before, length, remove, slide, tail};
+pub use make::make_linked;

@@ -1,6 +1,6 @@
-//! Boxes to be shipped, and the file that they go to.
+//! Boxes to be placed and shipped, and the file that they go to.
 
-ghost use Rattle.std.specs.Prelude.{◌≡◌, ◌<◌, ◌^◌, ℕ, Option, IfOk};
+ghost use Rattle.std.specs.Prelude.{◌<◌, ◌^◌, ℕ, Option, IfOk};
 ghost use Rattle.ntx_tfm.specs.declared.def.FontDef.{FontDef};
 ghost use Rattle.ntx_dvi.specs.Fonts.{AreKnown};
 ghost use Rattle.ntx_dvi.specs.Writer.{IsBetweenPages};
@@ -9,7 +9,7 @@ use ntx_dvi::{Dvi, DviFull};
 use ntx_item::PackTo;
 use ntx_nodes::{Field, FieldValue, Kind, Nodes, PlainHeap, Trouble};
 use ntx_num::Fail;
-use ntx_pack::hpack;
+use ntx_pack::{hpack, vpack};
 use ntx_tfm::Font;
 use std::alloc::{AllocError, Global};
 
@@ -20,6 +20,8 @@ pub enum Part {
     Rule(i64, i64, i64),
     /// A kern.
     Kern(i64),
+    /// Finite glue of this width, stretch and shrink.
+    Glue(i64, i64, i64),
     /// The character 97 of the font of this number.
     Letter(i64),
     /// A node that is there.
@@ -51,6 +53,14 @@ fn node(nodes: &mut PlainHeap, part: Part) -> Result<u64, Fail<Trouble>> {
             make(nodes, Kind::Rule, &fields)
         }
         Part::Kern(w) => make(nodes, Kind::Kern, &[(Field::Kern, w)]),
+        Part::Glue(w, stretch, shrink) => {
+            let fields = [
+                (Field::Width, w),
+                (Field::Stretch, stretch),
+                (Field::Shrink, shrink),
+            ];
+            make(nodes, Kind::Glue, &fields)
+        }
         Part::Letter(font) => make(
             nodes,
             Kind::Glyph,
@@ -60,20 +70,52 @@ fn node(nodes: &mut PlainHeap, part: Part) -> Result<u64, Fail<Trouble>> {
     }
 }
 
-/// These nodes packed into an hlist. They are made from the last to the first.
+/// A list of these nodes. They are made from the last to the first.
+fn list(nodes: &mut PlainHeap, parts: &[Part]) -> Result<Option<u64>, Fail<Trouble>> {
+    let mut next = None;
+    for part in parts.iter().rev() {
+        let n = node(nodes, *part)?;
+        put(nodes, n, Field::Next, FieldValue::Link(next))?;
+        next = Some(n);
+    }
+    Ok(next)
+}
+
+/// These nodes packed into an hlist.
 pub fn hbox(
     alloc: Global,
     nodes: &mut PlainHeap,
     fonts: &[Font],
     parts: &[Part],
+    to: PackTo,
 ) -> Result<u64, Fail<Trouble>> {
-    let mut head = None;
-    for part in parts.iter().rev() {
-        let n = node(nodes, *part)?;
-        put(nodes, n, Field::Next, FieldValue::Link(head))?;
-        head = Some(n);
-    }
-    Ok(hpack(alloc, nodes, fonts, head, PackTo::Additional(0))?.0)
+    let head = list(nodes, parts)?;
+    Ok(hpack(alloc, nodes, fonts, head, to)?.0)
+}
+
+/// These nodes packed into a vlist.
+pub fn vbox(
+    alloc: Global,
+    nodes: &mut PlainHeap,
+    fonts: &[Font],
+    parts: &[Part],
+    to: PackTo,
+) -> Result<u64, Fail<Trouble>> {
+    let head = list(nodes, parts)?;
+    Ok(vpack(alloc, nodes, fonts, head, to)?.0)
+}
+
+/// Moves a box.
+pub fn shift(nodes: &mut PlainHeap, n: u64, by: i64) -> Result<(), Fail<Trouble>> {
+    put(nodes, n, Field::Shift, FieldValue::Number(by))
+}
+
+/// Makes a discretionary with a letter that stands where there is no break.
+pub fn disc(nodes: &mut PlainHeap) -> Result<u64, Fail<Trouble>> {
+    let letter = node(nodes, Part::Letter(0))?;
+    let n = nodes.make(Kind::Disc, 0)?;
+    put(nodes, n, Field::Replace, FieldValue::Link(Some(letter)))?;
+    Ok(n)
 }
 
 /// A file of at most so many bytes, which begins with its preamble.

@@ -2,6 +2,7 @@
 
 use crate::boxes::Part::{Kern, Letter, Node, Rule};
 use crate::boxes::{begun, hbox, letter_font};
+use ntx_item::PackTo::Additional;
 use ntx_nodes::{Nodes, PlainHeap, Trouble};
 use ntx_num::Fail;
 use ntx_num::Fail::Is;
@@ -25,7 +26,7 @@ fn characters_of_two_fonts_are_written(rt: HostRuntime) -> Result<(), test::Fail
         read_font(alloc, &bytes, "u", Some(327_680))?,
     ];
     let list = [Letter(0), Letter(1), Kern(-1), Letter(0)];
-    let page = hbox(alloc, &mut nodes, &fonts, &list)?;
+    let page = hbox(alloc, &mut nodes, &fonts, &list, Additional(0))?;
     let mut dvi = begun(alloc, 1000)?;
     ship(alloc, &mut nodes, &fonts, page, &mut dvi)?;
     assert_eq!(rt; nodes.live(), 0);
@@ -43,8 +44,20 @@ fn characters_of_two_fonts_are_written(rt: HostRuntime) -> Result<(), test::Fail
 fn a_box_brings_back_the_place_where_it_began(rt: HostRuntime) -> Result<(), test::Fail> {
     let alloc = rt.alloc();
     let mut nodes = PlainHeap::new(alloc, 1)?;
-    let inner = hbox(alloc, &mut nodes, &[], &[Kern(300), Rule(10, 20, 0)])?;
-    let page = hbox(alloc, &mut nodes, &[], &[Node(inner), Rule(1, 1, 3)])?;
+    let inner = hbox(
+        alloc,
+        &mut nodes,
+        &[],
+        &[Kern(300), Rule(10, 20, 0)],
+        Additional(0),
+    )?;
+    let page = hbox(
+        alloc,
+        &mut nodes,
+        &[],
+        &[Node(inner), Rule(1, 1, 3)],
+        Additional(0),
+    )?;
     let mut dvi = begun(alloc, 1000)?;
     ship(alloc, &mut nodes, &[], page, &mut dvi)?;
     let drawn = [
@@ -58,9 +71,9 @@ fn a_box_brings_back_the_place_where_it_began(rt: HostRuntime) -> Result<(), tes
 /// Boxes in one another, so many around a rule after a kern of 1 scaled point, and a kern of 1 before each box.
 fn nested(rt: &HostRuntime, nodes: &mut PlainHeap, count: u64) -> Result<u64, Fail<Trouble>> {
     let alloc = rt.alloc();
-    let mut page = hbox(alloc, nodes, &[], &[Kern(1), Rule(1, 1, 0)])?;
+    let mut page = hbox(alloc, nodes, &[], &[Kern(1), Rule(1, 1, 0)], Additional(0))?;
     for _turn in 0..count {
-        page = hbox(alloc, nodes, &[], &[Kern(1), Node(page)])?;
+        page = hbox(alloc, nodes, &[], &[Kern(1), Node(page)], Additional(0))?;
     }
     Ok(page)
 }
@@ -99,7 +112,7 @@ fn a_page_that_is_refused_is_not_begun(rt: HostRuntime) -> Result<(), test::Fail
     let alloc = rt.alloc();
     let mut nodes = PlainHeap::new(alloc, 1)?;
     let high = [Rule(1, 1_073_741_823, 1)];
-    let page = hbox(alloc, &mut nodes, &[], &high)?;
+    let page = hbox(alloc, &mut nodes, &[], &high, Additional(0))?;
     let mut dvi = begun(alloc, 1000)?;
     let why = ship(alloc, &mut nodes, &[], page, &mut dvi).err();
     assert_eq!(rt; why, Some(Is(ShipFault::Trouble(Trouble::Dimension))));

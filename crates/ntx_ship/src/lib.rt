@@ -21,6 +21,3 @@ pub use fault::ShipFault;
 pub use page::{PlacedPage, placed};
 pub use piece::{GlyphMark, Piece, RuleMark};
 pub use shipout::ship;
-
-#[cfg(test)]
-mod tests;

@@ -1,6 +1,6 @@
 //! The pieces of lists and of the boxes in them.
 
-ghost use Rattle.std.specs.Prelude.{◌≡◌, ◌≤◌, ◌+◌, ◌-◌, ◌++◌, ◌^◌, ℕ, List, ◌+ℤ◌, ◌∷◌, [], pos, length, unsigned_abs, unwrap_or, Ok, All, IfOk, OnOk};
+ghost use Rattle.std.specs.Prelude.{◌≡◌, ◌≤◌, ◌+◌, ◌-◌, ◌++◌, ◌^◌, ℕ, List, ◌+ℤ◌, ◌∷◌, [], length, unsigned_abs, unwrap_or, Ok, All, IfOk, OnOk};
 ghost use Rattle.ntx_num.specs.Answer.{Answers, result_map};
 ghost use Rattle.ntx_num.specs.Dimension.{IsDimension};
 ghost use Rattle.ntx_pack.specs.Output.{IsRatio};

@@ -1,6 +1,6 @@
 //! Where the nodes of a list stand.
 
-ghost use Rattle.std.specs.Prelude.{◌≡◌, ◌≤◌, ◌+◌, ◌^◌, pos, ℕ, List, length, Ok, All, IfOk};
+ghost use Rattle.std.specs.Prelude.{◌≡◌, ◌+◌, ◌^◌, pos, ℕ, List, length, Ok, All, IfOk};
 ghost use Rattle.ntx_num.specs.Answer.{Answers, result_map};
 ghost use Rattle.ntx_nodes.specs.Steps.{at};
 ghost use Rattle.ntx_tfm.specs.Font.{FontTables};

@@ -1,8 +1,7 @@
 //! The operations of a page.
 
-ghost use Rattle.std.specs.Prelude.{◌≡◌, ◌∷◌, [], ◌+◌, ◌-ℤ◌, pos, ◌≤◌, ◌<◌, ◌^◌, ◌-◌, slice_get, OnOk};
+ghost use Rattle.std.specs.Prelude.{◌≡◌, ◌+◌, ◌-ℤ◌, pos, ◌≤◌, ◌<◌, ◌-◌, slice_get, OnOk};
 ghost use Rattle.ntx_num.specs.Dimension.{IsDimension};
-ghost use Rattle.ntx_dvi.specs.Operation as operation;
 ghost use Rattle.ntx_dvi.specs.Fonts.{AreKnown};
 ghost use Rattle.ntx_dvi.specs.Writer.{IsInPage, IsBetweenPages, HasNoOpenPush};
 ghost use Rattle.ntx_dvi.specs.Written.{Writes};

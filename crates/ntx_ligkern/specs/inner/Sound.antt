@@ -1,13 +1,9 @@
 -- Kerns that can be made, and pairs that name what a node may hold.
-use Rattle.std.specs.Prelude.{◌≡◌, ℕ, true, Some, IsTrue}
+use Rattle.std.specs.Prelude.{◌≡◌, true, IsTrue}
 use Rattle.ntx_num.specs.Dimension.{IsDimension}
-use Rattle.ntx_tfm.specs.Faults.{is_ligature}
-use Rattle.std.specs.FinMap as map
-use Rattle.ntx_nodes.specs.FieldTable.{held, Linked}
-use Rattle.ntx_nodes.specs.Fields.{kind_of}
 use Rattle.ntx_nodes.specs.Heap.{Heap, is_live, IsLiveLink}
-use Rattle.ntx_nodes.specs.declared.field.Field.{Field}
-use Rattle.ntx_nodes.specs.declared.node.Node.{Node}
+use Rattle.ntx_lists.specs.MadeNodes.{TakesLink}
+use Rattle.ntx_tfm.specs.Faults.{is_ligature}
 use Rattle.ntx_pairs.specs.declared.command.Pair.{Pair}
 use Rattle.ntx_pairs.specs.declared.command.Pair.TheVariants as pairs
 use Rattle.ntx_ligkern.specs.declared.place.Kerning.{Kerning}
@@ -17,16 +13,6 @@ abbrev pub IsFitPair : Pair → Type 0
 IsFitPair pairs.None = Unit {0}
 IsFitPair (pairs.Kern width) = IsDimension width
 IsFitPair (pairs.Lig op code) = IsTrue (is_ligature op)
-
--- a live node of a kind in which this field holds a link
-pub record TakesLink (heap : Heap) (n : ℕ) (f : Field) : Type 0 where
-  pub node : Node
-  pub at : map.get heap.nodes n ≡ Some node
-  pub linked : held (kind_of node.fields.contents) f ≡ Linked
-
--- such nodes stay so
-abbrev pub KeepLinks : Heap → Heap → Type 0
-KeepLinks old new = (n : ℕ) (f : Field) → TakesLink old n f → TakesLink new n f
 
 -- its width is within TeX's dimensions
 abbrev pub IsWide : Kerning → Type 0

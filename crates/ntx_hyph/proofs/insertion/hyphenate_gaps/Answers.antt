@@ -13,5 +13,5 @@ loop-gap-preserved g c =
     let h = g.N.Nodes.heap in
     record {
       goes = next_gap c.args.char c.args.gaps.now (h c.args.nodes.now) (h c.loop-gap.nodes) (h c.hyphenate_gap.new.nodes) c.loop-gap.gap-index _ c.loop-gap-test.true c.loop-gap.invariant.goes c.in_ok-hyphenate_gap.ensures.traced;
-      sound = sound_later (h c.loop-gap.nodes) (h c.hyphenate_gap.new.nodes) c.args.gaps.now c.in_ok-hyphenate_gap.ensures.live c.loop-gap.invariant.sound;
+      sound = sound_later (h c.loop-gap.nodes) (h c.hyphenate_gap.new.nodes) c.args.gaps.now c.in_ok-hyphenate_gap.ensures.keep c.loop-gap.invariant.sound;
     }

@@ -1,7 +1,7 @@
 use Rattle.std.proofs.Common.{drop}
 use Rattle.std.specs.Prelude.{All}
 use Rattle.ntx_hyph.specs.Hyphenation.{hyphenated}
-use Rattle.ntx_hyph.specs.inner.Ends.{IsSound}
+use Rattle.ntx_hyph.specs.inner.Sound.{IsSound}
 use Rattle.ntx_num.proofs.Traces.{Goes}
 use Rattle.ntx_hyph.proofs.insertion.hyphenate_gaps.Given as goal
 

@@ -4,7 +4,7 @@ use Rattle.std.proofs.lemmas.Result.{err_from_is_err_and}
 use Rattle.ntx_patterns.specs.Kept.{table}
 use Rattle.ntx_patterns.specs.Points.{points_in}
 use Rattle.ntx_hyph.specs.Hyphenation.{points_with}
-use Rattle.ntx_hyph.specs.inner.Ends.{IsSound}
+use Rattle.ntx_hyph.specs.inner.Sound.{IsSound}
 use Rattle.ntx_hyph.proofs.SoundGaps.{gaps_sound}
 use Rattle.ntx_hyph.proofs.Endings.{list_stops, memory_stops, hyphens_made, list_refuses, makings_refuse}
 use Rattle.ntx_hyph.proofs.pass.hyphenate_list.Goals as goal

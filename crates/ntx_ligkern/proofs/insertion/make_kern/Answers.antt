@@ -1,9 +1,9 @@
-use Rattle.std.proofs.Common.{Ok, Err, sym, subst}
+use Rattle.std.proofs.Common.{Err, sym, subst}
 use Rattle.std.proofs.lemmas.Result.{err_from_is_err_and}
+use Rattle.ntx_num.specs.Trace.{EndsAs}
 use Rattle.ntx_nodes.specs.Writing.{AreMakable}
 use Rattle.ntx_nodes.specs.declared.fields.Fields.{Fields}
-use Rattle.ntx_ligkern.specs.Making.{made_and_linked}
-use Rattle.ntx_num.specs.Trace.{EndsAs}
+use Rattle.ntx_lists.specs.MadeNodes.{made_and_linked}
 use Rattle.ntx_ligkern.proofs.Kernings.{kern_makable, kern_stops}
 use Rattle.ntx_ligkern.proofs.insertion.make_kern.Goals as goal
 

@@ -1,11 +1,11 @@
-//! Where marks stand.
+//! Where marks stand, at places worked out by hand from TeX's rules.
 
-use super::lists::Part::{Glue, Kern, Letter, Node, Rule};
-use super::lists::{disc, hbox, letter_font, shift, vbox};
-use crate::{GlyphMark, Piece, RuleMark, placed};
+use crate::boxes::Part::{Glue, Kern, Letter, Node, Rule};
+use crate::boxes::{disc, hbox, letter_font, shift, vbox};
 use ntx_item::PackTo::{Additional, Exactly};
 use ntx_nodes::{PlainHeap, Trouble};
 use ntx_num::Fail::Is;
+use ntx_ship::{GlyphMark, Piece, RuleMark, placed};
 use ntx_tfm::read_font;
 use std::test;
 

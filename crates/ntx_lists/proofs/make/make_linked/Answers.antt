@@ -1,6 +1,6 @@
 use Rattle.std.proofs.lemmas.Result.{err_from_is_err_and}
-use Rattle.ntx_hyph.proofs.Making.{link_refused, link_made, can_link}
-use Rattle.ntx_hyph.proofs.insertion.make_linked.Goals as goal
+use Rattle.ntx_lists.proofs.MadeNodes.{link_refused, link_made, can_link}
+use Rattle.ntx_lists.proofs.make.make_linked.Goals as goal
 
 pub returns-in_err-new-clause-traced : goal.returns-in_err-new-clause-traced
 returns-in_err-new-clause-traced g c =
@@ -18,10 +18,10 @@ returns-clause-traced g c =
     let h = g.N.Nodes.heap in
     link_made (h c.args.nodes.now) (h c.make_like.new.nodes) (h c.write.new.nodes) c.args.fields c.args.like c.args.n c.in_ok-new.new c.args.f c.lawful.ensures.lawful c.requires.like c.in_ok-new.ensures.step c.write.ensures.step
 
-pub returns-clause-live : goal.returns-clause-live
-returns-clause-live g c =
+pub returns-clause-keep : goal.returns-clause-keep
+returns-clause-keep g c =
     let h = g.N.Nodes.heap in
-    (can_link (h c.args.nodes.now) (h c.make_like.new.nodes) c.args.fields c.args.like c.args.n c.in_ok-new.new c.args.f c.lawful.ensures.lawful c.requires.like c.requires.linkable c.in_ok-new.ensures.step).live (h c.write.new.nodes) c.write.ensures.step
+    (can_link (h c.args.nodes.now) (h c.make_like.new.nodes) c.args.fields c.args.like c.args.n c.in_ok-new.new c.args.f c.lawful.ensures.lawful c.requires.like c.requires.linkable c.in_ok-new.ensures.step).keep (h c.write.new.nodes) c.write.ensures.step
 
 pub returns-clause-made : goal.returns-clause-made
 returns-clause-made g c =

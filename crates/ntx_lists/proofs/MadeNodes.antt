@@ -1,15 +1,14 @@
 -- What is true of a node that is made with fields and the attributes of another, and of a link that is set to it.
-use Rattle.std.proofs.Common.{◌≡◌, ℕ, ◌<◌, IsOk, true, false, cond, Some, None, Ok, Err, inl, inr, refl, sym, ◌∙◌, ap, subst, arith}
-use Rattle.std.specs.Prelude.{Option, Result, is_some, nat_eq}
+use Rattle.std.proofs.Common.{◌≡◌, ℕ, ◌<◌, IsOk, true, Some, Ok, Err, inl, inr, refl, sym, ◌∙◌, ap, subst}
+use Rattle.std.specs.Prelude.{Result, is_some}
 use Rattle.std.specs.Ordering.{nat_cmp}
-use Rattle.std.specs.Cmp.{nat_cmp_total, unsigned_tied}
-use Rattle.std.proofs.lemmas.Bool.Decides.{nat_tests}
 use Rattle.std.specs.FinMap as map
 use Rattle.ntx_num.specs.Answer.{result_map}
+use Rattle.ntx_num.specs.Trace.{stepped, EndsAs}
 use Rattle.ntx_num.specs.declared.answer.Fail.{Fail}
 use Rattle.ntx_num.specs.declared.answer.Fail.TheVariants.{NoMemory, Is}
 use Rattle.ntx_num.proofs.Answers.{same_Ok}
-use Rattle.ntx_nodes.specs.Fields.{with_field}
+use Rattle.ntx_num.proofs.Traces.{Begins, begins_step, begins_then, passes_first, ends_later, ends_there, ends_stepped, ends_refused}
 use Rattle.ntx_nodes.specs.Heap.{Heap, IsLawful, is_live}
 use Rattle.ntx_nodes.specs.Steps.{of_found, at, put, making, put_fields, put_attributes, set_step, same_attrs_step}
 use Rattle.ntx_nodes.specs.Writing.{make_filled_step, make_like_step, StepsInTwo}
@@ -19,34 +18,19 @@ use Rattle.ntx_nodes.specs.declared.fields.Fields.{Fields}
 use Rattle.ntx_nodes.specs.declared.node.Node.{Node}
 use Rattle.ntx_nodes.specs.declared.trouble.Trouble.{Trouble}
 use Rattle.ntx_nodes.proofs.Fills.{made, refused_too}
-use Rattle.ntx_nodes.proofs.Writes.{put_same, insert_again, live_put, set_live}
-use Rattle.ntx_num.specs.Trace.{stepped, EndsAs}
-use Rattle.ntx_ligkern.specs.Making.{made_like, made_and_linked}
-use Rattle.ntx_ligkern.specs.inner.Ends.{HasFields}
-use Rattle.ntx_ligkern.specs.inner.Sound.{TakesLink, KeepLinks}
-use Rattle.ntx_ligkern.proofs.Links.{taken, put_keeps}
-use Rattle.ntx_num.proofs.Traces.{Begins, begins_step, begins_then, passes_first, ends_later, ends_there, ends_stepped, ends_refused}
-
--- ---- live nodes
-pub record Live (heap : Heap) (n : ℕ) : Type 0 where
-  pub node : Node
-  pub at : map.get heap.nodes n ≡ Some node
-
-live_case : (heap : Heap) (n : ℕ) (o : Option Node) → map.get heap.nodes n ≡ o → is_some o ≡ true → Live heap n
-live_case heap n None at h = cc
-live_case heap n (Some node) at h = record { node = node; at = at }
-
-pub live : (heap : Heap) (n : ℕ) → is_live heap n ≡ true → Live heap n
-live heap n h = live_case heap n (map.get heap.nodes n) refl h
+use Rattle.ntx_nodes.proofs.Writes.{put_same, insert_again, set_live}
+use Rattle.ntx_lists.specs.MadeNodes.{made_like, made_and_linked, HasFields, TakesLink, KeepLinks}
+use Rattle.ntx_lists.proofs.CopyMaps.{get_above}
+use Rattle.ntx_lists.proofs.MadeLinks.{live, taken, put_keeps}
 
 -- ---- attributes of another node
 abbrev bare : Fields → Node
 bare fields = record { fields = fields; attributes = map.empty }
 
-abbrev pub worn_by : Fields → Node → Node
+abbrev worn_by : Fields → Node → Node
 worn_by fields other = record { fields = fields; attributes = other.attributes }
 
-pub like_is : (old : Heap) (fields : Fields) (from : ℕ) (other : Node) → map.get old.nodes from ≡ Some other → make_like_step fields from old ≡ making (worn_by fields other) old
+like_is : (old : Heap) (fields : Fields) (from : ℕ) (other : Node) → map.get old.nodes from ≡ Some other → make_like_step fields from old ≡ making (worn_by fields other) old
 like_is old fields from other there = ap (of_found {A = ℕ × Heap} from (λ x. making (worn_by fields x) old)) there
 
 pub worn : (old mid : Heap) (n from : ℕ) (fields : Fields) (other : Node) → from < old.next → map.get old.nodes from ≡ Some other → make_filled_step fields old ≡ Ok (n, mid)
@@ -107,12 +91,6 @@ link_made old mid new fields from n k f lawful alive s e =
     ends_later (made_like fields from old) k mid new (λ k h. stepped (result_map (λ done. (k, done.1)) (set_step n f (Link (Some k)) h)) h) (Ok k) (like_ends (Ok k) old mid fields from lawful alive s)
     (ends_stepped (result_map (λ done. (k, done.1)) (set_step n f (Link (Some k)) mid)) k mid new (ap (result_map (λ done. (k, done.1))) e))
 
-apart : (m n : ℕ) → m < n → nat_eq n m ≡ false
-apart m n h = grind (arith, nat_tests)
-
-get_other : (m : map.FinMap nat_cmp Node) (n q : ℕ) (x : Node) → nat_eq q n ≡ false → map.get (map.insert m n x) q ≡ map.get m q
-get_other m n q x h = map.get-insert nat_cmp_total m n x q ∙ ap (λ b. cond b (Some x) (map.get m q)) (unsigned_tied q n ∙ h)
-
 -- the heap with a made node, to which a link can be set, and was
 pub record CanLink (old mid : Heap) (n k : ℕ) (f : Field) (fields : Fields) : Type 0 where
   pub ok : IsOk (set_step n f (Link (Some k)) mid)
@@ -134,5 +112,5 @@ can_link old mid fields from n k f lawful alive has s =
     record {
       ok = subst IsOk (sym written) refl;
       keep = λ new e. subst (KeepLinks old) (is new e) (λ q g t. put_keeps mid n has.node takes.0 f (Link (Some k)) there takes.1 q g (later q g t));
-      made = λ new e. subst (λ h. HasFields h k fields) (is new e) (record { node = node; at = get_other mid.nodes n k (record has.node { fields = takes.0 }) (apart n k below) ∙ m.at; is = refl });
+      made = λ new e. subst (λ h. HasFields h k fields) (is new e) (record { node = node; at = get_above mid.nodes n (record has.node { fields = takes.0 }) k below ∙ m.at; is = refl });
     }
