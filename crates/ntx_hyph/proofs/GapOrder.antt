@@ -33,7 +33,7 @@ abbrev WordsIn : List (List Letter) → List ℕ → Type 0
 WordsIn [] names = Unit {0}
 WordsIn (word ∷ words) names = (front : List ℕ) × (rest : List ℕ) × (names ≡ front ++ (names_of word ++ rest)) × WordsIn words rest
 
--- the first of them stands at the front
+-- the first of them stands at the beginning
 abbrev WordsFrom : List (List Letter) → List ℕ → Type 0
 WordsFrom [] names = Unit {0}
 WordsFrom (word ∷ words) names = (rest : List ℕ) × (names ≡ names_of word ++ rest) × WordsIn words rest
@@ -57,7 +57,7 @@ either_from : (b : Bool) (a : Letter) (words : List (List Letter)) (n : ℕ) (na
 either_from true a words n names e w = in_front_from a words n names e w
 either_from false a words n names e w = alone_from a words n names e (from_in words names w)
 
--- a word begins at the front where a letter does
+-- a word begins where a letter does, at the beginning
 abbrev Stand : List (Option Letter) → List (List Letter) → List ℕ → Type 0
 Stand (Some a ∷ rest) words names = WordsFrom words names
 Stand _ words names = WordsIn words names

@@ -28,7 +28,7 @@ abbrev pub goes_on : Letter → List (Option Letter) → Bool
 goes_on a (Some b ∷ rest) = nat_eq a.font b.font
 goes_on a _ = false
 
--- a letter in front of the first word
+-- a letter before the first word
 abbrev pub in_front : Letter → List (List Letter) → List (List Letter)
 in_front a [] = (a ∷ []) ∷ []
 in_front a (word ∷ words) = (a ∷ word) ∷ words

@@ -63,9 +63,11 @@ kerns_at_end fonts heap (Some last) after = kerned fonts heap (Some last) after 
 abbrev pub last_of : List ℕ → Option ℕ
 last_of names = slice_get names (length names - 1)
 
--- then the node before it and the first of `pre`, at the front of `pre`; the node before it and the first of `replace`, at its front, or, if `replace` is
--- empty, the node before it and the node after it, as its only node; the last of `post` and the node after it, at its end; and the last of `replace`
--- and the node after it, at its end.
+-- The kerns of a discretionary with the nodes around it, in this order:
+-- the node before it and the first of `pre`, at the beginning of `pre`;
+-- the node before it and the first of `replace`, at its beginning; if `replace` is empty, the nodes before and after it, as its only node;
+-- the last of `post` and the node after it, at its end;
+-- the last of `replace` and the node after it, at its end.
 abbrev pub kerns_around : List FontTables → Heap → Option ℕ → ℕ → DiscFields → Option ℕ → List Kerning
 kerns_around fonts heap before disc d after =
     kerned fonts heap before d.pre (record { at = disc; field = Pre; next = d.pre })

@@ -38,11 +38,14 @@ fn kern_list<N: Nodes>(
 /// one font that stand side by side, and for which the font has a kern, a kern of subtype 0 with the attributes of the
 /// left glyph is made. The number of a font is its place in `fonts`, counted from 0; a font that is not there has no kerns.
 ///
-/// At a discretionary each of its lists is kerned by itself: `pre`, `post` and `replace`. Then, where a font has a kern, in
-/// this order, the kern of the node before it and the first of `pre` comes to the front of `pre`; that of the node before it
-/// and the first of `replace` to the front of `replace`, or, if `replace` is empty, that of the nodes before and after it
-/// into `replace`; that of the last of `post` and the node after it to the end of `post`; and that of the last of `replace`
-/// and the node after it to the end of `replace`.
+/// At a discretionary each of its lists is kerned by itself: `pre`, `post` and `replace`. Then these kerns come in this
+/// order, each if a font has it:
+///
+/// 1. the kern of the node before the discretionary and the first of `pre`, at the beginning of `pre`;
+/// 2. the kern of the node before it and the first of `replace`, at the beginning of `replace`; if `replace` is empty, the
+///    kern of the nodes before and after the discretionary, into `replace`;
+/// 3. the kern of the last of `post` and the node after it, at the end of `post`;
+/// 4. the kern of the last of `replace` and the node after it, at the end of `replace`.
 ///
 /// # Refusals
 ///
