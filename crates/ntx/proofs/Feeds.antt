@@ -1,5 +1,5 @@
 -- What it means if a run refuses the words.
-use Rattle.std.proofs.Common.{◌≡◌, ℕ, Bool, true, false, List, [], map, Ok, Err, Result, refl, ap, sym, ◌∙◌, subst}
+use Rattle.std.proofs.Common.{◌≡◌, ℕ, true, false, List, [], map, Ok, Err, Result, refl, ap, sym, ◌∙◌, subst}
 use Rattle.std.specs.Prelude.{◌==◌, ◌&&◌, length, IsErr}
 use Rattle.std.proofs.lemmas.Bool.{true≢false, false≢true, eqb-true}
 use Rattle.ntx_io.specs.Outside.{NamedInput}

@@ -10,7 +10,7 @@ use Rattle.ntx_run.specs.declared.outcome.Which.{Which}
 use Rattle.ntx_run.specs.declared.outcome.Which.TheVariants as which
 use Rattle.ntx_run.specs.Run.{FontBytes, read_font, read_fonts}
 use Rattle.ntx_run.specs.Outside.{NoneRose, IsAtEnd, fonts_in_turn, IsAccepted, AreReadInTurn, FailsAt}
-use Rattle.ntx_run.specs.inner.Parts.{IsRefusalOf, IsRead, ReadsInput, ReadsFont, ReadsFonts, NoFont, AtFont, FontRead}
+use Rattle.ntx_run.specs.inner.Parts.{IsRefusalOf, IsRead, ReadsInput, ReadsFonts, NoFont, AtFont, FontRead}
 
 -- An input that was read is accepted.
 pub accepted : {A : Type 0} (reads : List ℕ → Result A StopReason) (value : A) (before after : Input) → IsRead reads value before after → IsAccepted (λ bytes. is_ok (reads bytes)) before after

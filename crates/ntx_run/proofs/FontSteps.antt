@@ -1,6 +1,6 @@
 -- One font more: what reading the first of the fonts that are left makes of all of them.
-use Rattle.std.proofs.Common.{◌≡◌, ℕ, ◌+◌, ◌-◌, Bool, true, false, ℤ, List, [], ◌∷◌, ◌++◌, map, Option, None, Result, Ok, Err, inr, refl, ap, sym, ◌∙◌, subst, arith, append_assoc, slice_index_or, slice_set}
-use Rattle.std.specs.Prelude.{IsTrue, ◌==◌, length, drop, OnOk}
+use Rattle.std.proofs.Common.{◌≡◌, ℕ, ◌+◌, ◌-◌, true, false, ℤ, List, [], ◌∷◌, ◌++◌, map, Option, None, Result, Ok, Err, inr, refl, ap, sym, ◌∙◌, subst, arith, append_assoc, slice_index_or, slice_set}
+use Rattle.std.specs.Prelude.{IsTrue, ◌==◌, length, OnOk}
 use Rattle.std.specs.Option.{ForSome}
 use Rattle.std.proofs.Math.Seq.{drop-length}
 use Rattle.std.proofs.lemmas.Bool.{eqb-true}

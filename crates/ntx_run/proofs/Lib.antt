@@ -1,13 +1,11 @@
--- the rules of an accepted document
-pub mod Rules
--- sizes and marks of rules, one rule more
-pub mod Marks
--- the operations that draw marks
-pub mod Drawing
 -- what sinks take
 pub mod Sinks
--- the DVI file of commands, written whole or not
-pub mod Files
+-- carrying out the steps of a job
+pub mod Carrying
+-- what a machine does with a job
+pub mod Machines
+-- the moments of a run
+pub mod Moments
 -- words and feeds' names that are accepted
 pub mod Fitting
 -- what was read of the fonts
@@ -18,5 +16,9 @@ pub mod FontSteps
 pub mod Reading
 -- how a run ends, from what stands before its last line
 pub mod Endings
--- the ways in which a run ends
+-- how a run ends that broke off
+pub mod Breaking
+-- the ways in which a run ends before a machine is made
 pub mod Cases
+-- the ways in which a run ends after that
+pub mod JobCases

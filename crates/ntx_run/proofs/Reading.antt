@@ -1,5 +1,5 @@
 -- What was read of the inputs: in what order, and what the definition of a run makes of their bytes.
-use Rattle.std.proofs.Common.{◌≡◌, ℕ, ℤ, List, [], ◌∷◌, map, Option, Some, Result, Ok, Err, ◌⊎◌, inl, inr, refl, ap, sym, ◌∙◌}
+use Rattle.std.proofs.Common.{◌≡◌, ℕ, ℤ, List, [], ◌∷◌, map, Option, Some, Result, Ok, Err, ◌⊎◌, inl, inr, refl, ap, sym, ◌∙◌, subst}
 use Rattle.std.specs.Prelude.{IsTrue, is_ok, length}
 use Rattle.std.proofs.lemmas.List.{length-map}
 use Rattle.ntx_num.specs.Answer.{result_and_then, result_map}
@@ -11,8 +11,8 @@ use Rattle.ntx_run.specs.declared.stop.StopReason.TheVariants as stop
 use Rattle.ntx_run.specs.declared.outcome.Which.{Which}
 use Rattle.ntx_run.specs.declared.outcome.Which.TheVariants as which
 use Rattle.ntx_run.specs.Run.{InputBytes, Job, job_of, read_document, read_script, read_patterns, read_fonts, read_inputs, fits_form, font_sizes}
-use Rattle.ntx_run.specs.Outside.{Inputs, Turn, names_of, fonts_in_turn, in_turn, input_counts, Exposes, AreAtEnd, IsAccepted, AreReadInTurn, AreReadInOrder, FailsAt}
-use Rattle.ntx_run.specs.inner.Parts.{IsRefusalOf, ReadsFonts, ReadsInputs, AtDocument, AtScript, AtPatterns, AtFonts}
+use Rattle.ntx_run.specs.Outside.{Inputs, Turn, names_of, fonts_in_turn, in_turn, input_counts, Exposes, AreAtEnd, AreReadInTurn, AreReadInOrder, FailsAt}
+use Rattle.ntx_run.specs.inner.Parts.{IsRefusalOf, ReadsInput, ReadsInputs, AtDocument, AtScript, AtPatterns, AtFonts}
 use Rattle.ntx_run.proofs.FontReading.{accepted, font_counts, fonts_named, fonts_in_order, StopsAtFont, stops_at_font, AreFontsRead, fonts_read}
 
 -- ---- names
@@ -32,6 +32,10 @@ same_names inputs bytes exposes =
 same_number : (inputs : Inputs) (bytes : InputBytes) → Exposes inputs bytes → length inputs.fonts ≡ length bytes.fonts
 same_number inputs bytes exposes =
     sym (length-map inputs.fonts (λ font. font.name)) ∙ ap length (same_names inputs bytes exposes) ∙ length-map bytes.fonts (λ font. font.name)
+
+-- The document, beside as many fonts as there are feeds.
+pub beside_feeds : {X : Type 0} (seen : X → NamedInput) (feeds : List X) (before after : Input) (result : Result (List Command) StopReason) → ReadsInput which.Document (read_document (length feeds)) before after result → ReadsInput which.Document (read_document (length (map seen feeds))) before after result
+beside_feeds seen feeds before after result reads = subst (λ n. ReadsInput which.Document (read_document n) before after result) (sym (length-map feeds seen)) reads
 
 -- ---- the order
 

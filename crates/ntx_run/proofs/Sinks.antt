@@ -1,26 +1,20 @@
--- What is added to a sink, and what becomes of a file that was drawn.
-use Rattle.std.proofs.Common.{◌≡◌, ℕ, List, [], Option, Some, None, Result, Ok, Err, inl, inr, refl, ap, sym, subst}
-use Rattle.std.proofs.lemmas.List.{append-nil}
-use Rattle.ntx_num.specs.declared.answer.Fail.{Fail}
-use Rattle.ntx_num.specs.declared.answer.Fail.TheVariants as fail
+-- What is added to a sink, piece by piece.
+use Rattle.std.proofs.Common.{◌≡◌, ℕ, List, [], ◌∷◌, ◌++◌, Option, Some, None, refl, ap, sym, ◌∙◌, subst, append_assoc}
+use Rattle.std.specs.Prelude.{◌≢◌, IsSome}
+use Rattle.std.proofs.lemmas.List.{append-nil, append_cancel_left}
 use Rattle.ntx_io.specs.Outside.{Output, Adds, AddsPrefix, AddsProperPrefix}
-use Rattle.ntx_dvi.specs.declared.full.DviFull.{DviFull}
-use Rattle.ntx_dvi.specs.Writer.{Writer, new_writer}
-use Rattle.ntx_dvi.specs.Written.{WritesAs, Writes}
-use Rattle.ntx_doc.specs.declared.command.Command.{Command}
-use Rattle.ntx_run.specs.declared.stop.StopReason.{StopReason}
-use Rattle.ntx_run.specs.Page.{document_operations}
-use Rattle.ntx_run.specs.Run.{max_dvi}
-use Rattle.ntx_run.specs.inner.Parts.{HandsOver, HandsOverFile, Typesets}
 
--- ---- what is added
+-- ---- one piece
 
 pub adds_nothing : (old : Option (List ℕ)) → Adds old old []
 adds_nothing (Some taken) = ap Some (sym (append-nil taken))
 adds_nothing None = refl
 
-pub adds_no_prefix : (old : Option (List ℕ)) (text : List ℕ) → AddsPrefix old old text
-adds_no_prefix old text = record { prefix = []; rest = text; parts = refl; adds = adds_nothing old }
+pub adds_none : (before after : Output) → after ≡ before → Adds before.taken after.taken []
+adds_none before after same = subst (λ o. Adds before.taken o.taken []) (sym same) (adds_nothing before.taken)
+
+pub adds_no_prefix : (before after : Output) (text : List ℕ) → after ≡ before → AddsPrefix before.taken after.taken text
+adds_no_prefix before after text same = record { prefix = []; rest = text; parts = refl; adds = adds_none before after same }
 
 pub adds_whole : (old new : Option (List ℕ)) (text : List ℕ) → Adds old new text → AddsPrefix old new text
 adds_whole old new text adds =
@@ -30,15 +24,33 @@ pub adds_proper : (old new : Option (List ℕ)) (text : List ℕ) → AddsProper
 adds_proper old new text cut =
     record { prefix = cut.prefix; rest = cut.rest; parts = cut.parts; adds = cut.adds }
 
--- ---- a file that was drawn
+-- ---- one piece after another
 
-handed : (commands : List Command) (drawn : Result (Unit {0}) (Fail DviFull)) (last : Writer) (before after : Output) (result : Result (Unit {0}) StopReason) → WritesAs drawn (new_writer max_dvi) last (document_operations commands) → HandsOver drawn last.waiting before after result → Typesets commands before after result
-handed commands (Ok a) last before after result writes hands =
-    subst (λ file. HandsOverFile file before after result) (sym writes) (elim hands [ inl whole ↦ inl whole | inr cut ↦ inr (inl cut) ])
-handed commands (Err (fail.Is full)) last before after result writes hands =
-    subst (λ file. HandsOverFile file before after result) (sym writes) (elim hands [ inl whole ↦ inl whole | inr cut ↦ inr (inl cut) ])
-handed commands (Err fail.NoMemory) last before after result writes hands = inr (inr hands)
+pub adds_then : (old mid new : Option (List ℕ)) (first second : List ℕ) → Adds old mid first → Adds mid new second → Adds old new (first ++ second)
+adds_then (Some taken) mid new first second one other =
+    let rest : Adds (Some (taken ++ first)) new second = subst (λ o. Adds o new second) one other in
+    rest ∙ ap Some (append_assoc taken first second)
+adds_then None mid new first second one other = subst (λ o. Adds o new second) one other
 
-pub typesets : (commands : List Command) (drawn : Result (Unit {0}) (Fail DviFull)) (old last : Writer) (bytes : List ℕ) (before after : Output) (result : Result (Unit {0}) StopReason) → old ≡ new_writer max_dvi → Writes drawn old last (document_operations commands) → bytes ≡ last.waiting → HandsOver drawn bytes before after result → Typesets commands before after result
-typesets commands drawn old last bytes before after result fresh writes waits hands =
-    handed commands drawn last before after result (subst (λ w. WritesAs drawn w last (document_operations commands)) fresh writes.done) (subst (λ b. HandsOver drawn b before after result) waits hands)
+pub adds_prefix_then : (old mid new : Option (List ℕ)) (first second : List ℕ) → Adds old mid first → AddsPrefix mid new second → AddsPrefix old new (first ++ second)
+adds_prefix_then old mid new first second one other = record {
+  prefix = first ++ other.prefix;
+  rest = other.rest;
+  parts = ap (λ t. first ++ t) other.parts ∙ sym (append_assoc first other.prefix other.rest);
+  adds = adds_then old mid new first other.prefix one other.adds;
+}
+
+-- ---- what was not taken whole
+
+pub nothing_first : (xs ys : List ℕ) → xs ++ ys ≡ [] → xs ≡ []
+nothing_first [] ys e = refl
+nothing_first (x ∷ xs) ys e = cc
+
+-- A sink that took less than a text did not take the text.
+pub takes_no_more : (old new : Option (List ℕ)) (prefix rest more : List ℕ) → IsSome old → Adds old new prefix → rest ≢ [] → Adds old new ((prefix ++ rest) ++ more) → ⊥
+takes_no_more None new prefix rest more some adds cut all = cc
+takes_no_more (Some taken) new prefix rest more some adds cut all =
+    let same : Some (taken ++ prefix) ≡ Some (taken ++ ((prefix ++ rest) ++ more)) = sym adds ∙ all in
+    let text : taken ++ prefix ≡ taken ++ ((prefix ++ rest) ++ more) = cc in
+    let ends : prefix ++ [] ≡ prefix ++ (rest ++ more) = append-nil prefix ∙ append_cancel_left taken prefix ((prefix ++ rest) ++ more) text ∙ append_assoc prefix rest more in
+    cut (nothing_first rest more (sym (append_cancel_left prefix [] (rest ++ more) ends)))

@@ -1,5 +1,5 @@
 -- What the words of the command line and the feeds' names have to be for fonts to be read.
-use Rattle.std.specs.Prelude.{◌≡◌, false, ℤ, ℕ, List, [], ◌∷◌, map, Option, Some, None, IsTrue}
+use Rattle.std.specs.Prelude.{◌≡◌, false, ℤ, ℕ, List, [], ◌∷◌, Option, Some, None, IsTrue}
 use Rattle.std.specs.Option.{ForSome}
 use Rattle.ntx_tfm.specs.Font.{IsSize}
 use Rattle.ntx_run.specs.Run.{is_feed_name, fits_form, font_sizes}
