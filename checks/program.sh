@@ -70,6 +70,14 @@ empty_file='
     f702018392c01c3b0000000003e8036e7478
     f8ffffffff018392c01c3b0000000003e8000000000000000000000000
     f90000001202dfdfdfdfdfdfdf'
+# The letter a in a font of the name T at 10 points, 655360 below the top: its definition stands before it and in the postamble.
+letter_file='
+    f702018392c01c3b0000000003e8036e7478
+    8b00000001000000000000000000000000000000000000000000000000000000000000000000000000ffffffff
+    8d9f0a0000 f30000000000000a0000000a0000000154 ab61 8e8c
+    f800000012018392c01c3b0000000003e8000a0000000500000001 0001
+    f30000000000000a0000000a0000000154
+    f90000005902dfdfdfdfdfdfdf'
 
 # ---- the file of a document, and what is refused
 
@@ -134,6 +142,26 @@ ends 'a font whose name has a space' 2 '! Words\n' document script patterns dvi 
 ends 'a font without a name' 2 '! Words\n' document script patterns dvi .tfm
 ends 'a font without a path' 2 '! Words\n' document script patterns dvi @5
 has 'fonts whose names are refused' dvi 78
+cd ..
+
+# ---- text
+
+job 'hbox\ntext a\nend'
+cp "$font" T.tfm
+ends 'a letter' 0 '' document script patterns dvi T.tfm
+has 'a letter' dvi "$letter_file"
+ends 'a letter without a font' 3 '! Document line 2 Font\n' document script patterns dvi
+cd ..
+
+job 'hbox\ntext A\nend'
+cp "$font" T.tfm
+ends 'a letter that the font lacks' 8 '! EngineFault NoChar in hpack\n' document script patterns dvi T.tfm
+has 'a letter that the font lacks' dvi ''
+cd ..
+
+job 'hbox\nrule 1 1073741823 1\nend'
+ends 'a rule that is too low' 8 '! EngineFault Dimension in ship\n' document script patterns dvi
+has 'a rule that is too low' dvi f702018392c01c3b0000000003e8036e7478
 cd ..
 
 # ---- words
