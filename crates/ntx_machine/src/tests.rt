@@ -1,7 +1,12 @@
-//! What no contract says: that a machine carries out documents if memory suffices, with files worked out by hand from the format of DVI.
+//! What no contract says in words: the names of troubles and phases. Documents are typeset by the crate `ntx_document_rows`.
 
-mod files;
-mod font;
-mod places;
-mod run;
-mod stops;
+use crate::{phase_name, trouble_name};
+use ntx_nodes::{Phase, Trouble};
+use std::test::Fail;
+
+#[test]
+fn troubles_and_phases_have_names(rt: HostRuntime) -> Result<(), Fail> {
+    assert_eq!(rt; trouble_name(Trouble::NoChar(1)), "NoChar");
+    assert_eq!(rt; phase_name(Phase::Hpack), "hpack");
+    Ok(())
+}

@@ -1,7 +1,7 @@
 //! Whole files.
 
-use crate::tests::font::fonts;
-use crate::tests::run::run;
+use crate::typeset::typeset;
+use ntx_run::Status;
 use std::alloc::{AllocError, Global};
 use std::test::Fail;
 
@@ -210,11 +210,10 @@ fn a_document_with_a_box_makes_a_page(rt: HostRuntime) -> Result<(), Fail> {
         },
     ];
     for expected in &table {
-        let given = run(alloc, fonts(alloc)?, expected.document)?;
-        assert_eq!(rt; given.answer, Ok(()));
+        let given = typeset(alloc, expected.document)?;
+        assert_eq!(rt; given.status, Status::Done);
         assert_eq!(rt; given.dvi.as_slice(), file(alloc, expected)?.as_slice());
-        assert_eq!(rt; given.pages, 1);
-        assert_eq!(rt; given.live, 0);
+        assert_eq!(rt; given.live, Some(0));
     }
     Ok(())
 }
@@ -222,7 +221,7 @@ fn a_document_with_a_box_makes_a_page(rt: HostRuntime) -> Result<(), Fail> {
 #[test]
 fn a_document_without_a_box_makes_no_page(rt: HostRuntime) -> Result<(), Fail> {
     let alloc = rt.alloc();
-    let given = run(alloc, fonts(alloc)?, b"set hsize 5\nattr 1 2")?;
+    let given = typeset(alloc, b"set hsize 5\nattr 1 2")?;
     let mut file = Vec::new(alloc);
     file.extend_from_slice(&PREAMBLE)?;
     file.extend_from_slice(&[0xf8, 0xff, 0xff, 0xff, 0xff])?;
@@ -230,8 +229,7 @@ fn a_document_without_a_box_makes_no_page(rt: HostRuntime) -> Result<(), Fail> {
     file.extend_from_slice(&[0; 12])?;
     file.extend_from_slice(&[0xf9, 0, 0, 0, 18, 2])?;
     file.extend_from_slice(&[0xdf; 7])?;
-    assert_eq!(rt; given.answer, Ok(()));
+    assert_eq!(rt; given.status, Status::Done);
     assert_eq!(rt; given.dvi.as_slice(), file.as_slice());
-    assert_eq!(rt; given.pages, 0);
     Ok(())
 }

@@ -1,14 +1,13 @@
-//! Documents at which the machine stops.
+//! Documents that cannot be typeset.
 
-use crate::tests::files::PREAMBLE;
-use crate::tests::font::fonts;
-use crate::tests::run::run;
-use crate::{Stop, phase_name, trouble_name};
+use crate::files::PREAMBLE;
+use crate::typeset::typeset;
 use ntx_nodes::{Phase, Trouble};
+use ntx_run::{Place, Status};
 use std::test::Fail;
 
 #[test]
-fn a_machine_stops_at_the_first_trouble(rt: HostRuntime) -> Result<(), Fail> {
+fn the_first_trouble_ends_a_run(rt: HostRuntime) -> Result<(), Fail> {
     let alloc = rt.alloc();
     let table: [(&[u8], Trouble, Phase, usize, u64); 4] = [
         // The font has no character 65. The glyph stays, under the first name.
@@ -39,10 +38,11 @@ fn a_machine_stops_at_the_first_trouble(rt: HostRuntime) -> Result<(), Fail> {
         ),
     ];
     for (document, why, phase, bytes, live) in table {
-        let given = run(alloc, fonts(alloc)?, document)?;
-        assert_eq!(rt; given.answer, Err(Stop::Engine(why, phase)));
+        let given = typeset(alloc, document)?;
+        assert_eq!(rt; given.status, Status::EngineFault);
+        assert_eq!(rt; given.place, Some(Place::Engine(why, phase)));
         assert_eq!(rt; Some(given.dvi.as_slice()), PREAMBLE.get(..bytes));
-        assert_eq!(rt; given.live, live);
+        assert_eq!(rt; given.live, Some(live));
     }
     Ok(())
 }
@@ -54,23 +54,16 @@ fn a_65th_attribute_is_refused_where_it_is_set(rt: HostRuntime) -> Result<(), Fa
     for id in 0..65u64 {
         document.push_str(format!(in alloc; "attr {id} 1\n")?.as_str())?;
     }
-    let given = run(alloc, fonts(alloc)?, document.as_bytes())?;
+    let given = typeset(alloc, document.as_bytes())?;
     assert_eq!(rt;
-        given.answer,
-        Err(Stop::Engine(Trouble::AttrFull, Phase::Build))
+        given.place,
+        Some(Place::Engine(Trouble::AttrFull, Phase::Build))
     );
     document.push_str("noattr 7")?;
-    let again = run(alloc, fonts(alloc)?, document.as_bytes())?;
+    let again = typeset(alloc, document.as_bytes())?;
     assert_eq!(rt;
-        again.answer,
-        Err(Stop::Engine(Trouble::AttrFull, Phase::Build))
+        again.place,
+        Some(Place::Engine(Trouble::AttrFull, Phase::Build))
     );
-    Ok(())
-}
-
-#[test]
-fn troubles_and_phases_have_names(rt: HostRuntime) -> Result<(), Fail> {
-    assert_eq!(rt; trouble_name(Trouble::NoChar(1)), "NoChar");
-    assert_eq!(rt; phase_name(Phase::Hpack), "hpack");
     Ok(())
 }

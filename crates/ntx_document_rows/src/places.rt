@@ -1,8 +1,8 @@
 //! Where marks stand in boxes whose glue is set, in boxes in boxes, and with several fonts.
 
-use crate::tests::files::{DOWN, Expected, FONT, SQUARE, file};
-use crate::tests::font::{fonts, two_fonts};
-use crate::tests::run::run;
+use crate::files::{DOWN, Expected, FONT, SQUARE, file};
+use crate::typeset::typeset;
+use ntx_run::Status;
 use std::test::Fail;
 
 #[test]
@@ -58,8 +58,8 @@ fn glue_is_set_in_both_directions(rt: HostRuntime) -> Result<(), Fail> {
         },
     ];
     for expected in &table {
-        let given = run(alloc, fonts(alloc)?, expected.document)?;
-        assert_eq!(rt; given.answer, Ok(()));
+        let given = typeset(alloc, expected.document)?;
+        assert_eq!(rt; given.status, Status::Done);
         assert_eq!(rt; given.dvi.as_slice(), file(alloc, expected)?.as_slice());
     }
     Ok(())
@@ -76,7 +76,7 @@ fn boxes_nest_to_depth_20(rt: HostRuntime) -> Result<(), Fail> {
     for _ in 0..20u64 {
         document.push_str("end\n")?;
     }
-    let given = run(alloc, fonts(alloc)?, document.as_bytes())?;
+    let given = typeset(alloc, document.as_bytes())?;
     let expected = Expected {
         document: b"",
         page: &[&[0x8d; 20], &DOWN, &SQUARE, &[0x8e; 20]],
@@ -86,7 +86,7 @@ fn boxes_nest_to_depth_20(rt: HostRuntime) -> Result<(), Fail> {
         postamble: 117,
         fill: 4,
     };
-    assert_eq!(rt; given.answer, Ok(()));
+    assert_eq!(rt; given.status, Status::Done);
     assert_eq!(rt; given.dvi.as_slice(), file(alloc, &expected)?.as_slice());
     Ok(())
 }
@@ -94,11 +94,7 @@ fn boxes_nest_to_depth_20(rt: HostRuntime) -> Result<(), Fail> {
 #[test]
 fn each_font_is_defined_before_its_first_character(rt: HostRuntime) -> Result<(), Fail> {
     let alloc = rt.alloc();
-    let given = run(
-        alloc,
-        two_fonts(alloc)?,
-        b"hbox\ntext a\nfont 1\nchar 97\nchar 98\nend",
-    )?;
+    let given = typeset(alloc, b"hbox\ntext a\nfont 1\nchar 97\nchar 98\nend")?;
     // The second font at 450000 scaled points: its characters are 225000 wide.
     let second = [
         0xf3, 1, 0, 0, 0, 0, 0, 0x06, 0xdd, 0xd0, 0, 0x0a, 0, 0, 0, 1, 0x55,
@@ -123,7 +119,7 @@ fn each_font_is_defined_before_its_first_character(rt: HostRuntime) -> Result<()
         postamble: 109,
         fill: 6,
     };
-    assert_eq!(rt; given.answer, Ok(()));
+    assert_eq!(rt; given.status, Status::Done);
     assert_eq!(rt; given.dvi.as_slice(), file(alloc, &expected)?.as_slice());
     Ok(())
 }

@@ -1,8 +1,6 @@
 //! A small font: the characters `-`, `0` to `2` and `a` to `z`, each 327680 wide and 286720 high, at 10 points.
 
-use ntx_tfm::{Font, read_font};
 use std::alloc::{AllocError, Global};
-use std::test::Fail;
 
 /// The word of a character's size and program.
 fn char_word(code: u8) -> [u8; 4] {
@@ -16,7 +14,7 @@ fn char_word(code: u8) -> [u8; 4] {
 }
 
 /// The font's file.
-fn file(alloc: Global) -> Result<Vec<u8>, AllocError> {
+pub fn font_file(alloc: Global) -> Result<Vec<u8>, AllocError> {
     let mut file = Vec::new(alloc);
     for n in [101u16, 2, 45, 122, 2, 2, 1, 1, 4, 1, 0, 4] {
         file.extend_from_slice(&n.to_be_bytes())?;
@@ -42,24 +40,4 @@ fn file(alloc: Global) -> Result<Vec<u8>, AllocError> {
         file.extend_from_slice(&word.to_be_bytes())?;
     }
     Ok(file)
-}
-
-/// This font alone, named `T`.
-pub fn fonts(alloc: Global) -> Result<Vec<Font>, Fail> {
-    let bytes = file(alloc)?;
-    let mut fonts = Vec::new(alloc);
-    if let Ok(font) = read_font(alloc, bytes.as_slice(), "T", None) {
-        fonts.push(font)?;
-    }
-    Ok(fonts)
-}
-
-/// This font at two sizes: its design size, and 450000 scaled points under the name `U`.
-pub fn two_fonts(alloc: Global) -> Result<Vec<Font>, Fail> {
-    let bytes = file(alloc)?;
-    let mut fonts = fonts(alloc)?;
-    if let Ok(font) = read_font(alloc, bytes.as_slice(), "U", Some(450_000)) {
-        fonts.push(font)?;
-    }
-    Ok(fonts)
 }
