@@ -200,8 +200,9 @@ def found(listing):
         rule = re.match(r"^\d+: setrule height (\d+), width (\d+) .*?h:=(-?\d+)", line)
         if rule:
             marks.append((f"rule {rule.group(1)} {rule.group(2)}", int(rule.group(3)), v))
-        # What stands outside of its box is seen by dvitype, and is no fault of the file.
-        if re.search(r"bad|warning|error|missing|not|too", line, re.I) and "observed max" not in line:
+        # Places beyond the size of the page are seen by dvitype, and are no fault of the file. A line in brackets is text.
+        beyond = "observed max" in line or "warning: |h|>" in line or "warning: |v|>" in line
+        if re.search(r"bad|warning|error|missing|not |too ", line, re.I) and not beyond and not line.startswith("["):
             complaints.append(line)
     return marks, complaints
 
@@ -271,7 +272,7 @@ def main(program, font, count, directory, *documents):
     fonts = [Font(font, None), Font(font, 450000)]
     texts = [text for path in documents for text in read(path)]
     texts += [(f"generated document {n}", generated(n)) for n in range(int(count))]
-    paths = [os.path.join(directory, name) for name in ("document", "script", "patterns", "dvi")]
+    paths = [os.path.join(directory, name) for name in ("document", "script", "patterns", "out.dvi")]
     for path in paths[1:3]:
         open(path, "w").close()
     environment = dict(os.environ, TFMFONTS=os.path.dirname(os.path.abspath(font)) + ":")
@@ -293,7 +294,8 @@ def main(program, font, count, directory, *documents):
             print(f"peers/places.py: {name}: dvitype complains: {complaints}")
             failed = True
         if there != wanted:
-            print(f"peers/places.py: {name}: dvitype finds {there}, and not {wanted}")
+            at = next((i for i, (a, b) in enumerate(zip(there, wanted)) if a != b), min(len(there), len(wanted)))
+            print(f"peers/places.py: {name}: from mark {at + 1} on dvitype finds {there[at : at + 3]}, and not {wanted[at : at + 3]}")
             failed = True
     print(f"peers/places.py: {len(texts)} documents, {marks} marks")
     return 1 if failed or marks == 0 else 0
