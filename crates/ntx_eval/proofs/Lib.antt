@@ -7,3 +7,5 @@ pub mod RelatedTrees
 pub mod RelatedCalls
 pub mod Steps
 pub mod WorkedProofs
+pub mod Running
+pub mod CodeArms

@@ -20,6 +20,9 @@ pub mod Blocks
 pub mod Trees
 pub mod Meaning
 pub mod Calls
+-- the machine that runs code
+pub mod inner
+pub mod Seen
 -- laws and examples
 pub mod Script
 pub mod Laws

@@ -15,4 +15,6 @@ mod packing;
 #[cfg(test)]
 mod runs;
 #[cfg(test)]
+mod scripts;
+#[cfg(test)]
 mod trickle;
