@@ -9,3 +9,4 @@ pub mod Steps
 pub mod WorkedProofs
 pub mod Running
 pub mod CodeArms
+pub mod Alike
