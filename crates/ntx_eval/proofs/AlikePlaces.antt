@@ -160,7 +160,7 @@ module _ {S : Type 0} {code : Code} {before : List Closure} where
       → Alike {S = S} code before (λ scope' locals'. Places up (declare sc names) scope' locals') (tree.bind (names_of names) vs scope) (code-places.bind names vs locals)
   binds up sc [] vs scope locals places = gives (record { names = append-nil sc.names ∙ places.names; cells = places.cells; from = places.from })
   binds up sc (name ∷ names) vs scope locals places = record { ends = λ s cs h.
-      (subst (λ (z : resolved.Scope). Alike code before (λ (scope' : Scope) (locals' : List ℕ). Places up z scope' locals') (tree.bind (names_of names) (others vs) ((name.name, length s.cells) ∷ scope)) (code-places.bind names (others vs) (locals ++ length s.cells ∷ [])))
+      (subst (λ (z : resolved.Scope). Alike {S = S} code before (λ (scope' : Scope) (locals' : List ℕ). Places up z scope' locals') (tree.bind (names_of names) (others vs) ((name.name, length s.cells) ∷ scope)) (code-places.bind names (others vs) (locals ++ length s.cells ∷ [])))
       (one_by_one sc name names)
       (binds up (declare sc (name ∷ [])) names (others vs) ((name.name, length s.cells) ∷ scope) (locals ++ length s.cells ∷ []) (declared name (length s.cells) places))).ends
       (record s { cells = s.cells ++ first vs ∷ [] }) cs h }

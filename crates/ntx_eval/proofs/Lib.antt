@@ -10,3 +10,5 @@ pub mod WorkedProofs
 pub mod Running
 pub mod CodeArms
 pub mod Alike
+pub mod AlikePlaces
+pub mod AlikeParts
