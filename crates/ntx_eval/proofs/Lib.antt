@@ -12,3 +12,4 @@ pub mod CodeArms
 pub mod Alike
 pub mod AlikePlaces
 pub mod AlikeParts
+pub mod TreeArms
