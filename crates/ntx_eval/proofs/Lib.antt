@@ -13,3 +13,5 @@ pub mod Alike
 pub mod AlikePlaces
 pub mod AlikeParts
 pub mod TreeArms
+pub mod CodeStats
+pub mod AlikeLoops
