@@ -15,3 +15,5 @@ pub mod AlikeParts
 pub mod TreeArms
 pub mod CodeStats
 pub mod AlikeLoops
+pub mod AlikeStatements
+pub mod AlikeExps
