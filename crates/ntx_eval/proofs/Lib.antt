@@ -17,3 +17,5 @@ pub mod CodeStats
 pub mod AlikeLoops
 pub mod AlikeStatements
 pub mod AlikeExps
+pub mod AlikeKinds
+pub mod AlikeTrees

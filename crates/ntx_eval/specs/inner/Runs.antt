@@ -48,12 +48,12 @@ host_stop why zero = Is (stopped.Host why)
 host_stop why (suc line) = Is (stopped.Fault (record { line = suc line; why = why }))
 
 -- Steps never rise, numbers of the store stay valid, and the host's state fits the store as before.
-pub record Runs {S A : Type 0} (fits : S → StoreState → Type 0) (result : Result A (Fail ScriptStop)) (old : MachineState) (host : S) (new : MachineState) (after : S)
+pub record Runs {S A : Type 0} (fit : S → StoreState → Type 0) (result : Result A (Fail ScriptStop)) (old : MachineState) (host : S) (new : MachineState) (after : S)
     (action : Action (Kept S) A) : Type 0 where
   pub meets : Meets result new after (action (state_of old host))
   pub falls : new.charges ≤ old.charges
   pub grows : Grows old.store new.store
-  pub fits : fits after new.store
+  pub fits : fit after new.store
 
 -- the library and a host, as code has them
 abbrev pub world_of : {S : Type 0} → (Primitive → List Value → S → StoreState → Answered S) → (List Value → S → StoreState → Answered S) → World (Kept S)
