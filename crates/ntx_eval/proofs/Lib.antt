@@ -19,3 +19,5 @@ pub mod AlikeStatements
 pub mod AlikeExps
 pub mod AlikeKinds
 pub mod AlikeTrees
+pub mod AlikeCalls
+pub mod AlikeScripts
