@@ -5,7 +5,6 @@ use Rattle.ntx_num.specs.declared.answer.Fail.{Fail}
 use Rattle.ntx_num.specs.declared.answer.Fail.TheVariants.{NoMemory, Is}
 use Rattle.ntx_syntax.specs.declared.tree.Chunk.{Chunk}
 use Rattle.ntx_resolve.specs.Scopes as resolved
-use Rattle.ntx_resolve.specs.Scopes.{outermost}
 use Rattle.ntx_resolve.specs.HasCode.{HasCode}
 use Rattle.ntx_resolve.specs.declared.code.Code.{Code}
 use Rattle.ntx_values.specs.declared.value.Value.{Value}
@@ -34,7 +33,7 @@ use Rattle.ntx_eval.proofs.AlikeCalls.{sides}
 
 -- ---- a state that is shown
 
-shown : {S : Type 0} {code : Code} {m : MachineState} {h : S} {s : State S} → Shows code m h s → state_of m h ≡ coded s m.closures
+pub shown : {S : Type 0} {code : Code} {m : MachineState} {h : S} {s : State S} → Shows code m h s → state_of m h ≡ coded s m.closures
 shown {m = m} sees = λ i. record {
     store = (sym sees.store) i;
     globals = (sym sees.globals) i;
@@ -45,7 +44,7 @@ shown {m = m} sees = λ i. record {
     charges = (sym sees.charges) i;
   }
 
-shows : {S : Type 0} {code : Code} {before : List Closure} (m : MachineState) (h : S) (s : State S) (cs : List Closure) → Holds code before s.functions cs → coded s cs ≡ state_of m h → Shows code m h s
+pub shows : {S : Type 0} {code : Code} {before : List Closure} (m : MachineState) (h : S) (s : State S) (cs : List Closure) → Holds code before s.functions cs → coded s cs ≡ state_of m h → Shows code m h s
 shows {code = code} m h s cs holds same = record {
     store = ap (λ t. t.store) same;
     globals = ap (λ t. t.globals) same;
@@ -90,6 +89,15 @@ dropped : {S : Type 0} {code : Code} {before : List Closure} {up : List ℕ} {sc
 dropped (gave p holds) = gave tt holds
 dropped (stopped holds) = stopped holds
 
+outermost_places : Places [] resolved.outermost [] []
+outermost_places = record { names = refl; cells = refl; from = refl }
+
+pub chunk_ended : {S : Type 0} (code : Code) (world : World S) (chunk : Chunk) → HasCode chunk code → (s : State S) (cs : List Closure) → Holds code cs s.functions cs
+    → Ended code cs (λ (_ : Unit {0}) (_ : CodeFlow × List ℕ). Unit {0}) (run_chunk world chunk s) (block_code (setting_at code.functions (lifted world) s.charges 0) code.block (spot_at None [] 0) (coded s cs))
+chunk_ended code world chunk has s cs start =
+    let q = block_alike (sides code world s.charges cs) has.is in
+    rw (body_rolls (tree_run (sides code world s.charges cs)) (record { parameters = []; block = chunk.block })) (dropped ((q.alike [] [] 0 outermost_places).ends s cs start))
+
 module _ {S : Type 0} (code : Code) (world : World S) (m : MachineState) (h : S) (s : State S) (sees : Shows code m h s) where
   start : Holds code m.closures s.functions m.closures
   start = record { functions = sees.functions; keeps = keeps_same m.closures }
@@ -110,19 +118,10 @@ module _ {S : Type 0} (code : Code) (world : World S) (m : MachineState) (h : S)
       (subst (λ t. Meets r new h' (follow_at_most (setting_at code.functions (lifted world) s.charges 0) s.charges first 0 t)) (shown sees)
       (subst (λ c. Meets r new h' (follow_at_most (setting_at code.functions (lifted world) c 0) c first 0 (state_of m h))) (sym sees.charges) is))
 
-  outermost_places : Places [] outermost [] []
-  outermost_places = record { names = refl; cells = refl; from = refl }
-
-  chunk_ended : (chunk : Chunk) → HasCode chunk code → Ended code m.closures (λ (_ : Unit {0}) (_ : CodeFlow × List ℕ). Unit {0}) (run_chunk world chunk s)
-      (block_code (setting_at code.functions (lifted world) s.charges 0) code.block (spot_at None [] 0) (coded s m.closures))
-  chunk_ended chunk has =
-      let q = block_alike (sides code world s.charges m.closures) has.is in
-      rw (body_rolls (tree_run (sides code world s.charges m.closures)) (record { parameters = []; block = chunk.block })) (dropped ((q.alike [] [] 0 outermost_places).ends s m.closures start))
-
   -- The chunk. What it returns is dropped.
   pub chunk_ends : (chunk : Chunk) → HasCode chunk code → (r : Result (CodeFlow × List ℕ) (Fail ScriptStop)) (new : MachineState) (h' : S)
       → Meets r new h' (block_code (setting_at code.functions (lifted world) m.charges 0) code.block (spot_at None [] 0) (state_of m h))
       → Ends code (result_map (λ _. tt) r) new h' (run_chunk world chunk s)
-  chunk_ends chunk has r new h' is = seen (λ _. tt) (λ a b p. refl) (chunk_ended chunk has) r new h'
+  chunk_ends chunk has r new h' is = seen (λ _. tt) (λ a b p. refl) (chunk_ended code world chunk has s m.closures start) r new h'
       (subst (λ t. Meets r new h' (block_code (setting_at code.functions (lifted world) s.charges 0) code.block (spot_at None [] 0) t)) (shown sees)
       (subst (λ c. Meets r new h' (block_code (setting_at code.functions (lifted world) c 0) code.block (spot_at None [] 0) (state_of m h))) (sym sees.charges) is))

@@ -21,3 +21,4 @@ pub mod AlikeKinds
 pub mod AlikeTrees
 pub mod AlikeCalls
 pub mod AlikeScripts
+pub mod Agreeing
