@@ -1,9 +1,6 @@
 -- The code of a script means what its tree means, whichever machine shows its state.
-use Rattle.std.proofs.Common.{◌≡◌, refl, sym, ap, subst, subst₂, ℕ, List, Ok}
-use Rattle.ntx_syntax.specs.declared.tree.Chunk.{Chunk}
-use Rattle.ntx_resolve.specs.HasCode.{HasCode}
+use Rattle.std.proofs.Common.{refl, sym, ap, subst₂, ℕ, List, Ok}
 use Rattle.ntx_resolve.specs.declared.code.Code.{Code}
-use Rattle.ntx_values.specs.declared.value.Value.{Value}
 use Rattle.ntx_eval.specs.State.{State}
 use Rattle.ntx_eval.specs.Host.{World}
 use Rattle.ntx_eval.specs.Ending.{Ending, Action, after, give}
@@ -11,9 +8,7 @@ use Rattle.ntx_eval.specs.Setting.{call, follow}
 use Rattle.ntx_eval.specs.Calls.{run_chunk, call_function, drive}
 use Rattle.ntx_eval.specs.Seen.{Shows}
 use Rattle.ntx_eval.specs.Agreement.{Agree, outermost, chunk_code, CodeMeansTheTree}
-use Rattle.ntx_eval.specs.inner.Machine.{MachineState, Kept, state_of, lifted}
-use Rattle.ntx_eval.specs.inner.Entering.{setting_at}
-use Rattle.ntx_eval.specs.declared.host.HostStep.{HostStep}
+use Rattle.ntx_eval.specs.inner.Machine.{MachineState, Kept, state_of}
 use Rattle.ntx_eval.specs.declared.machine.Closure.{Closure}
 use Rattle.ntx_eval.proofs.Alike.{keeps_same, coded, Holds, Ended, gave, stopped, Same}
 use Rattle.ntx_eval.proofs.AlikeParts.{calls, follows_by}
@@ -41,8 +36,7 @@ from_shown code m h s sees e action same = subst₂ (λ c t. Agree code e (actio
 pub code_means_the_tree : {S : Type 0} (world : World S) → CodeMeansTheTree world
 code_means_the_tree world chunk code has m h s sees =
     let start : Holds code m.closures s.functions m.closures = record { functions = sees.functions; keeps = keeps_same m.closures } in
-    let u = sides code world s.charges m.closures in
-    (
+    let u = sides code world s.charges m.closures in (
       from_shown code m h s sees (run_chunk world chunk s) (λ c. chunk_code world code (record m { charges = c })) (agree (dropped (chunk_ended code world chunk has s m.closures start))),
       (λ f args. from_shown code m h s sees (call_function world f args s) (λ c. call (outermost world code (record m { charges = c })) f args 0) (agree ((calls u f args 0).ends s m.closures start))),
       (λ first. from_shown code m h s sees (drive world first s) (λ c. follow (outermost world code (record m { charges = c })) first 0) (agree ((follows_by u s.charges first 0).ends s m.closures start))),

@@ -1,13 +1,12 @@
 -- Calls of a script end alike, over its tree and over its code, and so does its chunk.
-use Rattle.std.proofs.Common.{◌≡◌, refl, sym, ◌∙◌, ap, subst, ℕ, zero, suc, Bool, true, false, cond, nat_lt, List, [], ◌∷◌, slice_get, Option, Some, None}
-use Rattle.ntx_syntax.specs.declared.tree.Chunk.{Chunk}
+use Rattle.std.proofs.Common.{◌≡◌, refl, ap, ℕ, zero, suc, Bool, true, false, cond, nat_lt, List, [], slice_get, Option, Some, None}
 use Rattle.ntx_syntax.specs.declared.tree.FunctionBody.{FunctionBody, out-FunctionBody}
 use Rattle.ntx_syntax.specs.declared.tree.LocalName.{LocalName}
 use Rattle.ntx_syntax.specs.declared.tree.Block as tree-block
 use Rattle.ntx_resolve.specs.Scopes as resolved
-use Rattle.ntx_resolve.specs.Scopes.{outermost, declare, enter}
+use Rattle.ntx_resolve.specs.Scopes.{declare, enter}
 use Rattle.ntx_resolve.specs.HasCode as has-code
-use Rattle.ntx_resolve.specs.HasCode.{HasCode, IsFunction}
+use Rattle.ntx_resolve.specs.HasCode.{IsFunction}
 use Rattle.ntx_resolve.specs.declared.code.Code.{Code}
 use Rattle.ntx_resolve.specs.declared.code.Block.{Block}
 use Rattle.ntx_resolve.specs.declared.code.Function as code-function
@@ -18,29 +17,26 @@ use Rattle.ntx_values.specs.declared.primitive.Primitive.TheVariants as primitiv
 use Rattle.ntx_values.specs.declared.why.LuaWhy.TheVariants.{Levels}
 use Rattle.ntx_eval.specs.State.{State, Scope, Function, Flow}
 use Rattle.ntx_eval.specs.Host.{World}
-use Rattle.ntx_eval.specs.Ending.{Action, give, fault, ◌>>=◌, ◌>>◌}
+use Rattle.ntx_eval.specs.Ending.{Action, give, fault, ◌>>=◌}
 use Rattle.ntx_eval.specs.Variables as tree-variables
-use Rattle.ntx_eval.specs.Setting.{Setting, call, follow}
-use Rattle.ntx_eval.specs.Parts.{BodyMeaning}
+use Rattle.ntx_eval.specs.Setting.{Setting}
 use Rattle.ntx_eval.specs.Statements.{names_of}
 use Rattle.ntx_eval.specs.Blocks as blocks
 use Rattle.ntx_eval.specs.Meaning.{body_meaning}
 use Rattle.ntx_eval.specs.Calls as tree
-use Rattle.ntx_eval.specs.Calls.{max_levels, function_at, body_of}
-use Rattle.ntx_eval.specs.Seen.{IsClosure}
+use Rattle.ntx_eval.specs.Calls.{max_levels, function_at}
 use Rattle.ntx_eval.specs.inner.Machine.{Kept, lifted}
 use Rattle.ntx_eval.specs.inner.Places as code-places
 use Rattle.ntx_eval.specs.inner.Places.{cells_of_closure}
 use Rattle.ntx_eval.specs.inner.Stats.{block_code}
 use Rattle.ntx_eval.specs.inner.Entering as entering
 use Rattle.ntx_eval.specs.declared.frame.Flow.{Flow as CodeFlow}
-use Rattle.ntx_eval.specs.declared.host.HostStep.{HostStep}
 use Rattle.ntx_eval.specs.declared.machine.Closure.{Closure}
-use Rattle.ntx_eval.proofs.Whole.{whole, body_rolls}
-use Rattle.ntx_eval.proofs.Alike.{Keeps, keeps_same, Paired, neither, paired, paired_at, coded, Holds, Ended, stopped, Alike, Same, then_, then_same, gives, stops, asks_library, wider}
-use Rattle.ntx_eval.proofs.AlikePlaces.{Places, Active, binds, entered_places}
-use Rattle.ntx_eval.proofs.AlikeParts.{Sides, tree_run, code_run, here_at, spot_at, calls, follows_by, host_calls}
-use Rattle.ntx_eval.proofs.AlikeLoops.{SameFlow, both_onward, both_broken, both_returned, Left, flow_left, Blocks}
+use Rattle.ntx_eval.proofs.Whole.{whole}
+use Rattle.ntx_eval.proofs.Alike.{keeps_same, Paired, neither, paired, paired_at, coded, Holds, Ended, stopped, Alike, Same, then_, gives, stops, asks_library, wider}
+use Rattle.ntx_eval.proofs.AlikePlaces.{Places, binds, entered_places}
+use Rattle.ntx_eval.proofs.AlikeParts.{Sides, tree_run, code_run, here_at, spot_at, host_calls}
+use Rattle.ntx_eval.proofs.AlikeLoops.{SameFlow, both_onward, both_broken, both_returned, flow_left}
 use Rattle.ntx_eval.proofs.AlikeTrees.{block_alike}
 use Rattle.ntx_eval.proofs.TreeArms as arms
 
@@ -83,28 +79,28 @@ module _ {S : Type 0} (code : Code) (world : World S) (most : ℕ) (enters : Val
   -- in a function that got these cells when it was made, with these closures
   abbrev inside : (cs : List Closure) (f : FuncId) (closure : Closure) → slice_get cs f.number ≡ Some closure → Sides S code cs
   inside cs f closure at = record {
-      world = world;
-      most = most;
-      enter = enters;
-      enter' = enters';
-      entered = entered cs;
-      function = Some f;
-      up = closure.cells;
-      active = record { is = λ later keeps. ap cells_of_closure (keeps.stays f.number closure at) };
-    }
+    world = world;
+    most = most;
+    enter = enters;
+    enter' = enters';
+    entered = entered cs;
+    function = Some f;
+    up = closure.cells;
+    active = record { is = λ later keeps. ap cells_of_closure (keeps.stays f.number closure at) };
+  }
 
   -- outside all functions
   abbrev pub outside : (before : List Closure) → Sides S code before
   outside before = record {
-      world = world;
-      most = most;
-      enter = enters;
-      enter' = enters';
-      entered = entered before;
-      function = None;
-      up = [];
-      active = record { is = λ later keeps. refl };
-    }
+    world = world;
+    most = most;
+    enter = enters;
+    enter' = enters';
+    entered = entered before;
+    function = None;
+    up = [];
+    active = record { is = λ later keeps. refl };
+  }
 
   by_function : {sc : resolved.Scope} {body : FunctionBody} {k : ℕ} → IsFunction code.functions sc body k → (before : List Closure) (scope : Scope) (cells : List ℕ) → Places cells (enter sc) scope []
       → (f : FuncId) (args : List Value) (line : ℕ) (s : State S) (cs : List Closure) → Holds code before s.functions cs → slice_get cs f.number ≡ Some (record { body = k; cells = cells })

@@ -1,5 +1,5 @@
 -- An expression and its code end alike.
-use Rattle.std.proofs.Common.{◌≡◌, refl, ℕ, ℤ, Bool, true, false, List, [], ◌∷◌, map}
+use Rattle.std.proofs.Common.{◌≡◌, refl, ℕ, ℤ, Bool, true, false, List, map}
 use Rattle.ntx_syntax.specs.declared.tree.Exp as tree-exp
 use Rattle.ntx_syntax.specs.declared.tree.Exp.TheVariants as exp
 use Rattle.ntx_syntax.specs.declared.tree.Field as tree-field
@@ -13,8 +13,7 @@ use Rattle.ntx_syntax.specs.declared.tree.Operation as tree-operation
 use Rattle.ntx_syntax.specs.declared.tree.Prefix as tree-prefix
 use Rattle.ntx_syntax.specs.declared.tree.UnaryOp.{UnaryOp}
 use Rattle.ntx_resolve.specs.Scopes.{Scope, IsVariable}
-use Rattle.ntx_resolve.specs.HasCode as resolved
-use Rattle.ntx_resolve.specs.HasCode.{IsExp, IsExps, IsOperations, IsField, IsFields, IsHead, IsSuffix, IsSuffixes, IsPrefix, IsFunction}
+use Rattle.ntx_resolve.specs.HasCode.{IsFunction}
 use Rattle.ntx_resolve.specs.declared.code.Code.{Code}
 use Rattle.ntx_resolve.specs.declared.code.Variable.{Variable}
 use Rattle.ntx_resolve.specs.declared.code.Exp.{Exp}
@@ -43,7 +42,7 @@ use Rattle.ntx_eval.specs.declared.machine.Closure.{Closure}
 use Rattle.ntx_eval.proofs.Whole.{whole}
 use Rattle.ntx_eval.proofs.Alike.{Alike, Same, then_same, gives, stores, texts, of_stores}
 use Rattle.ntx_eval.proofs.AlikePlaces.{Places, reads_name, makes_function}
-use Rattle.ntx_eval.proofs.AlikeParts.{Sides, Exps, Suffixes, Fields, Operations, Each, no_more, one_more, tree_run, code_run, here_at, spot_at, calls, reads, writes, places_value, places_values, ones, firsts, alls, each_operation, each_suffix, fills}
+use Rattle.ntx_eval.proofs.AlikeParts.{Sides, Exps, Suffixes, Fields, Operations, Each, tree_run, code_run, here_at, spot_at, calls, reads, writes, places_value, places_values, ones, firsts, alls, each_operation, each_suffix, fills}
 use Rattle.ntx_eval.proofs.TreeArms as tree
 use Rattle.ntx_eval.proofs.TreeArms.{meant}
 use Rattle.ntx_eval.proofs.CodeArms as code-arms
@@ -109,35 +108,47 @@ module _ {S : Type 0} {code : Code} {before : List Closure} (u : Sides S code be
   text_exps bytes = exps_said (tree.text (tree_run u) bytes) (code-arms.text (code_run u) bytes) (record { alike = λ scope locals line p. ones (texts bytes line) })
 
   pub function_exps : (body : FunctionBody) (k : ℕ) → IsFunction code.functions s body k → ExpAlike (exp.Function body) (code-exp.Function k)
-  function_exps body k is = exps_said (tree.function (tree_run u) body) (code-arms.function (code_run u) k) (record { alike = λ scope locals line p.
-      ones (makes_function body k u.up s scope u.function locals line is p u.active) })
+  function_exps body k is = exps_said (tree.function (tree_run u) body) (code-arms.function (code_run u) k) (record {
+    alike = λ scope locals line p.
+        ones (makes_function body k u.up s scope u.function locals line is p u.active);
+  })
 
   pub prefix_exps : (p : tree-prefix.Prefix) (q : Prefix) → PrefixAlike p q → ExpAlike (exp.Prefix p) (code-exp.Prefix q)
   prefix_exps p q both = exps_said (tree.prefix_exp (tree_run u) p) (code-arms.prefix_exp (code_run u) q) (record { alike = λ scope locals line places. both.alike scope locals line places })
 
   pub tables : (fs : List tree-field.Field) (cs : List Field) → FieldsAlike fs cs → ExpAlike (exp.Table fs) (code-exp.Table cs)
-  tables fs cs each = exps_said (tree.table (tree_run u) fs) (code-arms.table (code_run u) cs) (record { alike = λ scope locals line p.
-      then_same (stores line new_table_step) (λ t. then_same (fills u s each t 1 scope locals line p) (λ _. gives refl)) })
+  tables fs cs each = exps_said (tree.table (tree_run u) fs) (code-arms.table (code_run u) cs) (record {
+    alike = λ scope locals line p.
+        then_same (stores line new_table_step) (λ t. then_same (fills u s each t 1 scope locals line p) (λ _. gives refl));
+  })
 
   pub binaries : (e : tree-exp.Exp) (c : Exp) (os : List tree-operation.Operation) (cs : List Operation) → ExpAlike e c → OperationsAlike os cs → ExpAlike (exp.Binary e os) (code-exp.Binary c cs)
-  binaries e c os cs one each = exps_said (tree.binary (tree_run u) e os) (code-arms.binary (code_run u) c cs) (record { alike = λ scope locals line p.
-      then_same (firsts (one.alike scope locals line p)) (λ a. ones (each_operation u s each a scope locals line p)) })
+  binaries e c os cs one each = exps_said (tree.binary (tree_run u) e os) (code-arms.binary (code_run u) c cs) (record {
+    alike = λ scope locals line p.
+        then_same (firsts (one.alike scope locals line p)) (λ a. ones (each_operation u s each a scope locals line p));
+  })
 
   pub unaries : (op : UnaryOp) (e : tree-exp.Exp) (c : Exp) → ExpAlike e c → ExpAlike (exp.Unary op e) (code-exp.Unary op c)
-  unaries op e c one = exps_said (tree.unary (tree_run u) op e) (code-arms.unary (code_run u) op c) (record { alike = λ scope locals line p.
-      then_same (firsts (one.alike scope locals line p)) (λ a. ones (of_stores line (unary_of op a))) })
+  unaries op e c one = exps_said (tree.unary (tree_run u) op e) (code-arms.unary (code_run u) op c) (record {
+    alike = λ scope locals line p.
+        then_same (firsts (one.alike scope locals line p)) (λ a. ones (of_stores line (unary_of op a)));
+  })
 
   pub operations_alike : (o : tree-operation.Operation) (c : Operation) → c.operator ≡ o.operator → ExpAlike o.operand c.operand
       → Operations u s ((whole (tree_run u)).operation o) (operation_code (code_run u) c)
   operations_alike o c same one = operations_said (tree.operation (tree_run u) o) (code-arms.operation (code_run u) c) (record { operator = same; operand = one })
 
   pub keyed_fields : (key v : tree-exp.Exp) (c d : Exp) → ExpAlike key c → ExpAlike v d → FieldAlike (field.Keyed key v) (code-field.Keyed c d)
-  keyed_fields key v c d one other = fields_said (tree.keyed (tree_run u) key v) (code-arms.keyed (code_run u) c d) (record { alike = λ t n last scope locals line p.
-      then_same (firsts (one.alike scope locals line p)) (λ k. then_same (firsts (other.alike scope locals line p)) (λ x. then_same (writes u (Table t) k x line) (λ _. gives refl))) })
+  keyed_fields key v c d one other = fields_said (tree.keyed (tree_run u) key v) (code-arms.keyed (code_run u) c d) (record {
+    alike = λ t n last scope locals line p.
+        then_same (firsts (one.alike scope locals line p)) (λ k. then_same (firsts (other.alike scope locals line p)) (λ x. then_same (writes u (Table t) k x line) (λ _. gives refl)));
+  })
 
   pub named_fields : (name : List ℕ) (v : tree-exp.Exp) (c : Exp) → ExpAlike v c → FieldAlike (field.Named name v) (code-field.Named name c)
-  named_fields name v c one = fields_said (tree.named (tree_run u) name v) (code-arms.named (code_run u) name c) (record { alike = λ t n last scope locals line p.
-      then_same (texts name line) (λ k. then_same (firsts (one.alike scope locals line p)) (λ x. then_same (writes u (Table t) k x line) (λ _. gives refl))) })
+  named_fields name v c one = fields_said (tree.named (tree_run u) name v) (code-arms.named (code_run u) name c) (record {
+    alike = λ t n last scope locals line p.
+        then_same (texts name line) (λ k. then_same (firsts (one.alike scope locals line p)) (λ x. then_same (writes u (Table t) k x line) (λ _. gives refl)));
+  })
 
   positional_at : (v : tree-exp.Exp) (c : Exp) → ExpAlike v c → (t : TableId) (n : ℕ) (last : Bool) (scope : State-Scope) (locals : List ℕ) (line : ℕ) → Places u.up s scope locals
       → Alike code before Same (field_layer (tree_run u) (Field-F.Positional ((whole (tree_run u)).exp v)) t n last (here_at scope line))
@@ -149,24 +160,34 @@ module _ {S : Type 0} {code : Code} {before : List Closure} (u : Sides S code be
   positional_fields v c one = fields_said (tree.positional (tree_run u) v) (code-arms.positional (code_run u) c) (record { alike = λ t n last scope locals line p. positional_at v c one t n last scope locals line p })
 
   pub name_heads : (name : List ℕ) (v : Variable) → IsVariable name s v → HeadAlike (head.Name name) (code-head.Name name v)
-  name_heads name v is = exps_said (tree.name_head (tree_run u) name) (code-arms.name_head (code_run u) name v) (record { alike = λ scope locals line p.
-      ones (reads_name name v u.up s scope u.function locals line is p u.active) })
+  name_heads name v is = exps_said (tree.name_head (tree_run u) name) (code-arms.name_head (code_run u) name v) (record {
+    alike = λ scope locals line p.
+        ones (reads_name name v u.up s scope u.function locals line is p u.active);
+  })
 
   pub parentheses : (e : tree-exp.Exp) (c : Exp) → ExpAlike e c → HeadAlike (head.Parenthesized e) (code-head.Parenthesized c)
   parentheses e c one = exps_said (tree.parenthesized (tree_run u) e) (code-arms.parenthesized (code_run u) c) (record { alike = λ scope locals line p. ones (firsts (one.alike scope locals line p)) })
 
   pub index_suffixes : (key : tree-exp.Exp) (c : Exp) → ExpAlike key c → SuffixAlike (suffix.Index key) (code-suffix.Index c)
-  index_suffixes key c one = suffixes_said (tree.index_suffix (tree_run u) key) (code-arms.index_suffix (code_run u) c) (record { alike = λ v scope locals line p.
-      then_same (firsts (one.alike scope locals line p)) (λ k. ones (reads u v k line)) })
+  index_suffixes key c one = suffixes_said (tree.index_suffix (tree_run u) key) (code-arms.index_suffix (code_run u) c) (record {
+    alike = λ v scope locals line p.
+        then_same (firsts (one.alike scope locals line p)) (λ k. ones (reads u v k line));
+  })
 
   pub field_suffixes : (name : List ℕ) → SuffixAlike (suffix.Field name) (code-suffix.Field name)
-  field_suffixes name = suffixes_said (tree.field_suffix (tree_run u) name) (code-arms.field_suffix (code_run u) name) (record { alike = λ v scope locals line p.
-      then_same (texts name line) (λ k. ones (reads u v k line)) })
+  field_suffixes name = suffixes_said (tree.field_suffix (tree_run u) name) (code-arms.field_suffix (code_run u) name) (record {
+    alike = λ v scope locals line p.
+        then_same (texts name line) (λ k. ones (reads u v k line));
+  })
 
   pub call_suffixes : (es : List tree-exp.Exp) (cs : List Exp) → ExpsAlike es cs → SuffixAlike (suffix.Call es) (code-suffix.Call cs)
-  call_suffixes es cs each = suffixes_said (tree.call_suffix (tree_run u) es) (code-arms.call_suffix (code_run u) cs) (record { alike = λ v scope locals line p.
-      then_same ((alls u s each).alike scope locals line p) (λ vs. calls u v vs line) })
+  call_suffixes es cs each = suffixes_said (tree.call_suffix (tree_run u) es) (code-arms.call_suffix (code_run u) cs) (record {
+    alike = λ v scope locals line p.
+        then_same ((alls u s each).alike scope locals line p) (λ vs. calls u v vs line);
+  })
 
   pub prefixes : (p : tree-prefix.Prefix) (q : Prefix) → HeadAlike p.head q.head → SuffixesAlike p.suffixes q.suffixes → PrefixAlike p q
-  prefixes p q one each = exps_said (tree.prefix (tree_run u) p) (code-arms.prefix (code_run u) q) (record { alike = λ scope locals line places.
-      then_same (one.alike scope locals line places) (λ vs. each_suffix u s each vs scope locals line places) })
+  prefixes p q one each = exps_said (tree.prefix (tree_run u) p) (code-arms.prefix (code_run u) q) (record {
+    alike = λ scope locals line places.
+        then_same (one.alike scope locals line places) (λ vs. each_suffix u s each vs scope locals line places);
+  })

@@ -11,9 +11,8 @@ use Rattle.ntx_resolve.specs.declared.code.Code.{Code}
 use Rattle.ntx_values.specs.Value.{is_nil}
 use Rattle.ntx_values.specs.declared.value.Value.{Value}
 use Rattle.ntx_values.specs.declared.value.Value.TheVariants as value
-use Rattle.ntx_eval.specs.State.{State, Scope, Flow, onward, broken, returned}
+use Rattle.ntx_eval.specs.State.{Scope, Flow, onward, broken, returned}
 use Rattle.ntx_eval.specs.Ending.{Action, Ending, give, after, charge, ◌>>=◌, ◌>>◌}
-use Rattle.ntx_eval.specs.Variables as tree-variables
 use Rattle.ntx_eval.specs.Variables.{first}
 use Rattle.ntx_eval.specs.Parts.{ExpMeaning, BlockMeaning}
 use Rattle.ntx_eval.specs.Loops as tree
@@ -148,9 +147,11 @@ module _ {S : Type 0} {code : Code} {before : List Closure} (u : Sides S code be
       → Blocks u (declare sc (name ∷ [])) after b b' → (scope : Scope) (locals : List ℕ) (line : ℕ) → Places u.up sc scope locals → Alike code before SameFlow r r'
       → Alike code before SameFlow (tree.turn (name.name ∷ []) (v ∷ []) b (here_at scope line) >>= λ f. tree.unless_left f r)
       (code-places.declare v locals >>= λ cells. turns.block_in b' (spot_at u.function cells line) >>= λ f. turns.unless_left f r')
-  counted sc after name v b b' r r' q scope locals line p rest = record { ends = λ s cs h.
-      (then_ (blocks_in q ((name.name, length s.cells) ∷ scope) (locals ++ length s.cells ∷ []) line (declared name (length s.cells) p)) (λ f g same. unless same rest)).ends
-      (record s { cells = s.cells ++ v ∷ [] }) cs h }
+  counted sc after name v b b' r r' q scope locals line p rest = record {
+    ends = λ s cs h.
+        (then_ (blocks_in q ((name.name, length s.cells) ∷ scope) (locals ++ length s.cells ∷ []) line (declared name (length s.cells) p)) (λ f g same. unless same rest)).ends
+        (record s { cells = s.cells ++ v ∷ [] }) cs h;
+  }
 
   counted_if : (sc after : resolved.Scope) (name : LocalName) (v : Value) (b : BlockMeaning S) (b' : BlockCode S) (r : Action S Flow) (r' : Action (Kept S) CodeFlow) (t : Bool)
       → Blocks u (declare sc (name ∷ [])) after b b' → (scope : Scope) (locals : List ℕ) (line : ℕ) → Places u.up sc scope locals → Alike code before SameFlow r r'

@@ -17,7 +17,7 @@ use Rattle.ntx_values.specs.declared.value.TableId.{TableId}
 use Rattle.ntx_values.specs.declared.primitive.Primitive.{Primitive}
 use Rattle.ntx_eval.specs.State.{Scope}
 use Rattle.ntx_eval.specs.Host.{World}
-use Rattle.ntx_eval.specs.Ending.{Action, give, ◌>>=◌, ◌>>◌}
+use Rattle.ntx_eval.specs.Ending.{Action, give}
 use Rattle.ntx_eval.specs.Operators.{binary_step, is_decided}
 use Rattle.ntx_eval.specs.Variables.{Here, first}
 use Rattle.ntx_eval.specs.Setting.{Setting, call, follow_at_most, host_call}
@@ -133,8 +133,10 @@ module _ {S : Type 0} {code : Code} {before : List Closure} (u : Sides S code be
   pub alls : {ms : List (ExpMeaning S)} {ms' : List (ExpCode S)} → Each (Exps u sc) ms ms' → Exps u sc (tree.all_values ms) (coded-exps.all_values ms')
   alls no_more = record { alike = λ scope locals line p. gives refl }
   alls (one_more e no_more) = record { alike = λ scope locals line p. e.alike scope locals line p }
-  alls (one_more e (one_more f rest)) = record { alike = λ scope locals line p.
-      then_same (firsts (e.alike scope locals line p)) (λ v. then_same ((alls (one_more f rest)).alike scope locals line p) (λ vs. gives refl)) }
+  alls (one_more e (one_more f rest)) = record {
+    alike = λ scope locals line p.
+        then_same (firsts (e.alike scope locals line p)) (λ v. then_same ((alls (one_more f rest)).alike scope locals line p) (λ vs. gives refl));
+  }
 
   decided : (op : BinaryOp) (a : Value) {m : ExpMeaning S} {m' : ExpCode S} → Exps u sc m m' → (scope : Scope) (locals : List ℕ) (line : ℕ) → Places u.up sc scope locals → (t : Bool) → is_decided op a ≡ t
       → Alike code before Same (tree.operation op a m (here_at scope line)) (coded-exps.operation op a m' (spot_at u.function locals line))

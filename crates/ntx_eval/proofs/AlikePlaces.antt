@@ -3,7 +3,7 @@
 --     Places up scope names locals     in this scope of the resolver the names are those of the tree's scope, and their cells are those of the enclosing
 --                                      functions and then the function's own
 --     Active before function up        the function that runs got these cells when it was made
-use Rattle.std.proofs.Common.{arith, ◌≡◌, ◌≢◌, ◌<◌, ◌≤◌, ◌⊎◌, inl, inr, refl, sym, ◌∙◌, ap, subst, ℕ, zero, suc, ◌+◌, nat_eq, Bool, true, false, cond, List, [], ◌∷◌, ◌++◌, map, reverse, length, slice_get, Option, Some, None, append_assoc, append-nil, zero-add, suc-add, eq-or-lt_of_le, length-append, true≢false}
+use Rattle.std.proofs.Common.{arith, ◌≡◌, ◌≢◌, ◌<◌, ◌≤◌, ◌⊎◌, inl, inr, refl, sym, ◌∙◌, ap, subst, ℕ, zero, suc, ◌+◌, nat_eq, Bool, true, false, cond, List, [], ◌∷◌, ◌++◌, map, length, slice_get, Option, Some, None, append_assoc, append-nil, zero-add, suc-add, eq-or-lt_of_le, length-append, true≢false}
 use Rattle.std.proofs.lemmas.Option.{none-some, same_Some, slice_get_within}
 use Rattle.std.proofs.lemmas.List.{length-map, length-reverse}
 use Rattle.std.specs.Cmp.Lexicographic.{pointwise, bytes_decides}
@@ -18,8 +18,7 @@ use Rattle.ntx_resolve.specs.declared.code.Variable.{Variable}
 use Rattle.ntx_resolve.specs.declared.code.Variable.TheVariants as variable
 use Rattle.ntx_values.specs.declared.value.Value.{Value}
 use Rattle.ntx_values.specs.declared.value.FuncId.{FuncId}
-use Rattle.ntx_eval.specs.State.{State, Scope}
-use Rattle.ntx_eval.specs.Ending.{◌>>=◌}
+use Rattle.ntx_eval.specs.State.{Scope}
 use Rattle.ntx_eval.specs.Variables as tree
 use Rattle.ntx_eval.specs.Variables.{read_name, write_name, first, others}
 use Rattle.ntx_eval.specs.Expressions as expressions
@@ -28,7 +27,7 @@ use Rattle.ntx_eval.specs.Seen.{names_in, cells_in}
 use Rattle.ntx_eval.specs.inner.Places as code-places
 use Rattle.ntx_eval.specs.inner.Places.{upvalues, cell_in, read_variable, write_variable}
 use Rattle.ntx_eval.specs.declared.machine.Closure.{Closure}
-use Rattle.ntx_eval.proofs.Alike.{Keeps, keeps_then, keeps_more, got_before, more_closures, coded, gave, Alike, Same, gives, reads_cell, writes_cell, reads_global, writes_global}
+use Rattle.ntx_eval.proofs.Alike.{Keeps, keeps_then, keeps_more, got_before, more_closures, gave, Alike, Same, gives, reads_cell, writes_cell, reads_global, writes_global}
 
 pub record Places (up : List ℕ) (sc : resolved.Scope) (scope : Scope) (locals : List ℕ) : Type 0 where
   pub names : sc.names ≡ names_in scope
@@ -70,10 +69,13 @@ last_older name n names place other last = by (eq-or-lt_of_le (within_more names
   where
     by : (place ≡ length names) ⊎ (place < length names) → (place < length names) × IsLast name names place
     by (inl same) = absurd (other (same_Some n name (sym (got_last names n) ∙ ap (slice_get (names ++ n ∷ [])) (sym same) ∙ last.is)))
-    by (inr less) = (less, record {
+    by (inr less) = (
+      less,
+      record {
         is = sym (got_left names (n ∷ []) place less) ∙ last.is;
         last = λ later after here. last.last later after (got_before names (n ∷ []) later name here);
-      })
+      },
+    )
 
 same_length : (scope : Scope) → length (names_in scope) ≡ length (cells_in scope)
 same_length scope =
@@ -139,10 +141,10 @@ cell_found name variable.Global up sc scope locals function cs is places active 
 pub declared : {up : List ℕ} {sc : resolved.Scope} {scope : Scope} {locals : List ℕ} (name : LocalName) (cell : ℕ) → Places up sc scope locals
     → Places up (declare sc (name ∷ [])) ((name.name, cell) ∷ scope) (locals ++ cell ∷ [])
 declared {up = up} {sc = sc} {scope = scope} {locals = locals} name cell places = record {
-    names = ap (λ names. names ++ name.name ∷ []) places.names ∙ sym (more_names (name.name, cell) scope);
-    cells = more_cells (name.name, cell) scope ∙ ap (λ cs. cs ++ cell ∷ []) places.cells ∙ append_assoc up locals (cell ∷ []);
-    from = places.from;
-  }
+  names = ap (λ names. names ++ name.name ∷ []) places.names ∙ sym (more_names (name.name, cell) scope);
+  cells = more_cells (name.name, cell) scope ∙ ap (λ cs. cs ++ cell ∷ []) places.cells ∙ append_assoc up locals (cell ∷ []);
+  from = places.from;
+}
 
 one_by_one : (sc : resolved.Scope) (name : LocalName) (names : List LocalName) → declare (declare sc (name ∷ [])) names ≡ declare sc (name ∷ names)
 one_by_one sc name names = ap (λ (z : List (List ℕ)). record { names = z; from = sc.from }) (append_assoc sc.names (name.name ∷ []) (names_of names))
@@ -150,20 +152,22 @@ one_by_one sc name names = ap (λ (z : List (List ℕ)). record { names = z; fro
 -- a function that is entered: its names are those of the scope in which it was made
 pub entered_places : (sc : resolved.Scope) (scope : Scope) (cells : List ℕ) → sc.names ≡ names_in scope → cells ≡ cells_in scope → Places cells (enter sc) scope []
 entered_places sc scope cells names same = record {
-    names = names;
-    cells = sym same ∙ sym (append-nil cells);
-    from = ap length names ∙ same_length scope ∙ ap length (sym same);
-  }
+  names = names;
+  cells = sym same ∙ sym (append-nil cells);
+  from = ap length names ∙ same_length scope ∙ ap length (sym same);
+}
 
 module _ {S : Type 0} {code : Code} {before : List Closure} where
   pub binds : (up : List ℕ) (sc : resolved.Scope) (names : List LocalName) (vs : List Value) (scope : Scope) (locals : List ℕ) → Places up sc scope locals
       → Alike {S = S} code before (λ scope' locals'. Places up (declare sc names) scope' locals') (tree.bind (names_of names) vs scope) (code-places.bind names vs locals)
   binds up sc [] vs scope locals places = gives (record { names = append-nil sc.names ∙ places.names; cells = places.cells; from = places.from })
-  binds up sc (name ∷ names) vs scope locals places = record { ends = λ s cs h.
-      (subst (λ (z : resolved.Scope). Alike {S = S} code before (λ (scope' : Scope) (locals' : List ℕ). Places up z scope' locals') (tree.bind (names_of names) (others vs) ((name.name, length s.cells) ∷ scope)) (code-places.bind names (others vs) (locals ++ length s.cells ∷ [])))
-      (one_by_one sc name names)
-      (binds up (declare sc (name ∷ [])) names (others vs) ((name.name, length s.cells) ∷ scope) (locals ++ length s.cells ∷ []) (declared name (length s.cells) places))).ends
-      (record s { cells = s.cells ++ first vs ∷ [] }) cs h }
+  binds up sc (name ∷ names) vs scope locals places = record {
+    ends = λ s cs h.
+        (subst (λ (z : resolved.Scope). Alike {S = S} code before (λ (scope' : Scope) (locals' : List ℕ). Places up z scope' locals') (tree.bind (names_of names) (others vs) ((name.name, length s.cells) ∷ scope)) (code-places.bind names (others vs) (locals ++ length s.cells ∷ [])))
+        (one_by_one sc name names)
+        (binds up (declare sc (name ∷ [])) names (others vs) ((name.name, length s.cells) ∷ scope) (locals ++ length s.cells ∷ []) (declared name (length s.cells) places))).ends
+        (record s { cells = s.cells ++ first vs ∷ [] }) cs h;
+  }
 
   -- ---- what names hold
 
@@ -196,7 +200,9 @@ module _ {S : Type 0} {code : Code} {before : List Closure} where
   pub makes_function : (body : FunctionBody) (k : ℕ) (up : List ℕ) (sc : resolved.Scope) (scope : Scope) (function : Option FuncId) (locals : List ℕ) (line : ℕ)
       → IsFunction code.functions sc body k → Places up sc scope locals → Active before function up
       → Alike {S = S} code before Same (expressions.new_function body scope) (code-places.new_function k (record { function = function; locals = locals; line = line }))
-  makes_function body k up sc scope function locals line is places active = record { ends = λ s cs h. gave refl (record {
+  makes_function body k up sc scope function locals line is places active = record {
+    ends = λ s cs h. gave refl (record {
       functions = more_closures h.functions (record { scope = sc; names = places.names; body = is; cells = ap (λ u. u ++ locals) (active.is cs h.keeps) ∙ sym places.cells });
       keeps = keeps_then h.keeps (keeps_more cs _);
-    }) }
+    });
+  }

@@ -1,5 +1,5 @@
 -- What the code of a script does in a machine is what the script means, in a state that the machine shows: its chunk, calls of its functions, and steps of its host.
-use Rattle.std.proofs.Common.{◌≡◌, refl, sym, ◌∙◌, ap, subst, ℕ, true, false, List, [], Option, None, Result, Ok, Err, is_ok, true≢false}
+use Rattle.std.proofs.Common.{◌≡◌, refl, sym, ◌∙◌, ap, subst, ℕ, List, [], None, Result, Ok, Err, is_ok, true≢false}
 use Rattle.ntx_num.specs.Answer.{result_map}
 use Rattle.ntx_num.specs.declared.answer.Fail.{Fail}
 use Rattle.ntx_num.specs.declared.answer.Fail.TheVariants.{NoMemory, Is}
@@ -23,10 +23,10 @@ use Rattle.ntx_eval.specs.declared.frame.Flow.{Flow as CodeFlow}
 use Rattle.ntx_eval.specs.declared.host.HostStep.{HostStep}
 use Rattle.ntx_eval.specs.declared.machine.Closure.{Closure}
 use Rattle.ntx_eval.specs.declared.stop.ScriptStop.{ScriptStop}
-use Rattle.ntx_eval.proofs.Whole.{whole, body_rolls}
+use Rattle.ntx_eval.proofs.Whole.{body_rolls}
 use Rattle.ntx_eval.proofs.Alike.{keeps_same, coded, Holds, Ended, gave, stopped, Same}
 use Rattle.ntx_eval.proofs.AlikePlaces.{Places}
-use Rattle.ntx_eval.proofs.AlikeParts.{tree_run, code_run, here_at, spot_at, calls, follows_by}
+use Rattle.ntx_eval.proofs.AlikeParts.{tree_run, spot_at, calls, follows_by}
 use Rattle.ntx_eval.proofs.AlikeLoops.{Left}
 use Rattle.ntx_eval.proofs.AlikeTrees.{block_alike}
 use Rattle.ntx_eval.proofs.AlikeCalls.{sides}
@@ -35,38 +35,38 @@ use Rattle.ntx_eval.proofs.AlikeCalls.{sides}
 
 pub shown : {S : Type 0} {code : Code} {m : MachineState} {h : S} {s : State S} → Shows code m h s → state_of m h ≡ coded s m.closures
 shown {m = m} sees = λ i. record {
-    store = (sym sees.store) i;
-    globals = (sym sees.globals) i;
-    cells = (sym sees.cells) i;
-    functions = [];
-    printed = (sym sees.printed) i;
-    host = record { closures = m.closures; host = (sym sees.host) i };
-    charges = (sym sees.charges) i;
-  }
+  store = (sym sees.store) i;
+  globals = (sym sees.globals) i;
+  cells = (sym sees.cells) i;
+  functions = [];
+  printed = (sym sees.printed) i;
+  host = record { closures = m.closures; host = (sym sees.host) i };
+  charges = (sym sees.charges) i;
+}
 
 pub shows : {S : Type 0} {code : Code} {before : List Closure} (m : MachineState) (h : S) (s : State S) (cs : List Closure) → Holds code before s.functions cs → coded s cs ≡ state_of m h → Shows code m h s
 shows {code = code} m h s cs holds same = record {
-    store = ap (λ t. t.store) same;
-    globals = ap (λ t. t.globals) same;
-    cells = ap (λ t. t.cells) same;
-    functions = subst (AreClosures code s.functions) (ap (λ t. t.host.closures) same) holds.functions;
-    printed = ap (λ t. t.printed) same;
-    host = ap (λ t. t.host.host) same;
-    charges = ap (λ t. t.charges) same;
-  }
+  store = ap (λ t. t.store) same;
+  globals = ap (λ t. t.globals) same;
+  cells = ap (λ t. t.cells) same;
+  functions = subst (AreClosures code s.functions) (ap (λ t. t.host.closures) same) holds.functions;
+  printed = ap (λ t. t.printed) same;
+  host = ap (λ t. t.host.host) same;
+  charges = ap (λ t. t.charges) same;
+}
 
 -- A machine that has made no function shows the state of a script that has made none.
 pub opening_shown : {S : Type 0} (code : Code) (m : MachineState) (h : S) → m.closures ≡ []
     → Shows code m h (record { store = m.store; globals = m.globals; cells = m.cells; functions = []; printed = m.printed; host = h; charges = m.charges })
 opening_shown code m h none = record {
-    store = refl;
-    globals = refl;
-    cells = refl;
-    functions = subst (AreClosures code []) (sym none) no_closures;
-    printed = refl;
-    host = refl;
-    charges = refl;
-  }
+  store = refl;
+  globals = refl;
+  cells = refl;
+  functions = subst (AreClosures code []) (sym none) no_closures;
+  printed = refl;
+  host = refl;
+  charges = refl;
+}
 
 -- An answer that is the ending of code is that of the tree, with the values seen in another way.
 seen : {S A B : Type 0} {code : Code} {before : List Closure} {P : A → B → Type 0} {e : Ending S A} {e' : Ending (Kept S) B} (v : B → A) → ((a : A) (b : B) → P a b → a ≡ v b) → Ended code before P e e'

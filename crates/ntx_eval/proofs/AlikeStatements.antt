@@ -3,7 +3,7 @@
 --     Stats u sc after m m'       two statements; Chain likewise of statements one after another
 --     Ends u sc l l'              two ends of a block, with or without `return`
 --     SamePlace u sc p p' v       the place that was found of a variable that is assigned to
-use Rattle.std.proofs.Common.{◌≡◌, refl, ℕ, Bool, true, false, cond, List, [], ◌∷◌, ◌++◌, pos, Option, Some, None}
+use Rattle.std.proofs.Common.{refl, ℕ, Bool, true, false, cond, List, [], ◌∷◌, ◌++◌, Option, Some, None}
 use Rattle.ntx_syntax.specs.declared.tree.FunctionBody.{FunctionBody}
 use Rattle.ntx_syntax.specs.declared.tree.LocalName.{LocalName}
 use Rattle.ntx_resolve.specs.Scopes as resolved
@@ -15,25 +15,25 @@ use Rattle.ntx_resolve.specs.declared.code.Var.{Var}
 use Rattle.ntx_resolve.specs.declared.code.Var.TheVariants as var
 use Rattle.ntx_resolve.specs.declared.code.Variable.{Variable}
 use Rattle.ntx_values.specs.declared.value.Value.{Value}
-use Rattle.ntx_values.specs.declared.value.Value.TheVariants.{Nil, Int}
-use Rattle.ntx_eval.specs.State.{Scope, Flow, onward, broken, returned}
-use Rattle.ntx_eval.specs.Ending.{Action, give, charge, ◌>>=◌, ◌>>◌}
-use Rattle.ntx_eval.specs.Variables.{Here, first, others, read_name, write_name, new_cell, write_cell}
+use Rattle.ntx_values.specs.declared.value.Value.TheVariants.{Nil}
+use Rattle.ntx_eval.specs.State.{Scope, Flow, onward}
+use Rattle.ntx_eval.specs.Ending.{Action, give, ◌>>=◌, ◌>>◌}
+use Rattle.ntx_eval.specs.Variables.{first, others, write_name, write_cell}
 use Rattle.ntx_eval.specs.Fields.{write_field}
-use Rattle.ntx_eval.specs.Parts.{ExpMeaning, VarMeaning, BlockMeaning, StatMeaning, KindMeaning, ReturnMeaning, ArmMeaning, Place, named, field}
+use Rattle.ntx_eval.specs.Parts.{VarMeaning, BlockMeaning, StatMeaning, KindMeaning, ReturnMeaning, ArmMeaning, Place, named, field}
 use Rattle.ntx_eval.specs.Expressions as expressions
 use Rattle.ntx_eval.specs.Statements as tree
 use Rattle.ntx_eval.specs.Blocks as blocks
 use Rattle.ntx_eval.specs.inner.Machine.{Kept}
 use Rattle.ntx_eval.specs.inner.Places as code-places
-use Rattle.ntx_eval.specs.inner.Code.{ExpCode, BlockCode, KindCode, ArmCode, FieldPlace}
+use Rattle.ntx_eval.specs.inner.Code.{BlockCode, KindCode, ArmCode, FieldPlace}
 use Rattle.ntx_eval.specs.inner.Stats as stats
 use Rattle.ntx_eval.specs.declared.frame.Flow.{Flow as CodeFlow}
 use Rattle.ntx_eval.specs.declared.frame.Flow.TheVariants as flow
 use Rattle.ntx_eval.specs.declared.machine.Closure.{Closure}
-use Rattle.ntx_eval.proofs.Alike.{Alike, Same, then_, then_same, gives, said, charges, texts, makes_cell, writes_cell}
-use Rattle.ntx_eval.proofs.AlikePlaces.{Places, declared, binds, reads_name, writes_name, makes_function}
-use Rattle.ntx_eval.proofs.AlikeParts.{Sides, Exps, Each, no_more, one_more, tree_run, code_run, here_at, spot_at, reads, writes, firsts}
+use Rattle.ntx_eval.proofs.Alike.{Alike, Same, then_, then_same, gives, charges, texts, makes_cell, writes_cell}
+use Rattle.ntx_eval.proofs.AlikePlaces.{Places, declared, reads_name, writes_name, makes_function}
+use Rattle.ntx_eval.proofs.AlikeParts.{Sides, Exps, Each, no_more, one_more, tree_run, code_run, here_at, spot_at, reads, writes}
 use Rattle.ntx_eval.proofs.AlikeLoops.{SameFlow, both_onward, both_broken, both_returned, Left, left_onward, left_broken, left_returned, Blocks, then_in_code, then_tied_in_code, then_in_both, blocks_in, holdings}
 
 -- ---- kinds of statement

@@ -1,10 +1,7 @@
 -- What each construct of a tree means, from what its parts mean.
-use Rattle.std.proofs.Common.{◌≡◌, ◌∙◌, refl, sym, ap, ℕ, ℤ, List, map, Option, Some, None, option_map}
+use Rattle.std.proofs.Common.{◌≡◌, ◌∙◌, sym, ap, ℕ, ℤ, List, map, Option, Some, None, option_map}
 use Rattle.ntx_syntax.specs.declared.tree.Exp.{Exp}
 use Rattle.ntx_syntax.specs.declared.tree.Field.{Field}
-use Rattle.ntx_syntax.specs.declared.tree.Head.{Head}
-use Rattle.ntx_syntax.specs.declared.tree.StatKind.{StatKind}
-use Rattle.ntx_syntax.specs.declared.tree.Suffix.{Suffix}
 use Rattle.ntx_syntax.specs.declared.tree.Var.{Var}
 use Rattle.ntx_syntax.specs.declared.tree.Block.{Block, roll-Block, out-Block}
 use Rattle.ntx_syntax.specs.declared.tree.Call.{Call, out-Call}
