@@ -26,3 +26,15 @@ pub mod Turning
 pub mod RepeatTurns
 pub mod ForTurns
 pub mod InTurn
+pub mod Alike
+pub mod AlikePlaces
+pub mod AlikeParts
+pub mod TreeArms
+pub mod AlikeLoops
+pub mod AlikeStatements
+pub mod AlikeExps
+pub mod AlikeKinds
+pub mod AlikeTrees
+pub mod AlikeCalls
+pub mod AlikeScripts
+pub mod Agreeing

@@ -23,6 +23,7 @@ pub mod Calls
 -- the machine that runs code
 pub mod inner
 pub mod Seen
+pub mod Agreement
 -- laws and examples
 pub mod Script
 pub mod Laws

@@ -47,13 +47,13 @@ pub data AreClosures (code : Code) : List Function → List Closure → Type 0 w
   next_closure : {f : Function} {c : Closure} {fs : List Function} {cs : List Closure}
       → IsClosure code f c → AreClosures code fs cs → AreClosures code (f ∷ fs) (c ∷ cs)
 
-pub record Shows {S : Type 0} (code : Code) (m : MachineState) (host : S) (s : State S) : Type 0 where
+pub record Shows {S : Type 0} (code : Code) (m : MachineState) (h : S) (s : State S) : Type 0 where
   pub store : s.store ≡ m.store
   pub globals : s.globals ≡ m.globals
   pub cells : s.cells ≡ m.cells
   pub functions : AreClosures code s.functions m.closures
   pub printed : s.printed ≡ m.printed
-  pub host : s.host ≡ host
+  pub host : s.host ≡ h
   pub charges : s.charges ≡ m.charges
 
 -- Unless memory ran out, the ending is this answer with a state that the machine and the host show.

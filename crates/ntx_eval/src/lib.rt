@@ -33,7 +33,7 @@ mod variables;
 mod vm;
 
 pub use host::{Host, HostStep, NoHost};
-pub use laws::{more_steps_are_the_same, steps_never_rise, worked_examples};
+pub use laws::{code_means_the_tree, more_steps_are_the_same, steps_never_rise, worked_examples};
 pub use operators::{binary, is_decided, is_true, unary};
 pub use stop::{ScriptFault, ScriptStop};
 pub use vm::Vm;
