@@ -25,7 +25,11 @@ pub mod Reaching
 pub mod Turning
 pub mod RepeatTurns
 pub mod ForTurns
+pub mod Counting
+pub mod Walking
 pub mod InTurn
+pub mod Within
+pub mod Choosing
 pub mod Alike
 pub mod AlikePlaces
 pub mod AlikeParts
