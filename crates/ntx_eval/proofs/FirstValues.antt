@@ -67,11 +67,11 @@ first-meets NoMemory new h e k part = tt
 pub stops_first : {S B : Type 0} {fits : S → StoreState → Type 0} {f : Fail ScriptStop} {r : Result B (Fail ScriptStop)} {old new : MachineState} {h h' : S} (m : Action (Kept S) (List Value))
     (k : List Value → Action (Kept S) B) → IsErrAnd r (λ e. e ≡ f) → Runs {A = Value} fits (Err f) old h new h' (first_of m) → Runs fits r old h new h' (m >>= k)
 stops_first {f = f} {r = Err e} {old = old} {new = new} {h = h} {h' = h'} m k is part = rw is (record {
-    meets = first-meets f new h' (m (state_of old h)) k part.meets;
-    falls = part.falls;
-    grows = part.grows;
-    fits = part.fits;
-  })
+  meets = first-meets f new h' (m (state_of old h)) k part.meets;
+  falls = part.falls;
+  grows = part.grows;
+  fits = part.fits;
+})
 stops_first {r = Ok a} m k is part = absurd is
 
 -- ---- each construct

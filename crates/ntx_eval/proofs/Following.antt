@@ -22,11 +22,11 @@ pub answered_runs : {S : Type 0} {fits : S → StoreState → Type 0} (asked : S
     → asked h old.store ≡ (answer, h', new.store) → new ≡ with_store old new.store → Grows old.store new.store → fits h' new.store
     → Runs fits (Ok answer) old h new h' (answered (beside asked))
 answered_runs asked answer old new h h' is alone grows fit = record {
-    meets = rw alone (rw is refl);
-    falls = rw alone (omega arith);
-    grows = grows;
-    fits = fit;
-  }
+  meets = rw alone (rw is refl);
+  falls = rw alone (omega arith);
+  grows = grows;
+  fits = fit;
+}
 
 -- a host fails
 pub host_faults : {S : Type 0} {fits : S → StoreState → Type 0} (why : LuaWhy) (line : ℕ) (m : MachineState) (h : S) → fits h m.store

@@ -36,21 +36,21 @@ meets_err NoMemory new h e k first = tt
 pub goes_on : {S A B : Type 0} {fits : S → StoreState → Type 0} {a : A} {r : Result B (Fail ScriptStop)} {old mid new : MachineState} {h h1 h2 : S} {m : Action (Kept S) A} (k : A → Action (Kept S) B)
     → Runs fits (Ok a) old h mid h1 m → Runs fits r mid h1 new h2 (k a) → Runs fits r old h new h2 (m >>= k)
 goes_on {a = a} {r = r} {old = old} {mid = mid} {new = new} {h = h} {h1 = h1} {h2 = h2} {m = m} k first rest = record {
-    meets = meets_then a r mid new h1 h2 (m (state_of old h)) k first.meets rest.meets;
-    falls = omega (arith, first.falls, rest.falls);
-    grows = Grows-then old.store mid.store new.store first.grows rest.grows;
-    fits = rest.fits;
-  }
+  meets = meets_then a r mid new h1 h2 (m (state_of old h)) k first.meets rest.meets;
+  falls = omega (arith, first.falls, rest.falls);
+  grows = Grows-then old.store mid.store new.store first.grows rest.grows;
+  fits = rest.fits;
+}
 
 -- the first part ended it
 pub stops : {S A B : Type 0} {fits : S → StoreState → Type 0} {f : Fail ScriptStop} {r : Result B (Fail ScriptStop)} {old new : MachineState} {h h' : S} {m : Action (Kept S) A} (k : A → Action (Kept S) B)
     → IsErrAnd r (λ e. e ≡ f) → Runs {A = A} fits (Err f) old h new h' m → Runs fits r old h new h' (m >>= k)
 stops {f = f} {r = Err e} {old = old} {new = new} {h = h} {h' = h'} {m = m} k is first = rw is (record {
-    meets = meets_err f new h' (m (state_of old h)) k first.meets;
-    falls = first.falls;
-    grows = first.grows;
-    fits = first.fits;
-  })
+  meets = meets_err f new h' (m (state_of old h)) k first.meets;
+  falls = first.falls;
+  grows = first.grows;
+  fits = first.fits;
+})
 stops {r = Ok a} k is first = absurd is
 
 -- the last part ended it, and the answer is passed on
@@ -125,11 +125,11 @@ on_store_meets line (Err NoMemory) step old new h is alone = tt
 pub on_store_runs : {S A : Type 0} {fits : S → StoreState → Type 0} (line : ℕ) (r : Result A (Fail LuaWhy)) (step : StoreState → Result (A × StoreState) LuaWhy) (old new : MachineState) (h : S)
     → OnStore r old new step → Grows old.store new.store → fits h new.store → Runs fits (faults_at line r) old h new h (on_store line step)
 on_store_runs line r step old new h does grows fit = record {
-    meets = on_store_meets line r step old new h does.step does.alone;
-    falls = rw does.alone (omega arith);
-    grows = grows;
-    fits = fit;
-  }
+  meets = on_store_meets line r step old new h does.step does.alone;
+  falls = rw does.alone (omega arith);
+  grows = grows;
+  fits = fit;
+}
 
 -- a question to the store
 pub of_store_runs : {S A : Type 0} {fits : S → StoreState → Type 0} (line : ℕ) (a : A) (question : StoreState → Result A LuaWhy) (m : MachineState) (h : S)
@@ -162,20 +162,20 @@ charge-none line s is = rw is refl
 pub charged : {S : Type 0} {fits : S → StoreState → Type 0} (line : ℕ) (old new : MachineState) (h : S)
     → 0 < old.charges → new ≡ spent old → fits h old.store → Runs fits (Ok tt) old h new h (charge line)
 charged line old new h left is fit = record {
-    meets = rw is (charge-more line (old.charges - 1) (state_of old h) (omega arith));
-    falls = rw is (omega arith);
-    grows = rw is (Grows-same old.store);
-    fits = rw is fit;
-  }
+  meets = rw is (charge-more line (old.charges - 1) (state_of old h) (omega arith));
+  falls = rw is (omega arith);
+  grows = rw is (Grows-same old.store);
+  fits = rw is fit;
+}
 
 pub not_charged : {S : Type 0} {fits : S → StoreState → Type 0} (line : ℕ) (old new : MachineState) (h : S)
     → old.charges ≡ 0 → new ≡ old → fits h old.store → Runs {A = Unit {0}} fits (Err (Is (Budget line))) old h new h (charge line)
 not_charged line old new h none is fit = record {
-    meets = rw is (charge-none line (state_of old h) none);
-    falls = rw is (omega arith);
-    grows = rw is (Grows-same old.store);
-    fits = rw is fit;
-  }
+  meets = rw is (charge-none line (state_of old h) none);
+  falls = rw is (omega arith);
+  grows = rw is (Grows-same old.store);
+  fits = rw is fit;
+}
 
 -- ---- the rest of a whole
 

@@ -16,9 +16,9 @@ pub grown : {store new : StoreState} {globals : TableId} {cells : List Value} {c
     → IsSound (record { store = store; globals = globals; cells = cells; closures = closures; printed = printed; charges = charges })
     → IsSound (record { store = new; globals = globals; cells = cells; closures = closures2; printed = printed2; charges = charges2 })
 grown {store} {new} {globals} {cells} grows sound = record {
-    globals = IsOf-grown store new grows (Table globals) sound.globals;
-    cells = AreOf-grown store new grows cells sound.cells;
-  }
+  globals = IsOf-grown store new grows (Table globals) sound.globals;
+  cells = AreOf-grown store new grows cells sound.cells;
+}
 
 -- a cell more
 pub with_cell : {store : StoreState} {globals : TableId} {cells : List Value} {closures : List Closure} {printed : PrintedState} {charges : ℕ} (v : Value)
@@ -26,9 +26,9 @@ pub with_cell : {store : StoreState} {globals : TableId} {cells : List Value} {c
     → IsSound (record { store = store; globals = globals; cells = cells; closures = closures; printed = printed; charges = charges })
     → IsSound (record { store = store; globals = globals; cells = cells ++ v ∷ []; closures = closures; printed = printed; charges = charges })
 with_cell {store} {cells = cells} v of sound = record {
-    globals = sound.globals;
-    cells = All-push (IsOf store) cells v sound.cells of;
-  }
+  globals = sound.globals;
+  cells = All-push (IsOf store) cells v sound.cells of;
+}
 
 -- a cell set
 pub with_cell_set : {store : StoreState} {globals : TableId} {cells : List Value} {closures : List Closure} {printed : PrintedState} {charges : ℕ} (cell : ℕ) (v : Value)
@@ -36,6 +36,6 @@ pub with_cell_set : {store : StoreState} {globals : TableId} {cells : List Value
     → IsSound (record { store = store; globals = globals; cells = cells; closures = closures; printed = printed; charges = charges })
     → IsSound (record { store = store; globals = globals; cells = slice_set cells cell v; closures = closures; printed = printed; charges = charges })
 with_cell_set {store} {cells = cells} cell v of sound = record {
-    globals = sound.globals;
-    cells = All-set (IsOf store) cells cell v of sound.cells;
-  }
+  globals = sound.globals;
+  cells = All-set (IsOf store) cells cell v of sound.cells;
+}

@@ -106,7 +106,13 @@ impl<
             function: Some(f),
             locals: Vec::new(self.alloc),
         };
-        self.declare_all(m, host, &mut frame.locals, function.parameters.as_slice(), args)?;
+        self.declare_all(
+            m,
+            host,
+            &mut frame.locals,
+            function.parameters.as_slice(),
+            args,
+        )?;
         let flow = self.open_block(m, host, &mut frame, &function.block)?;
         Ok(results_of(self.alloc, flow))
     }

@@ -112,12 +112,7 @@ impl<
     /// # Refusals
     ///
     /// Budget, if none is left.
-    pub fn charge(
-        &self,
-        m: &mut Machine,
-        host: &mut H,
-        line: u64,
-    ) -> Result<(), Fail<ScriptStop>>
+    pub fn charge(&self, m: &mut Machine, host: &mut H, line: u64) -> Result<(), Fail<ScriptStop>>
         requires fits { H.Fits (H.state host.old) m.old.store }
         ensures runs { Runs H.Fits result m.old (H.state host.old) m.new (H.state host.new) (ending.charge line) }
         ensures less { OnOk result (m.new.charges < m.old.charges) }
@@ -194,6 +189,7 @@ impl<
         requires args { AreOf m.old.store args.now }
         ensures runs { Runs H.Fits result m.old (H.state host.old) m.new (H.state host.new) (setting.call (run_of H.begin_step H.resume_step self.now.functions self.now.most self.now.level) f args.now line) }
         ensures of { IfOk result (AreOf m.new.store) }
+        ensures less { OnOk result (m.new.charges < m.old.charges) }
     {
         self.charge(m, host, line)?;
         self.entered(m, host, f, args, line)

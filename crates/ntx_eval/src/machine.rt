@@ -301,11 +301,7 @@ impl Machine {
     }
 
     /// Resumes a host.
-    pub fn resume<H: Host>(
-        &mut self,
-        host: &mut H,
-        results: &[Value],
-    ) -> Result<HostStep, NoMemory>
+    pub fn resume<H: Host>(&mut self, host: &mut H, results: &[Value]) -> Result<HostStep, NoMemory>
         requires fits { H.Fits (H.state host.old) self.old.store }
         requires results { AreOf self.old.store results.now }
         ensures step { Does result (H.state host.new) self.new.store (H.resume_step results.now (H.state host.old) self.old.store) }

@@ -191,7 +191,15 @@ impl<
     {
         let places = self.places(m, host, frame, line, vars)?;
         let values = self.values(m, host, frame, line, exps)?;
-        self.assign_each(m, host, frame, line, vars, places.as_slice(), values.as_slice())
+        self.assign_each(
+            m,
+            host,
+            frame,
+            line,
+            vars,
+            places.as_slice(),
+            values.as_slice(),
+        )
     }
 
     /// Assigns the values to the variables that were found, from the left.

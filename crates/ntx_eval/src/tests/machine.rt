@@ -67,13 +67,20 @@ fn calls_from_outside_take_a_step(rt: HostRuntime) {
         vm.call(&mut NoHost, MAX, &[Value::Int(3), Value::Int(7)]),
         &[Value::Int(7)],
     );
-    assert_eq!(rt; stop_of(&rt, vm.call(&mut NoHost, MAX, &[Value::Int(3)])), ScriptStop::Budget(0));
+    assert_eq!(rt;
+        stop_of(&rt, vm.call(&mut NoHost, MAX, &[Value::Int(3)])),
+        ScriptStop::Budget(0)
+    );
 }
 
 #[test]
 fn what_is_printed_is_taken_once(rt: HostRuntime) {
     let mut vm = idle(&rt, 9);
-    gives(&rt, vm.call(&mut NoHost, PRINT, &[Value::Int(7), Value::Nil]), &[]);
+    gives(
+        &rt,
+        vm.call(&mut NoHost, PRINT, &[Value::Int(7), Value::Nil]),
+        &[],
+    );
     assert_eq!(rt; vm.take_printed().as_slice(), b"7\tnil\n".as_slice());
     assert_eq!(rt; vm.take_printed().as_slice(), b"".as_slice());
 }
@@ -85,14 +92,21 @@ fn calls_of_no_function_have_no_line(rt: HostRuntime) {
         line: 0,
         why: LuaWhy::WrongType,
     };
-    assert_eq!(rt; stop_of(&rt, vm.call(&mut NoHost, Value::Nil, &[])), ScriptStop::Fault(fault));
+    assert_eq!(rt;
+        stop_of(&rt, vm.call(&mut NoHost, Value::Nil, &[])),
+        ScriptStop::Fault(fault)
+    );
 }
 
 #[test]
 fn steps_of_a_host_are_followed(rt: HostRuntime) -> Result<(), test::Fail> {
     let mut vm = idle(&rt, 1);
     let done = Items::from_slice(rt.alloc(), &[Value::Int(5)])?;
-    gives(&rt, vm.drive(&mut NoHost, HostStep::Done(done)), &[Value::Int(5)]);
+    gives(
+        &rt,
+        vm.drive(&mut NoHost, HostStep::Done(done)),
+        &[Value::Int(5)],
+    );
     let failed = vm.drive(&mut NoHost, HostStep::Fail(LuaWhy::BadArgument));
     assert_eq!(rt; stop_of(&rt, failed), ScriptStop::Host(LuaWhy::BadArgument));
     let args = Items::from_slice(rt.alloc(), &[Value::Int(5)])?;
@@ -100,6 +114,9 @@ fn steps_of_a_host_are_followed(rt: HostRuntime) -> Result<(), test::Fail> {
     assert_eq!(rt; stop_of(&rt, asked), ScriptStop::Host(LuaWhy::WrongType));
     assert_eq!(rt; vm.take_printed().as_slice(), b"5\n".as_slice());
     let again = HostStep::Call(PRINT, Items::new(rt.alloc()));
-    assert_eq!(rt; stop_of(&rt, vm.drive(&mut NoHost, again)), ScriptStop::Budget(0));
+    assert_eq!(rt;
+        stop_of(&rt, vm.drive(&mut NoHost, again)),
+        ScriptStop::Budget(0)
+    );
     Ok(())
 }
