@@ -1,5 +1,5 @@
 -- `if`, arm by arm.
-use Rattle.std.proofs.Common.{◌≡◌, Bool, true, false, if◌then◌else◌, List, [], ◌∷◌, map, length, Option, None, Some, Result, Ok, Err, ap, arith}
+use Rattle.std.proofs.Common.{◌≡◌, ℕ, Bool, true, false, if◌then◌else◌, List, [], ◌∷◌, map, length, Option, None, Some, Result, Ok, Err, sym, ap, arith}
 use Rattle.std.specs.Prelude.{option_map}
 use Rattle.std.specs.Result.{IsErrAnd}
 use Rattle.ntx_num.specs.declared.answer.Fail.{Fail}
@@ -7,7 +7,7 @@ use Rattle.ntx_resolve.specs.declared.code.Block.{Block}
 use Rattle.ntx_resolve.specs.declared.code.IfArm.{IfArm, out-IfArm}
 use Rattle.ntx_values.specs.State.{StoreState}
 use Rattle.ntx_eval.specs.State.{State}
-use Rattle.ntx_eval.specs.Ending.{Action, ◌>>=◌}
+use Rattle.ntx_eval.specs.Ending.{Action, give, ◌>>=◌}
 use Rattle.ntx_eval.specs.Setting.{Setting}
 use Rattle.ntx_eval.specs.inner.Machine.{MachineState, Kept, state_of}
 use Rattle.ntx_eval.specs.inner.Places.{Spot}
