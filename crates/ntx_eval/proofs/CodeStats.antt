@@ -1,5 +1,5 @@
 -- What each construct of statements does in code, from what its parts do.
-use Rattle.std.proofs.Common.{◌≡◌, ◌∙◌, ℕ, List, map, Option, Some, None, option_map, sym, ap}
+use Rattle.std.proofs.Common.{◌≡◌, ◌∙◌, ℕ, List, map, Option, Some, None, option_map, refl, sym, ap}
 use Rattle.ntx_syntax.specs.declared.tree.LocalName.{LocalName}
 use Rattle.ntx_resolve.specs.declared.code.Variable.{Variable}
 use Rattle.ntx_resolve.specs.declared.code.Block.{Block, out-Block}

@@ -7,7 +7,11 @@ pub mod RelatedTrees
 pub mod RelatedCalls
 pub mod Steps
 pub mod WorkedProofs
+pub mod Sound
 pub mod Running
+pub mod Following
+pub mod Globals
+pub mod Binding
 pub mod CodeArms
 pub mod Alike
 pub mod AlikePlaces
@@ -22,3 +26,15 @@ pub mod AlikeTrees
 pub mod AlikeCalls
 pub mod AlikeScripts
 pub mod Agreeing
+pub mod FirstValues
+pub mod OneRuns
+pub mod ManyValues
+pub mod Suffixing
+pub mod Operating
+pub mod Filling
+pub mod Assigning
+pub mod Reaching
+pub mod Turning
+pub mod RepeatTurns
+pub mod ForTurns
+pub mod InTurn

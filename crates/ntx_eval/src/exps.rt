@@ -153,11 +153,12 @@ impl<
         let mut v = operand;
         let mut others = others;
         while let Some((other, rest)) = others.split_first() {
-            if !is_decided(other.operator, v) {
-                let w = self.one(m, host, frame, line, &other.operand)?;
-                v = self.binary(m, host, line, other.operator, v, w)?;
-            }
             others = rest;
+            if is_decided(other.operator, v) {
+                continue;
+            }
+            let w = self.one(m, host, frame, line, &other.operand)?;
+            v = self.binary(m, host, line, other.operator, v, w)?;
         }
         Ok(v)
     }

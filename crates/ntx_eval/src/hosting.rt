@@ -56,7 +56,7 @@ impl<
         ensures of { IfOk result (AreOf m.new.store) }
     {
         let mut step = first;
-        loop {
+        'steps: loop {
             match step {
                 HostStep::Done(values) => return Ok(values),
                 HostStep::Fail(why) => return Err(host_fault(line, why)),

@@ -93,7 +93,7 @@ impl<
         ensures of { IfOk result (FlowIsOf m.new.store) }
         ensures frame { OnOk result ((line : ℕ) → spot_of frame.new line ≡ spot_of frame.old line) }
     {
-        loop {
+        'turns: loop {
             self.charge(m, host, line)?;
             if !self.holds(m, host, frame, line, condition)? {
                 return Ok(Flow::Onward);
@@ -125,7 +125,7 @@ impl<
         ensures frame { OnOk result ((line : ℕ) → spot_of frame.new line ≡ spot_of frame.old line) }
     {
         let count = frame.locals.len();
-        loop {
+        'turns: loop {
             match self.open_block(m, host, frame, block)? {
                 Flow::Onward => {}
                 Flow::Broken => {
@@ -212,7 +212,7 @@ impl<
     {
         let count = frame.locals.len();
         let mut next = Some(range.start);
-        loop {
+        'turns: loop {
             self.charge(m, host, line)?;
             let Some(i) = next else {
                 return Ok(Flow::Onward);
@@ -256,7 +256,7 @@ impl<
         let walked = nth(values.as_slice(), 1);
         let mut control = nth(values.as_slice(), 2);
         let count = frame.locals.len();
-        loop {
+        'turns: loop {
             self.charge(m, host, line)?;
             let values = self.entered(m, host, iterator, &[walked, control], line)?;
             control = first(&values);

@@ -78,23 +78,45 @@ impl<
         let mut v = v;
         let mut suffixes = suffixes;
         while let Some((suffix, others)) = suffixes.split_first() {
-            v = match suffix {
-                Suffix::Index(key) => {
-                    let key = self.one(m, host, frame, line, key.get())?;
-                    self.read_field(m, host, v, key, line)?
-                }
-                Suffix::Field(name) => {
-                    let key = self.text(m, host, name.as_slice(), line)?;
-                    self.read_field(m, host, v, key, line)?
-                }
-                Suffix::Call(arguments) => {
-                    let values = self.values(m, host, frame, line, arguments.as_slice())?;
-                    first(&self.call(m, host, v, values.as_slice(), line)?)
-                }
-            };
+            v = self.suffix(m, host, frame, line, v, suffix)?;
             suffixes = others;
         }
         Ok(v)
+    }
+
+    /// The first value of what stands after a value.
+    #[cycle(exps)]
+    fn suffix(
+        &self,
+        m: &mut Machine,
+        host: &mut H,
+        frame: &Frame,
+        line: u64,
+        v: Value,
+        suffix: &Suffix,
+    ) -> Result<Value, Fail<ScriptStop>>
+        requires enters { Enters H.state H.Fits (world_of H.begin_step H.resume_step) self.now.functions self.now.most self.now.level (C.pre self.now.enter) (C.post self.now.enter) }
+        requires fits { H.Fits (H.state host.old) m.old.store }
+        requires most { m.old.charges ≤ self.now.most }
+        requires value { IsOf m.old.store v }
+        ensures runs { Runs H.Fits result m.old (H.state host.old) m.new (H.state host.new) (first_of (code.suffix_code (run_of H.begin_step H.resume_step self.now.functions self.now.most self.now.level) suffix.now v (spot_of frame.now line))) }
+        ensures of { IfOk result (IsOf m.new.store) }
+    {
+        match suffix {
+            Suffix::Index(key) => {
+                let key = self.one(m, host, frame, line, key.get())?;
+                self.read_field(m, host, v, key, line)
+            }
+            Suffix::Field(name) => {
+                let key = self.text(m, host, name.as_slice(), line)?;
+                self.read_field(m, host, v, key, line)
+            }
+            Suffix::Call(arguments) => {
+                let values = self.values(m, host, frame, line, arguments.as_slice())?;
+                let results = self.call(m, host, v, values.as_slice(), line)?;
+                Ok(first(&results))
+            }
+        }
     }
 
     /// All values of a prefix: those of a call, if it ends in one.

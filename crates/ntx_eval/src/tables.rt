@@ -149,10 +149,11 @@ impl<
         requires value { IsOf m.old.store v }
         ensures runs { Runs H.Fits result m.old (H.state host.old) m.new (H.state host.new) (code.place_value (run_of H.begin_step H.resume_step self.now.functions self.now.most self.now.level) t number v line) }
     {
-        if !v.is_nil() {
-            let key = key_of(number)?;
-            self.write_field(m, host, Value::Table(t), key, v, line)?;
+        if v.is_nil() {
+            return Ok(next_of(number)?);
         }
+        let key = key_of(number)?;
+        self.write_field(m, host, Value::Table(t), key, v, line)?;
         Ok(next_of(number)?)
     }
 
