@@ -25,6 +25,7 @@ pub mod AlikeKinds
 pub mod AlikeTrees
 pub mod AlikeCalls
 pub mod AlikeScripts
+pub mod AlikeRuns
 pub mod Agreeing
 pub mod FirstValues
 pub mod OneRuns
