@@ -1,7 +1,7 @@
 -- The pieces of a page can be drawn one after another.
-use Rattle.std.proofs.Common.{◌≡◌, ℕ, zero, suc, ◌+◌, ◌-◌, ◌≤◌, ◌<◌, ◌^◌, ℤ, pos, ◌+ℤ◌, Bool, true, false, ◌&&◌, List, [], ◌∷◌, ◌++◌, Some, Ok, Err, refl, sym, ap, ◌∙◌, subst, append_assoc, append-nil, arith}
-use Rattle.std.specs.Prelude.{Result, neg_ℤ, int_le, ◌≤ℤ◌, if◌then◌else◌, int_lt, unwrap_or}
-use Rattle.ntx_num.specs.Answer.{result_map, result_and_then}
+use Rattle.std.proofs.Common.{◌≡◌, ℕ, zero, suc, ◌+◌, ◌-◌, ◌≤◌, ℤ, pos, ◌+ℤ◌, Bool, true, false, ◌&&◌, List, [], ◌∷◌, ◌++◌, Ok, Err, refl, sym, subst, append_assoc, append-nil, arith}
+use Rattle.std.specs.Prelude.{if◌then◌else◌, int_lt, unwrap_or}
+use Rattle.ntx_num.specs.Answer.{result_map}
 use Rattle.ntx_num.specs.Dimension.{is_dimension}
 use Rattle.ntx_num.proofs.Answers.{same_Ok, mapped_Ok, went_Ok, taken}
 use Rattle.std.specs.List.{All}
@@ -16,7 +16,7 @@ use Rattle.ntx_view.specs.View.{char_size, no_size}
 use Rattle.ntx_pack.specs.declared.direction.Direction.{Direction}
 use Rattle.ntx_ship.specs.declared.list.Inside.{Inside}
 use Rattle.ntx_ship.specs.declared.piece.Piece.{Piece}
-use Rattle.ntx_ship.specs.declared.piece.Piece.TheVariants.{Push, Pop, Glyph, Rule}
+use Rattle.ntx_ship.specs.declared.piece.Piece.TheVariants.{Pop, Glyph, Rule}
 use Rattle.ntx_ship.specs.declared.place.Place.{Place}
 use Rattle.ntx_ship.specs.declared.station.Station.{Station}
 use Rattle.ntx_ship.specs.Placed.{Pieces, Placer, joined, may_stand, glyph_mark, rule_mark, grouped, reference, top, corner, hlist_inside, vlist_inside, part_inside, node_pieces, row_pieces, row_at, list_pieces, max_levels}

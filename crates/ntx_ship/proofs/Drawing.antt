@@ -4,7 +4,7 @@ use Rattle.std.specs.Prelude.{Result, Option, Some, None, ℤ, pos, slice_get}
 use Rattle.std.proofs.lemmas.Option.{slice_get_past}
 use Rattle.std.proofs.lemmas.List.{at_drop_more, at_drop_all}
 use Rattle.ntx_num.specs.declared.answer.Fail.{Fail}
-use Rattle.ntx_num.specs.declared.answer.Fail.TheVariants.{NoMemory, Is}
+use Rattle.ntx_num.specs.declared.answer.Fail.TheVariants.{NoMemory}
 use Rattle.ntx_tfm.specs.Font.{FontTables}
 use Rattle.ntx_dvi.specs.declared.full.DviFull.{DviFull}
 use Rattle.ntx_dvi.specs.Operation.{Operation, PageStart, PageEnd}

@@ -1,21 +1,17 @@
 -- What operations that were written leave, and fonts that stay known.
-use Rattle.std.proofs.Common.{◌≡◌, ℕ, Bool, true, false, List, [], ◌∷◌, ◌++◌, Result, Ok, Err, Some, None, refl, ap, sym, ◌∙◌, subst, arith}
-use Rattle.std.specs.Prelude.{Option, nat_eq, pos, ◌≤ℤ◌, IfSome, slice_get}
+use Rattle.std.proofs.Common.{◌≡◌, ℕ, true, false, List, [], ◌∷◌, Result, Ok, Err, Some, None, refl, ap, sym, ◌∙◌, subst, arith}
+use Rattle.std.specs.Prelude.{Option, nat_eq, IfSome}
 use Rattle.std.specs.List.{fold}
-use Rattle.std.specs.Option.{option_map}
 use Rattle.std.proofs.lemmas.Int.{ints}
 use Rattle.std.proofs.lemmas.Bool.{eq-eqb, eqb-true}
 use Rattle.ntx_num.proofs.Answers.{same_Ok, same_Some}
-use Rattle.ntx_num.specs.declared.answer.Fail.{Fail}
-use Rattle.ntx_tfm.specs.Font.{FontTables, IsDefinition}
+use Rattle.ntx_tfm.specs.Font.{IsDefinition}
 use Rattle.ntx_tfm.specs.declared.def.FontDef.{FontDef}
-use Rattle.ntx_dvi.specs.declared.full.DviFull.{DviFull}
 use Rattle.ntx_dvi.specs.Operation.{Operation}
 use Rattle.ntx_dvi.specs.File.{after}
 use Rattle.ntx_dvi.specs.Fonts.{IsDefinable, definition_in, MayBe, AreKnown, OthersStay}
-use Rattle.ntx_dvi.specs.Progress.{Progress}
 use Rattle.ntx_dvi.specs.Writer.{Writer, step, with_operation}
-use Rattle.ntx_dvi.specs.Written.{after_step, then_write, written, Writes}
+use Rattle.ntx_dvi.specs.Written.{after_step, then_write, written}
 use Rattle.ntx_dvi.proofs.Writing.{full_stays}
 
 -- ---- what is left

@@ -1,5 +1,5 @@
 -- What shipping a page does, from what its parts do.
-use Rattle.std.proofs.Common.{◌≡◌, ℕ, List, Ok, Err, refl, ap, sym, ◌∙◌, subst}
+use Rattle.std.proofs.Common.{◌≡◌, ℕ, List, Ok, Err, refl, ap, sym, subst}
 use Rattle.std.specs.Prelude.{Result, Some, IsOk}
 use Rattle.ntx_num.specs.Answer.{Answers, StepsAtOnce, result_map}
 use Rattle.ntx_num.specs.declared.answer.Fail.{Fail}

@@ -2,7 +2,7 @@
 --     page_operations p fonts page      the operations of a page, in a file that has come as far as p
 -- A place on the page goes with the operations. It begins in the upper left corner. Before each mark it moves there, first to the right and then down.
 -- Then it is at the end of the mark's width. The end of a box brings back the place where the box began.
-use Rattle.std.specs.Prelude.{◌≡◌, ℕ, ◌+◌, pos, ◌+ℤ◌, ◌-ℤ◌, ℤ, List, [], ◌∷◌, ◌++◌, slice_get, Option, None, Some}
+use Rattle.std.specs.Prelude.{ℕ, ◌+◌, pos, ◌+ℤ◌, ◌-ℤ◌, ℤ, List, [], ◌∷◌, ◌++◌, slice_get, Option, None, Some}
 use Rattle.std.specs.List.{fold}
 use Rattle.std.specs.Option.{option_map}
 use Rattle.ntx_num.specs.Dimension.{IsDimension}

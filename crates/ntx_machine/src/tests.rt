@@ -1,0 +1,6 @@
+//! What no contract says: that a machine carries out documents if memory suffices, with files worked out by hand from the format of DVI.
+
+mod files;
+mod font;
+mod run;
+mod stops;
