@@ -6,8 +6,7 @@
 //! the machine goes through, and each call is tied to it.
 //!
 //! It stands on `ntx_doc` for commands, on `ntx_nodes` and `ntx_lists` for nodes, on `ntx_item` for parameters and glue, on `ntx_tfm` for fonts, on
-//! `ntx_view` and `ntx_pack` for boxes, on `ntx_dvi` and `ntx_ship` for the DVI file, on `ntx_hyph` for the word in which a course of states
-//! is stated, and on `ntx_num` for answers.
+//! `ntx_view` and `ntx_pack` for boxes, on `ntx_dvi` and `ntx_ship` for the DVI file, and on `ntx_num` for answers and courses of states.
 #![tactic(auto)]
 
 mod boxes;
