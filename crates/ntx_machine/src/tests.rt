@@ -2,5 +2,6 @@
 
 mod files;
 mod font;
+mod places;
 mod run;
 mod stops;

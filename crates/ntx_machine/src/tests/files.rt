@@ -14,37 +14,37 @@ pub const PREAMBLE: [u8; 18] = [
 const UNITS: [u8; 12] = [1, 0x83, 0x92, 0xc0, 0x1c, 0x3b, 0, 0, 0, 0, 3, 0xe8];
 
 /// The definition of the font.
-const FONT: [u8; 17] = [
+pub const FONT: [u8; 17] = [
     0xf3, 0, 0, 0, 0, 0, 0, 0x0a, 0, 0, 0, 0x0a, 0, 0, 0, 1, 0x54,
 ];
 
 /// A rule of 10 by 10 scaled points.
-const SQUARE: [u8; 9] = [0x84, 0, 0, 0, 0x0a, 0, 0, 0, 0x0a];
+pub const SQUARE: [u8; 9] = [0x84, 0, 0, 0, 0x0a, 0, 0, 0, 0x0a];
 
 /// Down to the baseline of the first line.
-const DOWN: [u8; 4] = [0x9f, 0x0a, 0, 0];
+pub const DOWN: [u8; 4] = [0x9f, 0x0a, 0, 0];
 
 /// What a file with one page says of it.
 #[derive(Clone, Copy)]
-struct Expected<'a> {
+pub struct Expected<'a> {
     /// The document.
-    document: &'a [u8],
+    pub document: &'a [u8],
     /// The bytes of the page between its beginning and its end.
-    page: &'a [&'a [u8]],
+    pub page: &'a [&'a [u8]],
     /// The page's height plus depth, and its width.
-    size: [u32; 2],
+    pub size: [u32; 2],
     /// The greatest depth of pushes.
-    pushes: u8,
+    pub pushes: u8,
     /// The definition of the font, if it is used.
-    fonts: &'a [u8],
+    pub fonts: &'a [u8],
     /// The place of the postamble.
-    postamble: u8,
+    pub postamble: u8,
     /// How many bytes fill the file up.
-    fill: usize,
+    pub fill: usize,
 }
 
 /// The file with this page.
-fn file(alloc: Global, expected: &Expected) -> Result<Vec<u8>, AllocError> {
+pub fn file(alloc: Global, expected: &Expected) -> Result<Vec<u8>, AllocError> {
     let mut file = Vec::new(alloc);
     file.extend_from_slice(&PREAMBLE)?;
     file.extend_from_slice(&[0x8b, 0, 0, 0, 1])?;

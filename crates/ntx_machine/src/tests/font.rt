@@ -53,3 +53,13 @@ pub fn fonts(alloc: Global) -> Result<Vec<Font>, Fail> {
     }
     Ok(fonts)
 }
+
+/// This font at two sizes: its design size, and 450000 scaled points under the name `U`.
+pub fn two_fonts(alloc: Global) -> Result<Vec<Font>, Fail> {
+    let bytes = file(alloc)?;
+    let mut fonts = fonts(alloc)?;
+    if let Ok(font) = read_font(alloc, bytes.as_slice(), "U", Some(450_000)) {
+        fonts.push(font)?;
+    }
+    Ok(fonts)
+}
