@@ -179,16 +179,13 @@ def worked_out(text, fonts):
 
 # ---- what dvitype finds
 
-MARK = re.compile(r"^\d+: (setchar|set|setrule)(\d*) ?(.*)$")
-
-
 def found(listing):
     """The marks of dvitype's listing, and its complaints."""
     marks, complaints, v, stack = [], [], 0, []
-    for line in listing.split("\n"):
-        at = re.search(r"v:=.*?=?(-?\d+), vv", line)
-        if re.match(r"^\d+: down", line):
-            v = int(at.group(1))
+    for line in re.sub(r"\n h:=", " h:=", listing).split("\n"):
+        down = re.match(r"^\d+: down.* v:=.*=(-?\d+), vv", line)
+        if down:
+            v = int(down.group(1))
         elif re.match(r"^\d+: push", line):
             stack.append(v)
         elif re.match(r"^\d+: pop", line):

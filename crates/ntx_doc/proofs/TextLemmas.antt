@@ -30,22 +30,22 @@ IsSameOk place other = ◌≡◌ {A = Result Place DocWhy} (Ok place) (Ok other)
 same_value : (place other : Place) → IsSameOk place other → place ≡ other
 same_value place other e = ap (value_or place) e
 
-pub record Went (font : ℕ) (behind : List (List ℕ)) (place last : Place) : Type 0 where
+pub record Went (font : ℕ) (others : List (List ℕ)) (place last : Place) : Type 0 where
   pub font_same : place.font ≡ font
-  pub leads : put_all (spaced font behind) place ≡ last
+  pub leads : put_all (spaced font others) place ≡ last
 
 -- Space glue and the first of these words lead from p by way of q to r.
-pub spaced_step : (font : ℕ) (word : List ℕ) (fields behind : List (List ℕ)) (p q r last : Place) → fields ≡ word ∷ behind → p.font ≡ font → IsSameOk (put (Space font) p) q
-    → IsSameOk (put_all (glyphs_of q.font word) q) r → put_all (spaced font fields) p ≡ last → Went font behind r last
-spaced_step font word fields behind p q r last are same there here leads =
+pub spaced_step : (font : ℕ) (word : List ℕ) (fields others : List (List ℕ)) (p q r last : Place) → fields ≡ word ∷ others → p.font ≡ font → IsSameOk (put (Space font) p) q
+    → IsSameOk (put_all (glyphs_of q.font word) q) r → put_all (spaced font fields) p ≡ last → Went font others r last
+spaced_step font word fields others p q r last are same there here leads =
     let at_q : put (Space font) p ≡ q = same_value (put (Space font) p) q there in
     let q_font : q.font ≡ font = sym (ap (λ x. x.font) at_q) ∙ same in
     let at_r : put_all (glyphs_of font word) q ≡ r = ap (λ f. put_all (glyphs_of f word) q) (sym q_font) ∙ same_value (put_all (glyphs_of q.font word) q) r here in
     record {
       font_same = sym (ap (λ x. x.font) at_r) ∙ put_all_font (glyphs_of font word) q ∙ q_font;
       leads =
-          ap (put_all (spaced font behind)) (sym at_r) ∙ sym (put_all_more (glyphs_of font word) (spaced font behind) q)
-          ∙ ap (put_all (glyphs_of font word ++ spaced font behind)) (sym at_q) ∙ ap (λ l. put_all (spaced font l) p) (sym are) ∙ leads;
+          ap (put_all (spaced font others)) (sym at_r) ∙ sym (put_all_more (glyphs_of font word) (spaced font others) q)
+          ∙ ap (put_all (glyphs_of font word ++ spaced font others)) (sym at_q) ∙ ap (λ l. put_all (spaced font l) p) (sym are) ∙ leads;
     }
 
 abbrev after_text : Place → Result Place DocWhy

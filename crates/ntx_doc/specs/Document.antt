@@ -22,7 +22,7 @@ abbrev pub at_line : ℕ → Result Place DocWhy → (Place → Result (List Com
 at_line number (Ok place) others = others place
 at_line number (Err reason) others = Err (record { line = number; why = reason })
 
--- what a document says if n lines led to this place and these lines follow
+-- what the rest of a document says after n lines that led to this place
 abbrev pub commands_after : ℕ → ℕ → List (List ℕ) → Place → Result (List Command) DocFault
 commands_after fonts n [] place = at_end n place.done place.groups
 commands_after fonts n (line ∷ others) place =

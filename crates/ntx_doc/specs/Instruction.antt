@@ -1,4 +1,4 @@
--- What a line says by itself, wherever it stands: an instruction, read from the fields after the first one.
+-- What a line says by itself, in any place: an instruction. It is read from the fields after the first one.
 --     instruction form fields      what a line of this form says, or why it is refused
 -- Each refusal here is a wrong number of fields or a wrong word (`Fields`), a name that no parameter has (`Name`), or a field
 -- that is no number or out of range (`Number`, `Range`); the fields are read from the left.

@@ -34,7 +34,7 @@ may_stand _ place = not (is_at_top place)
 abbrev pub carry_out : ℕ → Form → List (List ℕ) → Place → Result Place DocWhy
 carry_out fonts f fields place = result_and_then (instruction f fields) (λ i. follow fonts i place)
 
--- The first field names the form, and a line of this form may stand here.
+-- `Command`: the first field is no form's, or a line of its form may not stand here.
 abbrev pub after_command : ℕ → List ℕ → List (List ℕ) → Place → Result Place DocWhy
 after_command fonts word fields place =
     refused_without why.Command (form_of_word word) (λ f.

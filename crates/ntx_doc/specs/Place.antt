@@ -67,7 +67,8 @@ opened to place = record place { groups = (record { to = to; body = [] }) ∷ pl
 abbrev pub with_groups : List Group → Place → Place
 with_groups groups place = record place { groups = groups }
 
--- The place after the innermost open box, which becomes a command of what is around it. No `end` stands where no box is open.
+-- The place after the innermost open box, which becomes a command of the box around it, or of the document. `end` is refused if no box is open; no
+-- line with `end` comes here then, since it may not stand outside of boxes.
 abbrev pub closed : List Group → Place → Result Place DocWhy
 closed [] place = Err why.Command
 closed (group ∷ outer) place = Ok (put (HBox group.to group.body) (with_groups outer place))

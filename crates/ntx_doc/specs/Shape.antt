@@ -1,4 +1,4 @@
--- What the commands of an accepted document keep, for whoever carries them out. Each is a test of one command that stands outside
+-- What the commands of an accepted document keep, for the machine that carries them out. Each is a test of one command that stands outside
 -- of boxes, and speaks of the commands in it too. That a box holds just what stands between `hbox` and its `end`, and that the code
 -- of a character is a byte, are part of the type of commands.
 --     has_numbers_in_range command      each number is in its range

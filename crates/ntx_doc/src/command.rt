@@ -10,8 +10,8 @@ use sqlite_items::Items;
 pub enum Command {
     /// Sets a parameter that is a number, to a value that it accepts. It stands outside of boxes alone.
     Set(Param, i64),
-    /// Sets a parameter that is glue. Width, stretch and shrink are dimensions, or of an infinite order within 2^30-1 of its
-    /// units; the orders are from 0 to 3. It stands outside of boxes alone.
+    /// Sets a parameter that is glue. The width is a dimension. Stretch and shrink are within 2^30-1 in absolute value, in scaled points or in
+    /// units of their order; the orders are from 0 to 3. It stands outside of boxes alone.
     SetGlue(GlueParam, GlueSpec),
     /// Gives the attribute of this number, from 0 to 65535, this value, from -2147483646 to 2147483647, on the nodes that are
     /// made from here on.

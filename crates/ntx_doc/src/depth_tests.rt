@@ -14,7 +14,7 @@ static FONTS: [(&[u8], u64, Option<DocWhy>); 6] = [
     (b"font 64", 65, Some(DocWhy::Range)),
 ];
 
-/// The rows of that table, of which a proof knows nothing.
+/// The rows of that table, for the tests.
 fn fonts() -> &'static [(&'static [u8], u64, Option<DocWhy>)] {
     &FONTS
 }
@@ -35,7 +35,7 @@ static NESTED: [(&[u8], Option<(u64, DocWhy)>); 12] = [
     (b"end\nhbox\nend\n", Some((43, DocWhy::Command))),
 ];
 
-/// The rows of that table, of which a proof knows nothing.
+/// The rows of that table, for the tests.
 fn nested() -> &'static [(&'static [u8], Option<(u64, DocWhy)>)] {
     &NESTED
 }

@@ -37,21 +37,21 @@ static BYTES_AND_NUMBERS: [(&[u8], u64, DocWhy); 28] = [
     (b"hbox\nfont 2", 2, DocWhy::Font),
 ];
 
-/// The rows of that table, of which a proof knows nothing.
+/// The rows of that table, for the tests.
 fn bytes_and_numbers() -> &'static [(&'static [u8], u64, DocWhy)] {
     &BYTES_AND_NUMBERS
 }
 
 /// Documents with two faults in one line, or in two lines; there are two fonts.
 static TWO_FAULTS: [(&[u8], u64, DocWhy); 33] = [
-    // Byte comes before Command, Fields, Name, Number, Range, Font.
+    // Byte comes before Command, Fields, Name, Number, Range.
     (b"hbox\nfoo\x01", 2, DocWhy::Byte),
     (b"set hsize\x01", 1, DocWhy::Byte),
     (b"set foo 5\x01", 1, DocWhy::Byte),
-    (b"set hsize x \x01", 1, DocWhy::Byte),
-    (b"font 64\x01", 1, DocWhy::Byte),
-    (b"font 2\x01", 1, DocWhy::Byte),
-    // Command comes before Fields, Name, Number, Range, Font.
+    (b"set hsize x\x01", 1, DocWhy::Byte),
+    (b"attr 65536 1\x01", 1, DocWhy::Byte),
+    (b"hbox\nkern 1073741824 \x01", 2, DocWhy::Byte),
+    // Command comes before Fields, Name, Number, Range.
     (b"kern", 1, DocWhy::Command),
     (b"hbox\nend\nhbox 1", 3, DocWhy::Command),
     (b"hbox\nset foo 5", 2, DocWhy::Command),
@@ -86,7 +86,7 @@ static TWO_FAULTS: [(&[u8], u64, DocWhy); 33] = [
     (b"hbox\nfoo\nrule 1", 2, DocWhy::Command),
 ];
 
-/// The rows of that table, of which a proof knows nothing.
+/// The rows of that table, for the tests.
 fn two_faults() -> &'static [(&'static [u8], u64, DocWhy)] {
     &TWO_FAULTS
 }
@@ -108,7 +108,7 @@ static NO_FONTS: [(&[u8], u64, DocWhy); 13] = [
     (b"hbox\ntext \x01", 2, DocWhy::Byte),
 ];
 
-/// The rows of that table, of which a proof knows nothing.
+/// The rows of that table, for the tests.
 fn no_fonts() -> &'static [(&'static [u8], u64, DocWhy)] {
     &NO_FONTS
 }

@@ -65,7 +65,7 @@ static OUTSIDE: [(&[u8], &[Seen]); 20] = [
     (b"\t hbox\tto  5\t\r\n%\n end \n\n", &[Seen::To(5, 0)]),
 ];
 
-/// The rows of that table, of which a proof knows nothing.
+/// The rows of that table, for the tests.
 fn outside() -> &'static [(&'static [u8], &'static [Seen])] {
     &OUTSIDE
 }
@@ -119,7 +119,7 @@ static INSIDE: [(&[u8], &[Seen]); 24] = [
     (b"hbox\nfont 1\nfont 0\ntext ~\nend", &[Seen::Glyph(0, 126)]),
 ];
 
-/// The rows of that table, of which a proof knows nothing.
+/// The rows of that table, for the tests.
 fn inside() -> &'static [(&'static [u8], &'static [Seen])] {
     &INSIDE
 }

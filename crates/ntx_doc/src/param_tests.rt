@@ -79,7 +79,7 @@ static LEAST: [(&[u8], &[Seen]); 19] = [
     ),
 ];
 
-/// The rows of that table, of which a proof knows nothing.
+/// The rows of that table, for the tests.
 fn least() -> &'static [(&'static [u8], &'static [Seen])] {
     &LEAST
 }
@@ -161,7 +161,7 @@ static GREATEST: [(&[u8], &[Seen]); 19] = [
     ),
 ];
 
-/// The rows of that table, of which a proof knows nothing.
+/// The rows of that table, for the tests.
 fn greatest() -> &'static [(&'static [u8], &'static [Seen])] {
     &GREATEST
 }
@@ -189,7 +189,7 @@ static BELOW: [(&[u8], u64, DocWhy); 19] = [
     (b"set lineskiplimit -1073741824", 1, DocWhy::Range),
 ];
 
-/// The rows of that table, of which a proof knows nothing.
+/// The rows of that table, for the tests.
 fn below() -> &'static [(&'static [u8], u64, DocWhy)] {
     &BELOW
 }
@@ -217,7 +217,7 @@ static ABOVE: [(&[u8], u64, DocWhy); 19] = [
     (b"set lineskiplimit 1073741824", 1, DocWhy::Range),
 ];
 
-/// The rows of that table, of which a proof knows nothing.
+/// The rows of that table, for the tests.
 fn above() -> &'static [(&'static [u8], u64, DocWhy)] {
     &ABOVE
 }

@@ -22,7 +22,7 @@ static PLACES: [(&[u8], u64, DocWhy); 26] = [
     (b"space", 1, DocWhy::Command),
     (b"text a", 1, DocWhy::Command),
     (b"% kerns\nfont 0\nkern 5", 3, DocWhy::Command),
-    // A second box, and what stands behind the box.
+    // A second box, and what stands after the box.
     (b"hbox\nend\nhbox", 3, DocWhy::Command),
     (
         b"hbox\nend\nset hsize 5\nattr 1 1\nhbox",
@@ -39,7 +39,7 @@ static PLACES: [(&[u8], u64, DocWhy); 26] = [
     (b"hbox\nhbox\nend\nset hsize 5\nend", 4, DocWhy::Command),
 ];
 
-/// The rows of that table, of which a proof knows nothing.
+/// The rows of that table, for the tests.
 fn places() -> &'static [(&'static [u8], u64, DocWhy)] {
     &PLACES
 }
@@ -88,7 +88,7 @@ static FIELDS_AND_NAMES: [(&[u8], u64, DocWhy); 39] = [
     (b"setglue foo 0 0 0 0 0", 1, DocWhy::Name),
 ];
 
-/// The rows of that table, of which a proof knows nothing.
+/// The rows of that table, for the tests.
 fn fields_and_names() -> &'static [(&'static [u8], u64, DocWhy)] {
     &FIELDS_AND_NAMES
 }

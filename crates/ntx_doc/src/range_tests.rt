@@ -27,7 +27,7 @@ static OUTSIDE: [(&[u8], u64, DocWhy); 22] = [
     (b"font -1", 1, DocWhy::Range),
 ];
 
-/// The rows of that table, of which a proof knows nothing.
+/// The rows of that table, for the tests.
 fn outside() -> &'static [(&'static [u8], u64, DocWhy)] {
     &OUTSIDE
 }
@@ -60,7 +60,7 @@ static IN_A_BOX: [(&[u8], u64, DocWhy); 24] = [
     (b"hbox\nkern -9999999999", 2, DocWhy::Range),
 ];
 
-/// The rows of that table, of which a proof knows nothing.
+/// The rows of that table, for the tests.
 fn in_a_box() -> &'static [(&'static [u8], u64, DocWhy)] {
     &IN_A_BOX
 }

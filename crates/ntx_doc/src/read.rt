@@ -31,7 +31,7 @@ use std::alloc::Global;
 /// | `char C`, `space` | in a box | a character of the current font; its space glue |
 /// | `text` and one or more words | in a box | a character for each byte of each word, and space glue between words |
 ///
-/// A `text` line whose line before, without the skipped ones, is a `text` line too puts space glue before its first word.
+/// If the last line before a `text` line that was not skipped is a `text` line too, space glue comes before the first word.
 ///
 /// Lengths, the stretch and the shrink are within 2^30-1 in absolute value, orders from 0 to 3, K from 0 to 63, C from 0 to
 /// 255, P within 2^31-1 in absolute value, ID from 0 to 65535 and its value from -2147483646 to 2147483647. The range of a
@@ -62,14 +62,14 @@ pub fn read_doc(alloc: Global, bytes: &[u8], fonts: u64) -> Result<Vec<Command>,
     let mut draft = Draft::new(alloc);
     let mut number: u64 = 0;
     let mut rest = bytes;
-    while let Some((line, behind)) = next_line(rest) {
+    while let Some((line, others)) = next_line(rest) {
         number += 1;
         draft = match draft.after_line(alloc, fonts, line) {
             Ok(after) => after,
             Err(Fail::NoMemory) => return Err(Fail::NoMemory),
             Err(Fail::Is(why)) => return Err(Fail::Is(DocFault { line: number, why })),
         };
-        rest = behind;
+        rest = others;
     }
     let Draft { done, groups, .. } = draft;
     if groups.is_empty() {

@@ -103,7 +103,7 @@ static TEXT: [(&[u8], &[Seen]); 17] = [
     ),
 ];
 
-/// The rows of that table, of which a proof knows nothing.
+/// The rows of that table, for the tests.
 fn text() -> &'static [(&'static [u8], &'static [Seen])] {
     &TEXT
 }
@@ -126,7 +126,7 @@ static AROUND: [(&[u8], &[Seen]); 5] = [
     ),
 ];
 
-/// The rows of that table, of which a proof knows nothing.
+/// The rows of that table, for the tests.
 fn around() -> &'static [(&'static [u8], &'static [Seen])] {
     &AROUND
 }

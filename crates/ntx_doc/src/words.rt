@@ -59,9 +59,9 @@ impl Draft {
         let font = self.font;
         let mut draft = self;
         let mut rest = line;
-        while let Some((word, behind)) = next_field(rest) {
+        while let Some((word, others)) = next_field(rest) {
             draft = draft.put(Command::Space { font })?.with_word(word)?;
-            rest = behind;
+            rest = others;
         }
         Ok(draft)
     }
