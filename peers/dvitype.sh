@@ -1,6 +1,6 @@
 #!/usr/bin/env bash
-# Reads the DVI files of the examples and of 200 generated documents with dvitype, and compares where each mark stands with what
-# peers/places.py works out from the document.
+# Reads the DVI files of the examples, of the documents in the manual, and of 200 generated documents with dvitype, and compares where each mark
+# stands with what peers/places.py works out from the document.
 #
 #     peers/dvitype.sh [PROGRAM]       PROGRAM is crates/ntx/out/ntx if it is not given
 #
@@ -21,7 +21,8 @@ fi
 room=$(mktemp -d) || exit 1
 trap 'rm -rf "$room"' EXIT
 failed=0
-python3 peers/places.py "$program" crates/ntx/data/T.tfm 200 "$room" examples/box/box.txt examples/text/words.txt || failed=1
+python3 peers/places.py "$program" crates/ntx/data/T.tfm 200 "$room" \
+    examples/box/box.txt examples/text/words.txt docs/manual/document.md || failed=1
 
 roman=$(kpsewhich cmr10.tfm 2>/dev/null)
 if [ -f "$roman" ]; then

@@ -4,7 +4,8 @@
     peers/places.py PROGRAM FONT COUNT DIRECTORY DOCUMENT..
 
 Carries out the documents and COUNT generated ones with PROGRAM and the TFM file FONT at two sizes, reads each DVI file with dvitype, and
-compares the kind, h and v of each mark. The documents are those of one box. It ends with 1 if a file is refused or a mark stands elsewhere.
+compares the kind, h and v of each mark. A DOCUMENT that ends in .md holds documents between lines of three backquotes. It ends with 1 if a
+file is refused or a mark stands elsewhere.
 """
 
 import os
@@ -170,9 +171,10 @@ def nearest(x):
 
 
 def worked_out(text, fonts):
+    """The marks, or None if there is no box, so that there is no page."""
     top, topskip = tree(text, fonts)
     if top is None:
-        return []
+        return None
     box = Box(top[1], top[2], fonts)
     return list(box.marks(0, max(topskip - box.height, 0) + box.height))
 
@@ -258,9 +260,16 @@ def generated(number):
 
 # ---- the comparison
 
+def read(path):
+    text = open(path).read()
+    if not path.endswith(".md"):
+        return [(path, text)]
+    return [(f"{path}, example {i + 1}", part) for i, part in enumerate(re.findall(r"^```\n(.*?)^```", text, re.S | re.M))]
+
+
 def main(program, font, count, directory, *documents):
     fonts = [Font(font, None), Font(font, 450000)]
-    texts = [(path, open(path).read()) for path in documents]
+    texts = [text for path in documents for text in read(path)]
     texts += [(f"generated document {n}", generated(n)) for n in range(int(count))]
     paths = [os.path.join(directory, name) for name in ("document", "script", "patterns", "dvi")]
     for path in paths[1:3]:
@@ -274,9 +283,11 @@ def main(program, font, count, directory, *documents):
             print(f"peers/places.py: {name}: status {run.returncode}: {run.stdout}{run.stderr}")
             failed = True
             continue
+        wanted = worked_out(text, fonts)
+        if wanted is None:
+            continue  # dvitype does not read a file without pages
         listing = subprocess.run(["dvitype", "-output-level=4", paths[3]], capture_output=True, text=True, env=environment)
         there, complaints = found(listing.stdout + listing.stderr)
-        wanted = worked_out(text, fonts)
         marks += len(wanted)
         if listing.returncode != 0 or complaints:
             print(f"peers/places.py: {name}: dvitype complains: {complaints}")
