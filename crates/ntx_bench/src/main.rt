@@ -9,12 +9,14 @@
 //! | `tables` | a table is set at the keys 1 to N and read at each |
 //! | `texts` | N texts are made, and each is found again |
 //! | `hyphens-500`, `hyphens-5000` | N words are hyphenated by so many patterns |
+//! | `documents` | a document of N bytes is read |
 //!
 //! `ntx_bench hyphens-of N FILE` hyphenates N words by the patterns of a file.
 //!
 //! It ends with status 0, with 2 if the words are not of this form, with 1 if a library refuses its part, and with 11 if memory runs out.
 #![tactic(auto)]
 
+mod documents;
 mod fault;
 mod hyphens;
 mod scripts;
@@ -41,6 +43,7 @@ fn work(alloc: Global, workload: &str, n: u64) -> Result<(), Fault> {
         "texts" => store::make_and_find(alloc, n),
         "hyphens-500" => hyphens::hyphenate_by(alloc, 500, n),
         "hyphens-5000" => hyphens::hyphenate_by(alloc, 5000, n),
+        "documents" => documents::read(alloc, n),
         _ => Err(Fault::Words),
     }
 }

@@ -2,5 +2,10 @@ pub mod Position
 pub mod LinesLemmas
 pub mod FieldsLemmas
 pub mod DigitsLemmas
-pub mod ShapeLemmas
-pub mod SpellingLemmas
+pub mod TextLemmas
+pub mod Folds
+pub mod Answered
+pub mod KeptCommands
+pub mod Said
+pub mod KeptPlaces
+pub mod KeptDocuments

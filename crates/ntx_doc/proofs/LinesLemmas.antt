@@ -16,14 +16,14 @@ pub lines_last : (bytes : List ℕ) → 0 < length bytes → None ≡ position i
 lines_last bytes some missed =
     ap lines_of_parts (slice_split_none is_feed bytes (position_missed is_feed bytes (sym missed))) ∙ lone bytes some
 
-pub parts_behind : (part : List ℕ) (parts : List (List ℕ)) → 0 < length parts → lines_of_parts (part ∷ parts) ≡ strip_carriage_return part ∷ lines_of_parts parts
-parts_behind part [] more = absurd (omega arith)
-parts_behind part (next ∷ others) more = refl
+pub parts_after : (part : List ℕ) (parts : List (List ℕ)) → 0 < length parts → lines_of_parts (part ∷ parts) ≡ strip_carriage_return part ∷ lines_of_parts parts
+parts_after part [] more = absurd (omega arith)
+parts_after part (next ∷ others) more = refl
 
 cut_first : (bytes : List ℕ) → position_or_len is_feed bytes < length bytes → lines bytes ≡ strip_carriage_return (take (position_or_len is_feed bytes) bytes) ∷ lines (drop (position_or_len is_feed bytes + 1) bytes)
 cut_first bytes within =
     ap lines_of_parts (slice_split_first is_feed bytes 0 within)
-    ∙ parts_behind (take (position_or_len is_feed bytes) bytes) (slice_split is_feed (drop (position_or_len is_feed bytes + 1) bytes))
+    ∙ parts_after (take (position_or_len is_feed bytes) bytes) (slice_split is_feed (drop (position_or_len is_feed bytes + 1) bytes))
     (omega (arith, length-slice_split is_feed (drop (position_or_len is_feed bytes + 1) bytes)))
 
 -- The first line feed ends the first line.

@@ -14,8 +14,8 @@ abbrev pub is_plain : ℕ → Bool
 is_plain byte = (nat_le 32 byte && nat_le byte 126) || byte == 9
 
 -- a byte of a field
-abbrev pub is_filled : ℕ → Bool
-is_filled byte = not (is_blank byte)
+abbrev pub is_in_field : ℕ → Bool
+is_in_field byte = not (is_blank byte)
 
 -- a line feed
 abbrev pub is_feed : ℕ → Bool

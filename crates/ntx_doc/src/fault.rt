@@ -8,15 +8,21 @@ ghost use Rattle.ntx_doc.specs.Why.{why_text};
 pub enum DocWhy {
     /// A byte that a line may not hold: any other than 32 to 126 and the tab.
     Byte,
-    /// A first field that is no command, or a command that may not stand in this place; this includes a 501st rule.
+    /// A first field that is no command, or a command that may not stand in this place.
     Command,
-    /// A field after `hbox` or `end`, or not exactly three after `rule`.
+    /// A number of fields that the command does not have, or a word after `hbox` other than `to` and `spread`.
     Fields,
+    /// A name after `set` or `setglue` that no parameter of that sort has.
+    Name,
     /// A field that is not a number. A number is an optional `-` and 1 to 10 decimal digits.
     Number,
-    /// A number outside its range of 0 to 2^20 scaled points.
+    /// A number outside its field's range.
     Range,
-    /// The document ends and its box is not closed.
+    /// A font number that is not below the number of fonts, or `char`, `space` or `text` if there are no fonts.
+    Font,
+    /// A 21st open box.
+    Depth,
+    /// The document ends and a box is not closed.
     Open,
     /// More bytes than a document may have. No call of this crate gives it: the caller that reads the bytes does.
     Size,
@@ -31,8 +37,11 @@ impl DocWhy {
             DocWhy::Byte => "Byte",
             DocWhy::Command => "Command",
             DocWhy::Fields => "Fields",
+            DocWhy::Name => "Name",
             DocWhy::Number => "Number",
             DocWhy::Range => "Range",
+            DocWhy::Font => "Font",
+            DocWhy::Depth => "Depth",
             DocWhy::Open => "Open",
             DocWhy::Size => "Size",
         }

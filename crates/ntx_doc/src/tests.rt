@@ -1,129 +1,128 @@
-use super::*;
-use ntx_item::PackTo;
-use ntx_num::{Fail, Size};
+use crate::command::Command;
+use crate::fault::{DocFault, DocWhy};
+use crate::read::read_doc;
+use ntx_item::{GlueParam, GlueSpec, PackTo, Param};
+use ntx_num::Fail;
 use std::process::Abort;
-use std::test::Fail as TestFail;
 
 /// The fault of a document, or nothing if it is accepted.
-fn fault_of<R: Abort + AllocGlobal>(rt: &R, bytes: &[u8]) -> Option<DocFault> {
-    match read_doc(rt.alloc(), bytes, 0) {
+pub fn fault_of<R: Abort + AllocGlobal>(rt: &R, bytes: &[u8], fonts: u64) -> Option<DocFault> {
+    match read_doc(rt.alloc(), bytes, fonts) {
         Ok(_) => None,
         Err(Fail::Is(fault)) => Some(fault),
         Err(Fail::NoMemory) => panic!(rt; "memory ran out"),
     }
 }
 
-#[test]
-fn refuses_the_first_fault_of_the_first_line(rt: HostRuntime) {
-    let cases: [(&[u8], u64, DocWhy); 36] = [
-        (b"foo", 1, DocWhy::Command),
-        (b"\n\t\nHbox\n", 3, DocWhy::Command),
-        (b"hboxes", 1, DocWhy::Command),
-        (b"rule 1 2 3", 1, DocWhy::Command),
-        (b"% rules\nend", 2, DocWhy::Command),
-        (b"hbox\nhbox", 2, DocWhy::Command),
-        (b"hbox\nend\nhbox\nend", 3, DocWhy::Command),
-        (b"hbox\nend\nrule 1 1 1", 3, DocWhy::Command),
-        (b"hbox\nend\nend", 3, DocWhy::Command),
-        // Bytes that a line may not hold, also in a skipped line, and carriage returns that are not directly before a line feed.
-        (b"\n\x1f", 2, DocWhy::Byte),
-        (b"\n%\x7f", 2, DocWhy::Byte),
-        (b"hbox\r\nend\r", 2, DocWhy::Byte),
-        (b"hbox\r\r\nend", 1, DocWhy::Byte),
-        (b"\nhb\rox\n", 2, DocWhy::Byte),
-        (b"hbox to 5", 1, DocWhy::Fields),
-        (b"hbox %", 1, DocWhy::Fields),
-        (b"hbox\nend 1", 2, DocWhy::Fields),
-        (b"hbox\nrule 1 2", 2, DocWhy::Fields),
-        (b"hbox\nrule 1 2 3 4", 2, DocWhy::Fields),
-        (b"hbox\nrule 1 2 0x3", 2, DocWhy::Number),
-        (b"hbox\nrule - 2 3", 2, DocWhy::Number),
-        (b"hbox\nrule 1 +2 3", 2, DocWhy::Number),
-        (b"hbox\nrule 00000000001 2 3", 2, DocWhy::Number),
-        (b"hbox\nrule 1 2 1048577", 2, DocWhy::Range),
-        (b"hbox\nrule 9999999999 2 3", 2, DocWhy::Range),
-        (b"hbox\nrule 1 -1 3", 2, DocWhy::Range),
-        (b"hbox", 1, DocWhy::Open),
-        (b"hbox\n", 1, DocWhy::Open),
-        (b"hbox\nrule 1 1 1\n\n% end", 4, DocWhy::Open),
-        // Two faults in one line.
-        (b"hbox\nfoo\x01", 2, DocWhy::Byte),
-        (b"hbox\nhbox 1", 2, DocWhy::Command),
-        (b"hbox\nrule x", 2, DocWhy::Fields),
-        (b"hbox\nrule x 1048577 0", 2, DocWhy::Number),
-        (b"hbox\nrule 1048577 x 0", 2, DocWhy::Range),
-        // Two lines with a fault.
-        (b"hbox\nrule 1\nfoo\x01", 2, DocWhy::Fields),
-        (b"hbox\nfoo\nrule 1", 2, DocWhy::Command),
-    ];
-    for (bytes, line, why) in cases {
-        assert_eq!(rt;
-            fault_of(&rt, bytes),
-            Some(DocFault { line, why }),
-            "{bytes:?}"
-        );
+/// The commands of an accepted document.
+pub fn commands_of<R: Abort + AllocGlobal>(rt: &R, bytes: &[u8], fonts: u64) -> Vec<Command> {
+    match read_doc(rt.alloc(), bytes, fonts) {
+        Ok(commands) => commands,
+        Err(_) => panic!(rt; "refused: {bytes:?}"),
     }
 }
 
-#[test]
-fn accepts_what_stands_for_nothing_or_a_box(rt: HostRuntime) {
-    let documents: [&[u8]; 8] = [
-        b"",
-        b"\r\n \t\n%foo 1\n  % foo",
-        b"hbox\nend",
-        b"hbox\r\nend\r\n",
-        b"\t hbox\t\n%\n end \n\n",
-        b"hbox\nrule -0 -0000000000 1048576\nend",
-        b"hbox\nrule 0000000001 2 3\nend",
-        b"hbox\n%~ !\nend",
-    ];
-    for bytes in documents {
-        assert_eq!(rt; fault_of(&rt, bytes), None, "{bytes:?}");
+/// What a command says.
+#[derive(Clone, Copy, Debug, PartialEq, Eq)]
+pub enum Seen {
+    Set(Param, i64),
+    /// The numbers in the order of the fields of `setglue`.
+    SetGlue(GlueParam, i64, i64, u8, i64, u8),
+    Attr(i64, i64),
+    NoAttr(i64),
+    /// A box of this width, with this number of commands in it.
+    To(i64, usize),
+    /// A box that is this much wider than it is by nature, with this number of commands in it.
+    Spread(i64, usize),
+    /// The numbers in the order of the fields of `glue`.
+    Glue(i64, i64, u8, i64, u8),
+    Kern(i64),
+    Penalty(i64),
+    /// Width, height and depth.
+    Rule(i64, i64, i64),
+    Glyph(u8, u8),
+    Space(u8),
+}
+
+/// What the command for glue says.
+fn glue(spec: &GlueSpec) -> Seen {
+    Seen::Glue(
+        spec.width,
+        spec.stretch,
+        spec.stretch_order,
+        spec.shrink,
+        spec.shrink_order,
+    )
+}
+
+/// What the command that sets a parameter to glue says.
+fn set_glue(param: GlueParam, spec: &GlueSpec) -> Seen {
+    Seen::SetGlue(
+        param,
+        spec.width,
+        spec.stretch,
+        spec.stretch_order,
+        spec.shrink,
+        spec.shrink_order,
+    )
+}
+
+/// What a command says.
+fn said_by(command: &Command) -> Seen {
+    match command {
+        Command::Set(param, value) => Seen::Set(*param, *value),
+        Command::SetGlue(param, spec) => set_glue(*param, spec),
+        Command::Attr(id, value) => Seen::Attr(*id, *value),
+        Command::NoAttr(id) => Seen::NoAttr(*id),
+        Command::HBox { to, body } => match to {
+            PackTo::Exactly(width) => Seen::To(*width, body.len()),
+            PackTo::Additional(width) => Seen::Spread(*width, body.len()),
+        },
+        Command::Glue(spec) => glue(spec),
+        Command::Kern(width) => Seen::Kern(*width),
+        Command::Penalty(penalty) => Seen::Penalty(*penalty),
+        Command::Rule(size) => Seen::Rule(size.w, size.h, size.d),
+        Command::Glyph { font, code } => Seen::Glyph(*font, *code),
+        Command::Space { font } => Seen::Space(*font),
     }
 }
 
-#[test]
-fn box_has_at_most_500_rules(rt: HostRuntime) -> Result<(), TestFail> {
-    let mut document = b"hbox\n".to_vec(rt.alloc())?;
-    for _ in 0..500 {
-        document.extend_from_slice(b"rule 1 2 3\n")?;
+/// Looks whether commands say this.
+fn expect_commands<R: Abort>(rt: &R, found: &[Command], wanted: &[Seen], bytes: &[u8]) {
+    assert_eq!(rt; found.len(), wanted.len(), "{bytes:?}");
+    for (command, want) in found.iter().zip(wanted.iter()) {
+        assert_eq!(rt; said_by(command), *want, "{bytes:?}");
     }
-    let mut longer = document.clone()?;
-    document.extend_from_slice(b"end")?;
-    longer.extend_from_slice(b"rule 1 2 3\nend")?;
-    assert_eq!(rt; fault_of(&rt, &document), None);
-    assert_eq!(rt;
-        fault_of(&rt, &longer),
-        Some(DocFault {
-            line: 502,
-            why: DocWhy::Command
-        })
-    );
-    Ok(())
 }
 
-#[test]
-fn reads_rules_of_a_box(rt: HostRuntime) {
-    let document = b"% two rules\nhbox\n\trule 1 2  3\r\nrule 1048576\t0 -0\nend";
-    let Ok(commands) = read_doc(rt.alloc(), document, 2) else {
-        panic!(rt; "refused");
-    };
-    let [Command::HBox { to, body }] = commands.as_slice() else {
-        panic!(rt; "not one box");
-    };
-    assert_eq!(rt; *to, PackTo::Additional(0));
-    let [Command::Rule(first), Command::Rule(second)] = body.as_slice() else {
-        panic!(rt; "not two rules");
-    };
-    assert_eq!(rt; *first, Size { w: 1, h: 2, d: 3 });
-    assert_eq!(rt;
-        *second,
-        Size {
-            w: 1048576,
-            h: 0,
-            d: 0
-        }
-    );
+/// Looks whether documents give these commands outside of boxes, if there are two fonts.
+pub fn expect_outside<R: Abort + AllocGlobal>(rt: &R, rows: &[(&[u8], &[Seen])]) {
+    for (bytes, wanted) in rows.iter() {
+        let commands = commands_of(rt, bytes, 2);
+        expect_commands(rt, commands.as_slice(), wanted, bytes);
+    }
+}
+
+/// Looks whether documents give one box with these commands, if there are two fonts.
+pub fn expect_inside<R: Abort + AllocGlobal>(rt: &R, rows: &[(&[u8], &[Seen])]) {
+    for (bytes, wanted) in rows.iter() {
+        let commands = commands_of(rt, bytes, 2);
+        let [Command::HBox { body, .. }] = commands.as_slice() else {
+            panic!(rt; "not one box: {bytes:?}");
+        };
+        expect_commands(rt, body.as_slice(), wanted, bytes);
+    }
+}
+
+/// Looks whether documents are refused at this line for this reason, if there are `fonts` fonts.
+pub fn expect_faults<R: Abort + AllocGlobal>(rt: &R, rows: &[(&[u8], u64, DocWhy)], fonts: u64) {
+    for (bytes, line, why) in rows.iter() {
+        let fault = DocFault {
+            line: *line,
+            why: *why,
+        };
+        assert_eq!(rt; fault_of(rt, bytes, fonts), Some(fault), "{bytes:?}");
+    }
 }
 
 #[test]
@@ -132,8 +131,11 @@ fn names_each_reason(rt: HostRuntime) {
         (DocWhy::Byte, "Byte"),
         (DocWhy::Command, "Command"),
         (DocWhy::Fields, "Fields"),
+        (DocWhy::Name, "Name"),
         (DocWhy::Number, "Number"),
         (DocWhy::Range, "Range"),
+        (DocWhy::Font, "Font"),
+        (DocWhy::Depth, "Depth"),
         (DocWhy::Open, "Open"),
         (DocWhy::Size, "Size"),
     ];

@@ -51,7 +51,7 @@ fn first_feed(bytes: &[u8]) -> Option<usize>
 
 /// The place of the first byte that is not a blank.
 fn first_filled(line: &[u8]) -> Option<usize>
-    ensures { result ≡ position text.is_filled line.now }
+    ensures { result ≡ position text.is_in_field line.now }
 {
     line.iter().position(|byte| !is_blank(*byte))
 }

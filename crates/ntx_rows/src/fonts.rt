@@ -23,7 +23,7 @@ fn char_word(code: u8) -> [u8; 4] {
 }
 
 /// The file of a small font with these lengths: the characters `-`, `0`, `1`, `2` and `a` to `z`, of which `0`, `a` and `f` have programs.
-fn font_of(alloc: Global, words: u16, operation: u8) -> Result<Vec<u8>, AllocError> {
+pub fn font_of(alloc: Global, words: u16, operation: u8) -> Result<Vec<u8>, AllocError> {
     let mut file = Vec::new(alloc);
     for n in [words, 2, 45, 122, 2, 2, 1, 1, 4, 1, 0, 4] {
         file.extend_from_slice(&n.to_be_bytes())?;

@@ -1,7 +1,8 @@
 //! A job in memory.
 
 use ntx_io::{Feed, MemFeed, MemSink, MemSource};
-use ntx_run::{Outcome, run};
+use ntx_nodes::{Nodes, PlainHeap};
+use ntx_run::{Outcome, run, run_over};
 use std::alloc::Global;
 use std::test::Fail;
 
@@ -113,6 +114,33 @@ pub fn texts(alloc: Global, words: &[&str]) -> Result<Vec<String>, Fail> {
 }
 
 impl Job<'_> {
+    /// Runs the job with ample memory over nodes of its own, and says how many of them are left, if they were given back.
+    pub fn run_over(&self, alloc: Global) -> Result<(Given, Option<u64>), Fail> {
+        let mut fonts: Vec<Box<dyn Feed>> = Vec::new(alloc);
+        for font in self.fonts {
+            fonts.push(feed(alloc, font)?)?;
+        }
+        let mut dvi = MemSink::new(alloc, 8192, calls(alloc, self.fails.dvi)?)?;
+        let mut lines = MemSink::new(alloc, 4096, calls(alloc, self.fails.lines)?)?;
+        let (status, place, nodes) = run_over(
+            alloc,
+            PlainHeap::new(alloc, 1)?,
+            texts(alloc, self.words)?.as_slice(),
+            &mut source(alloc, self.doc, self.fails.doc)?,
+            &mut source(alloc, self.script, self.fails.script)?,
+            &mut source(alloc, self.patterns, self.fails.patterns)?,
+            &mut fonts,
+            &mut dvi,
+            &mut lines,
+        );
+        let given = Given {
+            outcome: Outcome { status, place },
+            dvi: dvi.taken().to_vec(alloc)?,
+            lines: lines.taken().to_vec(alloc)?,
+        };
+        Ok((given, nodes.map(|nodes| nodes.live())))
+    }
+
     /// Runs the job with ample memory.
     pub fn run(&self, alloc: Global) -> Result<Given, Fail> {
         let mut fonts: Vec<Box<dyn Feed>> = Vec::new(alloc);

@@ -11,6 +11,8 @@ mod fonts;
 #[cfg(test)]
 mod job;
 #[cfg(test)]
+mod nodes;
+#[cfg(test)]
 mod packing;
 #[cfg(test)]
 mod runs;

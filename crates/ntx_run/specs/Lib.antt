@@ -1,10 +1,10 @@
 -- why a run stops: status, place and fault line
 pub mod StopReason
--- the page of a box of rules, and the operations that draw it
-pub mod Page
 -- a whole run as a function of words and bytes
 pub mod Run
--- what a run does to sources and sinks: the promise of `run`
+-- the outside of a run, and what is read and written
 pub mod Outside
+-- the promise of `run_over` and `run`
+pub mod Promise
 -- what private calls say among themselves; no public promise cites it
 pub mod inner

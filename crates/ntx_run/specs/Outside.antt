@@ -1,22 +1,17 @@
 -- The outside of a run at one moment, and what a run does to it. Most facts go by two lists: the counts of faults of all sources and sinks, and
 -- the inputs in the order in which they are read.
-use Rattle.std.specs.Prelude.{◌≡◌, ◌≢◌, false, ◌⊎◌, ℕ, ◌+◌, Bool, is_ok, IsOk, IsTrue, ℤ, List, [], ◌∷◌, ◌++◌, map, length, Option, Some, None, Ok}
+use Rattle.std.specs.Prelude.{◌≡◌, ◌⊎◌, ℕ, ◌+◌, Bool, is_ok, IsOk, IsTrue, ℤ, List, [], ◌∷◌, ◌++◌, map, length, Option, Some}
 use Rattle.std.specs.List.{AllByRecursion}
-use Rattle.ntx_io.specs.Outside.{Input, NamedInput, Output, Rose, Adds, AddsPrefix, AddsProperPrefix}
+use Rattle.ntx_io.specs.Outside.{Input, NamedInput, Output, Rose, Adds, AddsPrefix}
+use Rattle.ntx_dvi.specs.Operation.{Operation, Begin, End}
 use Rattle.ntx_dvi.specs.Progress.{start}
 use Rattle.ntx_dvi.specs.File.{file_bytes}
-use Rattle.ntx_doc.specs.declared.command.Command.{Command}
 use Rattle.ntx_run.specs.declared.stop.StopReason.{StopReason}
 use Rattle.ntx_run.specs.declared.stop.StopReason.TheVariants as stop
-use Rattle.ntx_run.specs.declared.outcome.Status.{Status}
-use Rattle.ntx_run.specs.declared.outcome.Status.TheVariants as status
-use Rattle.ntx_run.specs.declared.outcome.Place.{Place}
-use Rattle.ntx_run.specs.declared.outcome.Place.TheVariants as place
 use Rattle.ntx_run.specs.declared.outcome.Which.{Which}
 use Rattle.ntx_run.specs.declared.outcome.Which.TheVariants as which
-use Rattle.ntx_run.specs.Page.{document_operations}
-use Rattle.ntx_run.specs.StopReason.{IsBeforeDvi, status_of, place_of, line_of}
-use Rattle.ntx_run.specs.Run.{InputBytes, Ending, lines_of, fits_form, font_sizes, Job, read_document, read_script, read_patterns, read_font, read_inputs, run_of}
+use Rattle.ntx_run.specs.StopReason.{line_of}
+use Rattle.ntx_run.specs.Run.{InputBytes, Ending, lines_of, fits_form, font_sizes, read_document, read_script, read_patterns, read_font, read_inputs}
 
 pub record Inputs : Type 0 where
   pub document : Input
@@ -132,14 +127,13 @@ pub record IsReadFault (words : List (List ℕ)) (input : Which) (before after :
 
 -- ---- writing
 
--- The bytes are a whole DVI file: the one of some commands.
+-- The bytes are a whole DVI file: a preamble, some operations, and a postamble.
 abbrev pub IsFile : List ℕ → Type 0
-IsFile bytes = (commands : List Command) × (bytes ≡ file_bytes start (document_operations commands))
+IsFile bytes = (operations : List Operation) × (bytes ≡ file_bytes start (Begin ∷ operations ++ End ∷ []))
 
--- The DVI file of the job that these words and inputs ask for.
-abbrev pub IsFileOf : List (List ℕ) → InputBytes → List ℕ → Type 0
-IsFileOf words inputs bytes =
-    (job : Job) × (read_inputs (font_sizes words) inputs ≡ Ok job) × (bytes ≡ file_bytes start (document_operations job.commands))
+-- Words and inputs that are accepted.
+abbrev pub AreAccepted : List (List ℕ) → InputBytes → Type 0
+AreAccepted words inputs = IsOk (read_inputs (font_sizes words) inputs)
 
 -- Printed by a run before its fault line, which is nothing.
 abbrev pub IsPrinted : List ℕ → Type 0
@@ -164,6 +158,7 @@ PrintsWhy (stop.Document fault) before after = PrintsAlone (line_of (stop.Docume
 PrintsWhy (stop.Script fault) before after = PrintsAlone (line_of (stop.Script fault)) before after
 PrintsWhy (stop.Patterns fault) before after = PrintsAlone (line_of (stop.Patterns fault)) before after
 PrintsWhy (stop.Font k fault) before after = PrintsAlone (line_of (stop.Font k fault)) before after
+PrintsWhy (stop.Engine why phase) before after = Prints (line_of (stop.Engine why phase)) before after
 PrintsWhy (stop.Read input) before after = PrintsAlone (line_of (stop.Read input)) before after
 PrintsWhy stop.Write before after = Unit {0}
 PrintsWhy stop.Memory before after = Unit {0}
@@ -173,95 +168,3 @@ PrintsWhy stop.DviFull before after = Prints (line_of stop.DviFull) before after
 pub record AddsPrefixes (ending : Ending) (before after : Outside) : Type 0 where
   pub dvi : AddsPrefix before.dvi.taken after.dvi.taken ending.dvi
   pub lines : AddsPrefix before.lines.taken after.lines.taken (lines_of ending)
-
--- ---- how a run ends
-
--- The run ended as defined: with this status and place, and, if the sinks expose what they took, with these bytes and lines.
-pub record EndsAs (ending : Ending) (before after : Outside) (ended : Status) (at : Option Place) : Type 0 where
-  pub status_is : ended ≡ ending.status
-  pub place_is : at ≡ ending.place
-  pub dvi : Adds before.dvi.taken after.dvi.taken ending.dvi
-  pub lines : Adds before.lines.taken after.lines.taken (lines_of ending)
-
--- All was read, and the whole DVI file of the document was written, to its last byte, a filler. There is no fault line.
-pub record IsWhole (words : List (List ℕ)) (bytes : InputBytes) (ending : Ending) (before after : Outside) (ended : Status) (at : Option Place) : Type 0 where
-  pub at_end : AreAtEnd after.inputs
-  pub ends_as : EndsAs ending before after ended at
-  pub file : IsFileOf words bytes ending.dvi
-  pub prefix : List ℕ
-  pub last : ending.dvi ≡ prefix ++ 223 ∷ []
-  pub silent : ending.fault_line ≡ []
-
--- The run ended well: a whole DVI file was written, and no fault line.
-pub record EndsWell (before after : Outside) (ended : Status) (at : Option Place) : Type 0 where
-  pub status_is : ended ≡ status.Done
-  pub place_is : at ≡ None
-  pub file : List ℕ
-  pub is_file : IsFile file
-  pub dvi : Adds before.dvi.taken after.dvi.taken file
-  pub lines : Prints [] before.lines after.lines
-
--- The run stopped for this reason, with its status, its place and its line.
-pub record StopsFor (why : StopReason) (before after : Outside) (ended : Status) (at : Option Place) : Type 0 where
-  pub status_is : ended ≡ status_of why
-  pub place_is : at ≡ place_of why
-  pub line : PrintsWhy why before.lines after.lines
-
--- The DVI file could not be written whole, though the inputs are accepted: its sink failed, and took a proper prefix. No fault line is begun.
-pub record IsFileCut (words : List (List ℕ)) (before after : Outside) : Type 0 where
-  pub rose : Rose before.dvi.faults after.dvi.faults
-  pub cut : (bytes : InputBytes) → Exposes before.inputs bytes → AddsProperPrefix before.dvi.taken after.dvi.taken (run_of words bytes).dvi
-  pub lines : Prints [] before.lines after.lines
-  pub accepted : (bytes : InputBytes) → Exposes before.inputs bytes → IsOk (read_inputs (font_sizes words) bytes)
-
--- The line of this reason could not be written whole: the sink of the lines failed, and took a proper prefix of what was to be printed. The
--- line is that of a source that failed, or the one that is defined.
-pub record IsLineCut (words : List (List ℕ)) (why : StopReason) (before after : Outside) : Type 0 where
-  pub has_line : line_of why ≢ []
-  pub printed : List ℕ
-  pub is_printed : IsPrinted printed
-  pub cut : AddsProperPrefix before.lines.taken after.lines.taken (printed ++ line_of why)
-  pub rose : Rose before.lines.faults after.lines.faults
-  pub kept : after.dvi.faults ≡ before.dvi.faults
-  pub before_dvi : IsBeforeDvi (status_of why) → after.dvi ≡ before.dvi
-  pub cause : ((input : Which) × (why ≡ stop.Read input) × IsReadFault words input before after) ⊎ ((bytes : InputBytes) → Exposes before.inputs bytes → (run_of words bytes).fault_line ≡ line_of why)
-
--- One sink failed: the DVI file's, or that of the lines.
-abbrev pub IsWriteFault : List (List ℕ) → Outside → Outside → Type 0
-IsWriteFault words before after = IsFileCut words before after ⊎ ((why : StopReason) × IsLineCut words why before after)
-
--- What stands if a run could not be ended: no source failed, and the sinks took prefixes of what is defined; or a source failed, the DVI file got
--- nothing, and of the line that names the source a prefix was printed.
-abbrev pub BreaksOff : List (List ℕ) → Outside → Outside → Type 0
-BreaksOff words before after =
-    ((input_counts after.inputs ≡ input_counts before.inputs) × ((bytes : InputBytes) → Exposes before.inputs bytes → AddsPrefixes (run_of words bytes) before after))
-    ⊎ ((input : Which) × IsReadFault words input before after × AddsPrefix before.lines.taken after.lines.taken (line_of (stop.Read input)))
-
--- ---- the promise
-
--- What a run does, and how it ends.
-pub record Runs (words : List (List ℕ)) (before after : Outside) (ended : Status) (at : Option Place) : Type 0 where
-  -- If the sources and feeds expose their bytes and no count of faults rose, the run ends as defined, unless memory ran out.
-  pub ends : (bytes : InputBytes) → Exposes before.inputs bytes → NoneRose (counts before) (counts after) → ended ≢ status.Memory → EndsAs (run_of words bytes) before after ended at
-  -- If it ended well and the sources expose their bytes, all was read and all was written.
-  pub whole : (bytes : InputBytes) → Exposes before.inputs bytes → ended ≡ status.Done → IsWhole words bytes (run_of words bytes) before after ended at
-  -- It ended well, or it stopped for some reason and said so.
-  pub reason : EndsWell before after ended at ⊎ ((why : StopReason) × StopsFor why before after ended at)
-  -- Words that are not of the form, or feeds whose number or names do not fit them, are refused, and no others. Nothing is read then or given to the DVI file, also
-  -- if the line that says so could not be written.
-  pub words_refused : ended ≡ status.Words → fits_form words (names_of before.inputs) ≡ false
-  pub words_first : fits_form words (names_of before.inputs) ≡ false → ((ended ≡ status.Words) ⊎ ((ended ≡ status.WriteFault) ⊎ (ended ≡ status.Memory))) × (after.inputs ≡ before.inputs) × (after.dvi ≡ before.dvi)
-  -- No source or feed is read after refused words, or after one that was refused or failed.
-  pub in_order : AreReadInOrder words before.inputs after.inputs
-  -- A run that stopped at its words or inputs gave nothing to the DVI file.
-  pub before_dvi : IsBeforeDvi ended → after.dvi ≡ before.dvi
-  -- No fault of the outside is passed over.
-  pub kept : ended ≢ status.ReadFault → ended ≢ status.WriteFault → ended ≢ status.Memory → counts after ≡ counts before
-  -- A read fault names the source that failed.
-  pub read_fault : ended ≡ status.ReadFault → (input : Which) × (at ≡ Some (place.Input input)) × IsReadFault words input before after
-  -- At a write fault one sink failed, and did not take all that is defined.
-  pub write_fault : ended ≡ status.WriteFault → IsWriteFault words before after
-  -- If memory ran out no sink failed.
-  pub memory : ended ≡ status.Memory → (after.dvi.faults ≡ before.dvi.faults) × (after.lines.faults ≡ before.lines.faults)
-  -- At a write fault, and if memory ran out, no more than what is defined was written.
-  pub prefixes : (ended ≡ status.WriteFault) ⊎ (ended ≡ status.Memory) → BreaksOff words before after

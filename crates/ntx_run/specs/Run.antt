@@ -1,6 +1,6 @@
--- A whole run as a function of the words of the command line, the names of the fonts' feeds and the bytes of the inputs: its status, its place,
--- the bytes of its DVI file and the lines that it prints.
-use Rattle.std.specs.Prelude.{ℕ, ◌^◌, ◌==◌, ◌+◌, ◌-◌, nat_lt, nat_le, ◌&&◌, Bool, false, if◌then◌else◌, ℤ, List, [], ◌∷◌, ◌++◌, map, length, Option, None, Result, Ok, Err}
+-- A whole run as a function of the words of the command line, the names of the fonts' feeds, the bytes of the inputs and the nodes that it opens with: its
+-- status, its place, the bytes of its DVI file, the lines that it prints and the nodes that it leaves.
+use Rattle.std.specs.Prelude.{ℕ, ◌^◌, ◌==◌, ◌+◌, nat_lt, nat_le, ◌&&◌, Bool, false, if◌then◌else◌, ℤ, List, [], ◌∷◌, ◌++◌, map, length, Option, None, Some, Result, Ok, Err}
 use Rattle.std.specs.List.{list_all}
 use Rattle.ntx_num.specs.Answer.{result_and_then, result_map}
 use Rattle.ntx_words.specs.declared.words.BadWords.{BadWords}
@@ -13,15 +13,15 @@ use Rattle.ntx_tfm.specs.Font.{FontTables, font_of}
 use Rattle.ntx_tfm.specs.declared.fault.FontFault.{FontFault}
 use Rattle.ntx_tfm.specs.declared.fault.FontFault.TheVariants as font_fault
 use Rattle.ntx_syntax.specs.declared.fault.SyntaxWhy.TheVariants as syntax_why
-use Rattle.ntx_dvi.specs.Writer.{Writer, new_writer}
-use Rattle.ntx_dvi.specs.Written.{written}
+use Rattle.ntx_nodes.specs.Heap.{Heap}
+use Rattle.ntx_machine.specs.declared.stop.Stop.{Stop}
+use Rattle.ntx_machine.specs.Job as machine
 use Rattle.ntx_run.specs.declared.stop.StopReason.{StopReason}
 use Rattle.ntx_run.specs.declared.stop.StopReason.TheVariants as stop
 use Rattle.ntx_run.specs.declared.outcome.Status.{Status}
 use Rattle.ntx_run.specs.declared.outcome.Status.TheVariants as status
 use Rattle.ntx_run.specs.declared.outcome.Place.{Place}
-use Rattle.ntx_run.specs.Page.{document_operations}
-use Rattle.ntx_run.specs.StopReason.{status_of, place_of, line_of}
+use Rattle.ntx_run.specs.StopReason.{of_machine, status_of, place_of, line_of}
 
 -- the name and the bytes of a font
 pub record FontBytes : Type 0 where
@@ -35,13 +35,22 @@ pub record InputBytes : Type 0 where
   pub patterns : List ℕ
   pub fonts : List FontBytes
 
--- how a run ends, and what it has given by then: the bytes of the DVI file, what was printed, and the line that says why it stopped
+-- what a run has given after a step: all bytes of the DVI file and all that was printed so far, and the nodes
+pub record Moment : Type 0 where
+  pub dvi : List ℕ
+  pub printed : List ℕ
+  pub heap : Heap
+
+-- how a run ends, and what it has given by then: the bytes of the DVI file, what was printed, the line that says why it stopped, what stood after each
+-- step of its machine, and the last nodes, if a machine was made
 pub record Ending : Type 0 where
   pub status : Status
   pub place : Option Place
   pub dvi : List ℕ
   pub printed : List ℕ
   pub fault_line : List ℕ
+  pub moments : List Moment
+  pub heap : Option Heap
 
 -- all that is printed
 abbrev pub lines_of : Ending → List ℕ
@@ -136,38 +145,51 @@ read_inputs sizes bytes =
     result_and_then (read_patterns bytes.patterns) (λ _.
     result_map (job_of commands) (read_fonts 1 sizes bytes.fonts))))
 
--- ---- the file
-
--- the most bytes of a DVI file
-abbrev pub max_dvi : ℕ
-max_dvi = 2 ^ 31 - 1
-
--- The writer that has written the DVI file of these commands, or, as an `Err`, what there was room for.
-abbrev pub file_of : List Command → Result Writer Writer
-file_of commands = written (new_writer max_dvi) (document_operations commands)
-
--- the bytes that were written, to the end or not
-abbrev pub dvi_of : Result Writer Writer → List ℕ
-dvi_of (Ok w) = w.waiting
-dvi_of (Err w) = w.waiting
-
 -- ---- runs
 
-abbrev pub stopped : StopReason → List ℕ → Ending
-stopped why dvi = record { status = status_of why; place = place_of why; dvi = dvi; printed = []; fault_line = line_of why }
+abbrev pub status_for : Option StopReason → Status
+status_for None = status.Done
+status_for (Some why) = status_of why
 
-abbrev pub ended_well : List ℕ → Ending
-ended_well dvi = record { status = status.Done; place = None; dvi = dvi; printed = []; fault_line = [] }
+abbrev pub place_for : Option StopReason → Option Place
+place_for None = None
+place_for (Some why) = place_of why
 
-abbrev pub file_ending : Result Writer Writer → Ending
-file_ending (Ok w) = ended_well w.waiting
-file_ending (Err w) = stopped stop.DviFull w.waiting
+abbrev pub line_for : Option StopReason → List ℕ
+line_for None = []
+line_for (Some why) = line_of why
 
-abbrev pub ending_of : Result Job StopReason → Ending
-ending_of (Ok job) = file_ending (file_of job.commands)
-ending_of (Err why) = stopped why []
+-- a run that stops for this reason, if there is one, after these bytes and moments and with these nodes
+abbrev pub ending_for : Option StopReason → List ℕ → List Moment → Option Heap → Ending
+ending_for why dvi moments heap =
+    record { status = status_for why; place = place_for why; dvi = dvi; printed = []; fault_line = line_for why; moments = moments; heap = heap }
+
+-- a run that stops before a machine is made
+abbrev pub stopped : StopReason → Ending
+stopped why = ending_for (Some why) [] [] None
+
+-- the reason to stop, if the machine did
+abbrev pub reason_of : Result (Unit {0}) Stop → Option StopReason
+reason_of (Ok _) = None
+reason_of (Err why) = Some (of_machine why)
+
+-- What the machine gives, moment by moment. The line that says why the run stopped is printed after the last step.
+abbrev pub moments_of : List ℕ → List machine.Moment → List Moment
+moments_of line [] = []
+moments_of line (m ∷ []) = record { dvi = m.dvi; printed = line; heap = m.heap } ∷ []
+moments_of line (m ∷ rest) = record { dvi = m.dvi; printed = []; heap = m.heap } ∷ moments_of line rest
+
+-- a run whose machine, over these nodes, came to this
+abbrev pub machine_ending : Heap → machine.Ran → Ending
+machine_ending opening r =
+    let why = reason_of r.ending in
+    ending_for why (machine.bytes_of r.after) (moments_of (line_for why) (machine.moments_of r.after)) (Some (machine.last_heap opening r.after))
+
+abbrev pub ending_of : Heap → Result Job StopReason → Ending
+ending_of opening (Ok job) = machine_ending opening (machine.job_ran job.fonts job.commands opening)
+ending_of opening (Err why) = stopped why
 
 -- The words and the feeds' names are refused before anything is read.
-abbrev pub run_of : List (List ℕ) → InputBytes → Ending
-run_of words bytes =
-    if fits_form words (map (λ font. font.name) bytes.fonts) then ending_of (read_inputs (font_sizes words) bytes) else stopped stop.Words []
+abbrev pub run_of : List (List ℕ) → InputBytes → Heap → Ending
+run_of words bytes opening =
+    if fits_form words (map (λ font. font.name) bytes.fonts) then ending_of opening (read_inputs (font_sizes words) bytes) else stopped stop.Words

@@ -3,6 +3,9 @@ use Rattle.std.specs.Prelude.{ℕ, List, [], ◌∷◌, ◌++◌, Option, Some, 
 use Rattle.ntx_doc.specs.Why as document
 use Rattle.ntx_syntax.specs.Why as script
 use Rattle.ntx_tfm.specs.FaultNames as font
+use Rattle.ntx_machine.specs.Names as machine
+use Rattle.ntx_machine.specs.declared.stop.Stop.{Stop}
+use Rattle.ntx_machine.specs.declared.stop.Stop.TheVariants as machine_stop
 use Rattle.ntx_run.specs.declared.stop.StopReason.{StopReason}
 use Rattle.ntx_run.specs.declared.stop.StopReason.TheVariants as stop
 use Rattle.ntx_run.specs.declared.outcome.Outcome.{Outcome}
@@ -19,10 +22,17 @@ outcome_of (stop.Document fault) = record { status = status.Document; place = So
 outcome_of (stop.Script fault) = record { status = status.Script; place = Some (place.Syntax fault) }
 outcome_of (stop.Patterns fault) = record { status = status.Patterns; place = Some (place.Pattern fault) }
 outcome_of (stop.Font k fault) = record { status = status.Font; place = Some (place.FontAt k fault) }
+outcome_of (stop.Engine why phase) = record { status = status.EngineFault; place = Some (place.Engine why phase) }
 outcome_of (stop.Read input) = record { status = status.ReadFault; place = Some (place.Input input) }
 outcome_of stop.Write = record { status = status.WriteFault; place = None }
 outcome_of stop.Memory = record { status = status.Memory; place = None }
 outcome_of stop.DviFull = record { status = status.DviFull; place = None }
+
+-- A run stops where its machine does.
+abbrev pub of_machine : Stop → StopReason
+of_machine machine_stop.Memory = stop.Memory
+of_machine (machine_stop.Engine why phase) = stop.Engine why phase
+of_machine machine_stop.DviFull = stop.DviFull
 
 abbrev pub status_of : StopReason → Status
 status_of why = (outcome_of why).status
@@ -30,7 +40,7 @@ status_of why = (outcome_of why).status
 abbrev pub place_of : StopReason → Option Place
 place_of why = (outcome_of why).place
 
--- The statuses of runs that stop before the DVI file's first byte.
+-- The statuses of runs that stop before a machine is made, so before the DVI file's first byte.
 abbrev pub IsBeforeDvi : Status → Type 0
 IsBeforeDvi status.Words = Unit {0}
 IsBeforeDvi status.Document = Unit {0}
@@ -39,6 +49,7 @@ IsBeforeDvi status.Patterns = Unit {0}
 IsBeforeDvi status.Font = Unit {0}
 IsBeforeDvi status.ReadFault = Unit {0}
 IsBeforeDvi status.Done = ⊥
+IsBeforeDvi status.EngineFault = ⊥
 IsBeforeDvi status.WriteFault = ⊥
 IsBeforeDvi status.Memory = ⊥
 IsBeforeDvi status.DviFull = ⊥
@@ -60,6 +71,7 @@ line_of (stop.Document fault) = line (codes "! Document line " ++ decimal fault.
 line_of (stop.Script fault) = line (codes "! Script line " ++ decimal fault.line ++ codes " " ++ script.why_text fault.why)
 line_of (stop.Patterns fault) = line (codes "! Patterns line " ++ decimal fault.line)
 line_of (stop.Font k fault) = line (codes "! Font " ++ decimal k ++ codes " " ++ font.name_of fault)
+line_of (stop.Engine why phase) = line (codes "! EngineFault " ++ machine.trouble_text why ++ codes " in " ++ machine.phase_text phase)
 line_of (stop.Read input) = line (codes "! ReadFault " ++ which_text input)
 line_of stop.Write = []
 line_of stop.Memory = []

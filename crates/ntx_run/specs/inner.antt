@@ -1,6 +1,4 @@
 -- What private calls say among themselves. No contract of a public call cites these definitions.
--- bounds on rules and marks
-pub mod Bounds
 -- words, and the feeds beside them
 pub mod Words
 -- the parts of a run

@@ -1,8 +1,9 @@
 //! Reading the inputs.
 
-ghost use Rattle.std.specs.Prelude.{◌≡◌, ◌≤◌, IfOk, [], Some, Option, List, ℕ, map, length};
+ghost use Rattle.std.specs.Prelude.{◌≡◌, ◌≤◌, true, IfOk, [], Some, Option, List, ℕ, map, length};
 ghost use Rattle.ntx_num.specs.Answer.{result_map};
-ghost use Rattle.ntx_doc.specs.Shape.{IsBoxOfRules};
+ghost use Rattle.std.specs.List.{list_all};
+ghost use Rattle.ntx_doc.specs.Shape.{has_numbers_in_range};
 ghost use Rattle.ntx_run.specs.Run.{job_of, read_document, read_empty};
 ghost use Rattle.ntx_run.specs.inner.Words.{CanBeRead};
 ghost use Rattle.ntx_run.specs.inner.Parts.{IsRefusalOf, ReadsInput, ReadsInputs};
@@ -26,7 +27,7 @@ const MAX_DOCUMENT: u64 = 1 << 24;
 pub struct Job {
     /// The commands of the document.
     pub commands: Vec<Command>,
-    /// The fonts. No command names one yet.
+    /// The fonts. A command names one by its place.
     pub fonts: Vec<Font>,
 }
 
@@ -37,7 +38,7 @@ fn read_document<D: Source>(
     fonts: u64,
 ) -> Result<Vec<Command>, StopReason>
     ensures reads { ReadsInput Which.Document (read_document fonts) (D.input source.old) (D.input source.new) (result_map (λ commands. commands.items) result) }
-    ensures shape { IfOk result (λ commands. IsBoxOfRules commands.items) }
+    ensures numbers { IfOk result (λ commands. list_all has_numbers_in_range commands.items ≡ true) }
 {
     let bytes = match read_all(alloc, source, MAX_DOCUMENT) {
         Ok(bytes) => bytes,
@@ -89,7 +90,7 @@ pub fn read_inputs<D: Source, S: Source, P: Source>(
         (record { document = D.input document.old; script = S.input script.old; patterns = P.input patterns.old; fonts = map (λ feed. named feed) feeds.old })
         (record { document = D.input document.new; script = S.input script.new; patterns = P.input patterns.new; fonts = map (λ feed. named feed) feeds.new })
         (result_map (λ job. job_of job.commands.items job.fonts.items) result) }
-    ensures shape { IfOk result (λ job. IsBoxOfRules job.commands.items) }
+    ensures numbers { IfOk result (λ job. list_all has_numbers_in_range job.commands.items ≡ true) }
 {
     let commands = read_document(alloc, document, feeds.len() as u64)?;
     let no_script = SyntaxFault {

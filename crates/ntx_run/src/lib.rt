@@ -2,24 +2,21 @@
 //! and what is printed.
 //!
 //! [`run`] is the whole program but for the files and the process around it. Its contract ties what it gives, and what the sinks
-//! took, to one definition (`specs/Run.antt`), and says what stands after each fault of the outside (`specs/Outside.antt`).
+//! took, to one definition (`specs/Run.antt`), and says what stands after each fault of the outside (`specs/Promise.antt`).
 //!
-//! It stands on `ntx_num`, `ntx_io`, `ntx_words`, `ntx_doc`, `ntx_tfm`, `ntx_patterns`, `ntx_dvi` and `ntx_syntax`, and on
-//! `sqlite_items` for the list of commands in a box. Packing and shipping ("TeX: The Program", sections 618 to 641 and 649 to
-//! 679) are its private parts.
+//! It stands on `ntx_words` for the command line, on `ntx_io` for sources and sinks, on `ntx_doc` and `ntx_tfm` for documents and fonts, on
+//! `ntx_machine` for what they come to, on `ntx_nodes` for the nodes that a run opens with, on `ntx_dvi` for what a DVI file is, on `ntx_syntax` and
+//! `ntx_patterns` for the faults of scripts and patterns, and on `ntx_num` for answers.
 #![tactic(auto)]
 
-mod draw;
 mod fonts;
 mod inputs;
-mod mark;
 mod outcome;
-mod page;
 mod program;
 mod stop;
 mod typeset;
 mod words;
 
 pub use outcome::{Outcome, Place, Status, Which};
-pub use program::run;
+pub use program::{run, run_over};
 pub use words::is_feed_name;

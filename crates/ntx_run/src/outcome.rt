@@ -1,6 +1,7 @@
 //! How a run ends.
 
 use ntx_doc::DocFault;
+use ntx_nodes::{Phase, Trouble};
 use ntx_patterns::PatternFault;
 use ntx_syntax::SyntaxFault;
 use ntx_tfm::FontFault;
@@ -20,6 +21,8 @@ pub enum Status {
     Patterns = 5,
     /// A font is refused, for a fault of its file or for more than 2^18 bytes.
     Font = 6,
+    /// Trouble came while the document was typeset.
+    EngineFault = 8,
     /// A source or a feed failed.
     ReadFault = 9,
     /// A sink failed.
@@ -54,6 +57,8 @@ pub enum Place {
     Pattern(PatternFault),
     /// The number of a font, counted from 1, and what is wrong with it.
     FontAt(u64, FontFault),
+    /// The trouble, and what was being done when it came.
+    Engine(Trouble, Phase),
     /// The input whose source failed.
     Input(Which),
 }
@@ -63,6 +68,6 @@ pub enum Place {
 pub struct Outcome {
     /// How it ended.
     pub status: Status,
-    /// Where it stopped. The statuses `Document`, `Script`, `Patterns`, `Font` and `ReadFault` have a place, and no others.
+    /// Where it stopped. The statuses `Document`, `Script`, `Patterns`, `Font`, `EngineFault` and `ReadFault` have a place, and no others.
     pub place: Option<Place>,
 }

@@ -1,10 +1,12 @@
 //! Why a run stops before its end.
 
 ghost use Rattle.std.specs.Prelude.{◌≡◌, IfOk, string_bytes};
-ghost use Rattle.ntx_run.specs.StopReason.{outcome_of, line_of};
+ghost use Rattle.ntx_run.specs.StopReason.{of_machine, outcome_of, line_of};
 
 use crate::outcome::{Outcome, Place, Status, Which};
 use ntx_doc::DocFault;
+use ntx_machine::{Stop, phase_name, trouble_name};
+use ntx_nodes::{Phase, Trouble};
 use ntx_num::NoMemory;
 use ntx_patterns::PatternFault;
 use ntx_syntax::SyntaxFault;
@@ -24,6 +26,8 @@ pub enum StopReason {
     Patterns(PatternFault),
     /// The font of this number, counted from 1, is refused.
     Font(u64, FontFault),
+    /// This trouble came in this phase while the document was typeset.
+    Engine(Trouble, Phase),
     /// The source or feed of this input failed.
     Read(Which),
     /// A sink failed.
@@ -45,6 +49,17 @@ impl From<NoMemory> for StopReason {
 }
 
 impl StopReason {
+    /// Why a run stops whose machine stops.
+    pub fn of_machine(why: Stop) -> StopReason
+        ensures { result ≡ of_machine why }
+    {
+        match why {
+            Stop::Memory => StopReason::Memory,
+            Stop::Engine(why, phase) => StopReason::Engine(why, phase),
+            Stop::DviFull => StopReason::DviFull,
+        }
+    }
+
     /// The status and the place of a run that stops for this reason.
     pub fn outcome(&self) -> Outcome
         ensures { result ≡ outcome_of self.now }
@@ -55,6 +70,9 @@ impl StopReason {
             StopReason::Script(fault) => (Status::Script, Some(Place::Syntax(*fault))),
             StopReason::Patterns(fault) => (Status::Patterns, Some(Place::Pattern(*fault))),
             StopReason::Font(k, fault) => (Status::Font, Some(Place::FontAt(*k, *fault))),
+            StopReason::Engine(why, phase) => {
+                (Status::EngineFault, Some(Place::Engine(*why, *phase)))
+            }
             StopReason::Read(which) => (Status::ReadFault, Some(Place::Input(*which))),
             StopReason::Write => (Status::WriteFault, None),
             StopReason::Memory => (Status::Memory, None),
@@ -73,6 +91,7 @@ impl StopReason {
             StopReason::Script(fault) => script_line(alloc, fault)?,
             StopReason::Patterns(fault) => patterns_line(alloc, fault)?,
             StopReason::Font(k, fault) => font_line(alloc, *k, *fault)?,
+            StopReason::Engine(why, phase) => engine_line(alloc, *why, *phase)?,
             StopReason::Read(which) => read_line(alloc, which)?,
             StopReason::Write | StopReason::Memory => String::new(alloc),
             StopReason::DviFull => String::from_str(alloc, "! DviFull\n")?,
@@ -113,6 +132,15 @@ fn font_line(alloc: Global, k: u64, fault: FontFault) -> Result<String, NoMemory
 {
     let why = fault.name();
     Ok(format!(in alloc; "! Font {k} {why}\n")?)
+}
+
+/// The fault line of trouble in a phase.
+fn engine_line(alloc: Global, why: Trouble, phase: Phase) -> Result<String, NoMemory>
+    ensures { IfOk result (λ line. string_bytes line ≡ line_of (StopReason.Engine why phase)) }
+{
+    let trouble = trouble_name(why);
+    let place = phase_name(phase);
+    Ok(format!(in alloc; "! EngineFault {trouble} in {place}\n")?)
 }
 
 /// The fault line of a source that failed.

@@ -1,99 +1,61 @@
 //! Typesetting the commands of a document into a DVI file.
 
-ghost use Rattle.std.specs.Prelude.{◌≡◌, ◌≤◌, ◌^◌, ◌∷◌, [], All, IfOk, OnOk};
-ghost use Rattle.ntx_doc.specs.Shape.{IsBoxOfRules};
-ghost use Rattle.ntx_dvi.specs.Writer.{IsNew, IsBetweenPages};
-ghost use Rattle.ntx_dvi.specs.Written.{Writes};
-ghost use Rattle.ntx_run.specs.Page.{page_of, rules_of, page_operations, pages_of, pages_operations, document_operations};
-ghost use Rattle.ntx_run.specs.inner.Bounds.{AreRules, IsOnPage, seen};
-ghost use Rattle.ntx_run.specs.inner.Parts.{HandsOver, Typesets};
+ghost use Rattle.std.specs.Prelude.{◌≡◌, true, Ok};
+ghost use Rattle.std.specs.List.{list_all};
+ghost use Rattle.ntx_doc.specs.Shape.{has_numbers_in_range};
+ghost use Rattle.ntx_machine.specs.Machine.{IsOpen};
+ghost use Rattle.ntx_machine.specs.Seen.{view_of};
+ghost use Rattle.ntx_run.specs.inner.Parts.{HandsOverWaiting, HandsOver, Typesets};
 
-use crate::draw::draw_page;
-use crate::page::{Page, rules};
 use crate::stop::StopReason;
 use ntx_doc::Command;
-use ntx_dvi::{Dvi, DviFull};
 use ntx_io::{Sink, write_all};
-use ntx_num::{Fail, NoMemory};
-use std::alloc::Global;
+use ntx_machine::{Machine, Stop};
+use ntx_nodes::Nodes;
 
-/// The most bytes of a DVI file.
-const MAX_DVI: u64 = 0x7fff_ffff;
-
-/// The page that holds a box with these commands in it.
-fn box_page(alloc: Global, body: &[Command]) -> Result<Page, NoMemory>
-    requires { AreRules body.now }
-    ensures page { IfOk result (λ page. seen page ≡ page_of (rules_of body.now)) }
-    ensures on_page { IfOk result (λ page. All IsOnPage page.marks.items) }
-    ensures total { IfOk result (λ page. page.total ≤ 2 ^ 21) }
-    ensures width { IfOk result (λ page. page.width ≤ 2 ^ 29) }
+/// Hands the bytes that wait to the sink. If there are none, nothing is written.
+fn hand_over<N: Nodes, O: Sink>(machine: &mut Machine<N>, sink: &mut O) -> Result<(), StopReason>
+    ensures { HandsOverWaiting (Ok tt) (view_of N.heap machine.old) (view_of N.heap machine.new) (O.output sink.old) (O.output sink.new) result }
 {
-    let rules = rules(alloc, body)?;
-    Page::of_rules(alloc, rules.as_slice())
-}
-
-/// Draws the page of a box with these commands in it.
-fn draw_box_page(alloc: Global, body: &[Command], dvi: &mut Dvi) -> Result<(), Fail<DviFull>>
-    requires between { IsBetweenPages dvi.old }
-    requires rules { AreRules body.now }
-    ensures writes { Writes result dvi.old dvi.new (page_operations 1 (page_of (rules_of body.now))) }
-    ensures between { OnOk result (IsBetweenPages dvi.new) }
-{
-    let page = box_page(alloc, body)?;
-    draw_page(dvi, &page)
-}
-
-/// Draws the pages of the commands.
-fn draw_pages(alloc: Global, commands: &[Command], dvi: &mut Dvi) -> Result<(), Fail<DviFull>>
-    requires between { IsBetweenPages dvi.old }
-    requires shape { IsBoxOfRules commands.now }
-    ensures writes { Writes result dvi.old dvi.new (pages_operations 1 (pages_of commands.now)) }
-    ensures between { OnOk result (IsBetweenPages dvi.new) }
-{
-    match commands {
-        [Command::HBox { body, .. }, ..] => draw_box_page(alloc, body.as_slice(), dvi),
-        _ => Ok(()),
+    let bytes = machine.take_dvi();
+    match write_all(sink, bytes.as_slice()) {
+        Ok(()) => Ok(()),
+        Err(_fault) => Err(StopReason::Write),
     }
 }
 
-/// Draws the whole file: the preamble, the pages and the postamble.
-fn draw_file(alloc: Global, commands: &[Command], dvi: &mut Dvi) -> Result<(), Fail<DviFull>>
-    requires fresh { IsNew dvi.old }
-    requires shape { IsBoxOfRules commands.now }
-    ensures { Writes result dvi.old dvi.new (document_operations commands.now) }
-{
-    dvi.begin()?;
-    draw_pages(alloc, commands, dvi)?;
-    dvi.end()
-}
-
-/// Hands the bytes of what was drawn to the sink, in one piece, and answers how the drawing went. If memory ran out, nothing is handed over.
-fn hand_over<O: Sink>(
-    drawn: Result<(), Fail<DviFull>>,
-    bytes: &[u8],
+/// What follows a step: the bytes that wait are handed over, also if the machine stopped, but not if memory ran out.
+fn after_step<N: Nodes, O: Sink>(
+    answer: Result<(), Stop>,
+    machine: &mut Machine<N>,
     sink: &mut O,
 ) -> Result<(), StopReason>
-    ensures { HandsOver drawn bytes.now (O.output sink.old) (O.output sink.new) result }
+    ensures { HandsOver answer (view_of N.heap machine.old) (view_of N.heap machine.new) (O.output sink.old) (O.output sink.new) result }
 {
-    if let Err(Fail::NoMemory) = drawn {
+    if let Err(Stop::Memory) = answer {
         return Err(StopReason::Memory);
     }
-    if write_all(sink, bytes).is_err() {
-        return Err(StopReason::Write);
-    }
-    match drawn {
+    hand_over(machine, sink)?;
+    match answer {
         Ok(()) => Ok(()),
-        Err(_) => Err(StopReason::DviFull),
+        Err(why) => Err(StopReason::of_machine(why)),
     }
 }
 
-/// Typesets the commands and hands the DVI file to the sink, in one piece, when the last page and the postamble are written.
-pub fn typeset<O: Sink>(alloc: Global, commands: &[Command], sink: &mut O) -> Result<(), StopReason>
-    requires { IsBoxOfRules commands.now }
-    ensures { Typesets commands.now (O.output sink.old) (O.output sink.new) result }
+/// Carries out the commands and the end of a document, and hands over the bytes of the DVI file after each of them.
+pub fn typeset<N: Nodes, O: Sink>(
+    machine: &mut Machine<N>,
+    commands: &[Command],
+    sink: &mut O,
+) -> Result<(), StopReason>
+    requires open { IsOpen (view_of N.heap machine.old) }
+    requires numbers { list_all has_numbers_in_range commands.now ≡ true }
+    ensures { Typesets commands.now (view_of N.heap machine.old) (view_of N.heap machine.new) (O.output sink.old) (O.output sink.new) result }
 {
-    let mut dvi = Dvi::new(alloc, MAX_DVI)?;
-    let drawn = draw_file(alloc, commands, &mut dvi);
-    let bytes = dvi.take();
-    hand_over(drawn, bytes.as_slice(), sink)
+    for command in commands {
+        let answer = machine.command(command);
+        after_step(answer, machine, sink)?;
+    }
+    let answer = machine.finish();
+    after_step(answer, machine, sink)
 }

@@ -1,6 +1,6 @@
 -- What is written of a page into a DVI file ("TeX: The Program", sections 617 to 640).
 --     page_operations p fonts page      the operations of a page, in a file that has come as far as p
--- A place on the page goes with the operations. It begins in the upper left corner. Before each mark it moves there, first to the right and then down.
+-- A place on the page is kept beside the operations. It begins in the upper left corner. Before each mark it moves there, first to the right and then down.
 -- Then it is at the end of the mark's width. The end of a box brings back the place where the box began.
 use Rattle.std.specs.Prelude.{ℕ, ◌+◌, pos, ◌+ℤ◌, ◌-ℤ◌, ℤ, List, [], ◌∷◌, ◌++◌, slice_get, Option, None, Some}
 use Rattle.std.specs.List.{fold}
@@ -26,7 +26,7 @@ pub record Pen : Type 0 where
   pub here : Place
   pub begun : List Place
 
--- Where a page begins.
+-- the place at the start of a page
 abbrev pub pen_at_start : Pen
 pen_at_start = record { here = page_corner; begun = [] }
 
@@ -84,7 +84,7 @@ page_operations fonts p page =
 
 -- ---- what can be written
 
--- what a font number stands for
+-- the definition of the font of a number
 abbrev pub definition_at : List FontTables → ℕ → Option FontDef
 definition_at fonts number = option_map (λ font. font.def) (slice_get fonts number)
 

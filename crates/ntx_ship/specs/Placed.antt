@@ -1,8 +1,8 @@
 -- Where the marks of a page stand ("TeX: The Program", sections 619 to 641, without leaders and whatsits).
 --     placed heap fonts page      the marks of a page with the places where they stand, or why it cannot be shipped
 -- An hlist puts its nodes along its baseline from the left to the right, and a vlist from its top down. A box in an hlist is moved down by its shift, one
--- in a vlist to the right. Glue is as large as the box's ratio makes it. A rule whose width, or whose height and depth together, is not above 0
--- is no mark.
+-- in a vlist to the right. Glue is as large as the box's ratio makes it. A rule is a mark only if its width is above 0 and its height and
+-- depth together are above 0.
 use Rattle.std.specs.Prelude.{ℕ, zero, suc, ◌+◌, ℤ, pos, ◌+ℤ◌, ◌-ℤ◌, int_lt, Bool, ◌&&◌, if◌then◌else◌, List, [], ◌∷◌, ◌++◌, Option, Some, unwrap_or, Result, Ok, Err}
 use Rattle.ntx_num.specs.Answer.{result_map, result_and_then}
 use Rattle.ntx_num.specs.Dimension.{is_dimension}
@@ -119,7 +119,7 @@ abbrev pub moved : Direction → ℤ → Place → Place
 moved Horizontal size here = record here { h = here.h +ℤ size }
 moved Vertical size here = record here { v = here.v +ℤ size }
 
--- Where the nodes of these names stand, one after another, from a place on and from this running total of glue.
+-- The nodes of these names with their places, one after another. The first stands here, and `total` is the running total of the glue before it.
 unfoldable pub stations : Heap → List FontTables → Inside → List ℕ → ℤ → Place → Result (List Station) Trouble
 stations heap fonts inside [] total here = Ok []
 stations heap fonts inside (n ∷ ns) total here =

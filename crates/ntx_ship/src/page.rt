@@ -123,8 +123,8 @@ fn page_in<N: Nodes>(
     }
 }
 
-/// Where the marks of a page stand ("TeX: The Program", sections 619 to 641). `page` is an hlist or a vlist, whose upper left corner is that of
-/// the page; its own shift is not looked at. The number of a glyph's font is its place in `fonts`, counted from 0.
+/// Where the marks of a page stand ("TeX: The Program", sections 619 to 641). `page` is an hlist or a vlist, and its upper left corner is the corner
+/// of the page; its own shift is not looked at. The number of a glyph's font is its place in `fonts`, counted from 0.
 ///
 /// # Refusals
 ///

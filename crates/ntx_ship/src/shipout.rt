@@ -58,7 +58,7 @@ fn free_page<N: Nodes>(nodes: &mut N, page: u64)
 }
 
 /// Ships a page ("TeX: The Program", sections 638 to 640): writes it into a DVI file, and frees its nodes. `page` is an hlist or a vlist, and
-/// nothing follows it. The page gets the number after that of the page before, counted from 1. The number of a glyph's font is its place in
+/// nothing follows it. The page's number is one more than the number of the page before; the first has the number 1. The number of a glyph's font is its place in
 /// `fonts`. `dvi` is between pages, and each font that it has defined is the one that `fonts` has at that number.
 ///
 /// # Refusals

@@ -1,24 +1,29 @@
 -- What the parts of a run do: reading the inputs, typesetting the commands, saying why the run stops.
-use Rattle.std.specs.Prelude.{◌≡◌, ◌⊎◌, ℕ, ◌+◌, ℤ, List, [], ◌∷◌, ◌++◌, length, OnOk, Option, Some, Result, Ok, Err}
+use Rattle.std.specs.Prelude.{◌≡◌, ◌≢◌, ◌⊎◌, ℕ, ◌+◌, ℤ, List, [], ◌∷◌, ◌++◌, length, OnOk, Option, Some, None, Result, Ok, Err}
 use Rattle.ntx_num.specs.Answer.{result_map}
-use Rattle.ntx_num.specs.declared.answer.Fail.{Fail}
-use Rattle.ntx_num.specs.declared.answer.Fail.TheVariants as fail
-use Rattle.ntx_io.specs.Outside.{Input, NamedInput, Output, Rose, Adds, AddsProperPrefix}
-use Rattle.ntx_dvi.specs.declared.full.DviFull.{DviFull}
-use Rattle.ntx_dvi.specs.Writer.{Writer}
+use Rattle.ntx_io.specs.Outside.{Input, NamedInput, Output, Rose, Adds, AddsPrefix, AddsProperPrefix}
+use Rattle.ntx_nodes.specs.Heap.{Heap}
 use Rattle.ntx_doc.specs.declared.command.Command.{Command}
 use Rattle.ntx_doc.specs.declared.fault.DocFault.{DocFault}
 use Rattle.ntx_patterns.specs.declared.fault.PatternFault.{PatternFault}
 use Rattle.ntx_syntax.specs.declared.fault.SyntaxFault.{SyntaxFault}
 use Rattle.ntx_tfm.specs.Font.{FontTables}
 use Rattle.ntx_tfm.specs.declared.fault.FontFault.{FontFault}
+use Rattle.ntx_machine.specs.declared.stop.Stop.{Stop}
+use Rattle.ntx_machine.specs.declared.stop.Stop.TheVariants as machine_stop
+use Rattle.ntx_machine.specs.State.{State}
+use Rattle.ntx_machine.specs.Job.{Ran, ran, job, job_ran, bytes_of, last_heap}
+use Rattle.ntx_machine.specs.Machine.{MachineView, emptied}
 use Rattle.ntx_run.specs.declared.stop.StopReason.{StopReason}
 use Rattle.ntx_run.specs.declared.stop.StopReason.TheVariants as stop
 use Rattle.ntx_run.specs.declared.outcome.Outcome.{Outcome}
+use Rattle.ntx_run.specs.declared.outcome.Status.{Status}
+use Rattle.ntx_run.specs.declared.outcome.Status.TheVariants as status
+use Rattle.ntx_run.specs.declared.outcome.Place.{Place}
 use Rattle.ntx_run.specs.declared.outcome.Which.{Which}
 use Rattle.ntx_run.specs.declared.outcome.Which.TheVariants as which
-use Rattle.ntx_run.specs.StopReason.{outcome_of, line_of}
-use Rattle.ntx_run.specs.Run.{Job, job_of, read_document, read_script, read_patterns, read_font, file_of, dvi_of}
+use Rattle.ntx_run.specs.StopReason.{of_machine, outcome_of, line_of}
+use Rattle.ntx_run.specs.Run.{Job, job_of, read_document, read_script, read_patterns, read_font}
 use Rattle.ntx_run.specs.Outside.{Inputs}
 
 -- ---- one input
@@ -85,28 +90,60 @@ TakesAll bytes before after = Adds before.taken after.taken bytes × (after.faul
 abbrev pub IsCutOff : List ℕ → Output → Output → Type 0
 IsCutOff bytes before after = AddsProperPrefix before.taken after.taken bytes × Rose before.faults after.faults
 
--- the answer of a run whose file was drawn so and taken whole
-abbrev pub drawn_answer : Result Writer Writer → Result (Unit {0}) StopReason
-drawn_answer (Ok w) = Ok tt
-drawn_answer (Err w) = Err stop.DviFull
+-- the answer of a step, as a run gives it
+abbrev pub answer_of : Result (Unit {0}) Stop → Result (Unit {0}) StopReason
+answer_of (Ok a) = Ok a
+answer_of (Err why) = Err (of_machine why)
 
--- All bytes of the file are taken, whether it is whole or not; or the sink fails; or memory runs out.
-abbrev pub HandsOverFile : Result Writer Writer → Output → Output → Result (Unit {0}) StopReason → Type 0
-HandsOverFile file before after result =
-    ((result ≡ drawn_answer file) × TakesAll (dvi_of file) before after)
-    ⊎ (((result ≡ Err stop.Write) × IsCutOff (dvi_of file) before after) ⊎ ((result ≡ Err stop.Memory) × (after ≡ before)))
+-- What waits in a machine is taken from there, and then the sink takes it whole or fails. The answer is given if the sink does not fail.
+abbrev pub HandsOverWaiting : Result (Unit {0}) Stop → MachineView → MachineView → Output → Output → Result (Unit {0}) StopReason → Type 0
+HandsOverWaiting answer old new before after result =
+    (new ≡ emptied old)
+    × (((result ≡ answer_of answer) × TakesAll old.state.writer.waiting before after) ⊎ ((result ≡ Err stop.Write) × IsCutOff old.state.writer.waiting before after))
 
--- What typesetting commands does.
-abbrev pub Typesets : List Command → Output → Output → Result (Unit {0}) StopReason → Type 0
-Typesets commands before after result = HandsOverFile (file_of commands) before after result
+-- After a step what waits is handed over, and the step's answer is given. If memory ran out nothing is handed over.
+abbrev pub HandsOver : Result (Unit {0}) Stop → MachineView → MachineView → Output → Output → Result (Unit {0}) StopReason → Type 0
+HandsOver (Err machine_stop.Memory) old new before after result = (result ≡ Err stop.Memory) × (new ≡ old) × (after ≡ before)
+HandsOver (Ok a) old new before after result = HandsOverWaiting (Ok a) old new before after result
+HandsOver (Err (machine_stop.Engine why phase)) old new before after result = HandsOverWaiting (Err (machine_stop.Engine why phase)) old new before after result
+HandsOver (Err machine_stop.DviFull) old new before after result = HandsOverWaiting (Err machine_stop.DviFull) old new before after result
 
--- After what was drawn, whole or as far as there was room, all bytes go to the sink. If memory ran out none do.
-abbrev pub HandsOver : Result (Unit {0}) (Fail DviFull) → List ℕ → Output → Output → Result (Unit {0}) StopReason → Type 0
-HandsOver (Err fail.NoMemory) bytes before after result = (result ≡ Err stop.Memory) × (after ≡ before)
-HandsOver (Ok a) bytes before after result =
-    ((result ≡ Ok tt) × TakesAll bytes before after) ⊎ ((result ≡ Err stop.Write) × IsCutOff bytes before after)
-HandsOver (Err (fail.Is full)) bytes before after result =
-    ((result ≡ Err stop.DviFull) × TakesAll bytes before after) ⊎ ((result ≡ Err stop.Write) × IsCutOff bytes before after)
+-- All steps that a job comes to were carried out, and what they give was taken.
+pub record IsCarriedOut (r : Ran) (opening : Heap) (before after : Output) (left : Heap) (result : Result (Unit {0}) StopReason) : Type 0 where
+  pub answer : result ≡ answer_of r.ending
+  pub takes : TakesAll (bytes_of r.after) before after
+  pub heap : left ≡ last_heap opening r.after
+
+-- The sink failed after one of the steps: what the steps before it give was taken, and what it gives was not taken whole.
+pub record IsCutDuring (r : Ran) (before after : Output) (left : Heap) (result : Result (Unit {0}) StopReason) : Type 0 where
+  pub answer : result ≡ Err stop.Write
+  pub earlier : List State
+  pub cut : State
+  pub later : List State
+  pub parts : r.after ≡ earlier ++ cut ∷ later
+  pub prefix : List ℕ
+  pub rest : List ℕ
+  pub waiting : cut.writer.waiting ≡ prefix ++ rest
+  pub some_rest : rest ≢ []
+  pub adds : Adds before.taken after.taken (bytes_of earlier ++ prefix)
+  pub rose : Rose before.faults after.faults
+  pub heap : left ≡ cut.heap
+
+-- Memory ran out in one of the steps: a prefix of what the job gives was taken.
+pub record IsOutOfMemory (r : Ran) (before after : Output) (result : Result (Unit {0}) StopReason) : Type 0 where
+  pub answer : result ≡ Err stop.Memory
+  pub adds : AddsPrefix before.taken after.taken (bytes_of r.after)
+  pub kept : after.faults ≡ before.faults
+
+-- What carrying out these steps over a machine does.
+abbrev pub CarriesOut : Ran → Heap → Output → Output → Heap → Result (Unit {0}) StopReason → Type 0
+CarriesOut r opening before after left result =
+    IsCarriedOut r opening before after left result ⊎ (IsCutDuring r before after left result ⊎ IsOutOfMemory r before after result)
+
+-- What typesetting commands does. The machine has not stopped before.
+abbrev pub Typesets : List Command → MachineView → MachineView → Output → Output → Result (Unit {0}) StopReason → Type 0
+Typesets commands old new before after result =
+    old.stopped ≡ None → CarriesOut (ran (job old.fonts commands) old.state) old.state.heap before after new.state.heap result
 
 -- ---- saying why the run stops
 
@@ -141,5 +178,34 @@ Reports (stop.Document fault) before after outcome = WritesLine (stop.Document f
 Reports (stop.Script fault) before after outcome = WritesLine (stop.Script fault) before after outcome
 Reports (stop.Patterns fault) before after outcome = WritesLine (stop.Patterns fault) before after outcome
 Reports (stop.Font k fault) before after outcome = WritesLine (stop.Font k fault) before after outcome
+Reports (stop.Engine why phase) before after outcome = WritesLine (stop.Engine why phase) before after outcome
 Reports (stop.Read input) before after outcome = WritesLine (stop.Read input) before after outcome
 Reports stop.DviFull before after outcome = WritesLine stop.DviFull before after outcome
+
+-- ---- a job
+
+-- how a run ends after the typesetting gave this answer
+abbrev pub Closes : Result (Unit {0}) StopReason → Output → Output → Outcome → Type 0
+Closes (Ok _) before after outcome = (outcome ≡ record { status = status.Done; place = None }) × (after ≡ before)
+Closes (Err why) before after outcome = Reports why before after outcome
+
+-- Memory ran out before there was a machine.
+pub record MakesNoMachine (dvi_before dvi_after lines_before lines_after : Output) (outcome : Outcome) (left : Option Heap) : Type 0 where
+  pub ended : outcome ≡ outcome_of stop.Memory
+  pub dvi : dvi_after ≡ dvi_before
+  pub lines : lines_after ≡ lines_before
+  pub none : left ≡ None
+
+-- The job was carried out so far, and its answer reported.
+pub record RunsMachine (job : Job) (opening : Heap) (dvi_before dvi_after lines_before lines_after : Output) (outcome : Outcome) (left : Option Heap) : Type 0 where
+  pub answer : Result (Unit {0}) StopReason
+  pub heap : Heap
+  pub carries : CarriesOut (job_ran job.fonts job.commands opening) opening dvi_before dvi_after heap answer
+  pub closes : Closes answer lines_before lines_after outcome
+  pub some : left ≡ Some heap
+
+-- What a run does with a job.
+abbrev pub RunsJob : Job → Heap → Output → Output → Output → Output → Status → Option Place → Option Heap → Type 0
+RunsJob job opening dvi_before dvi_after lines_before lines_after ended at left =
+    let outcome : Outcome = record { status = ended; place = at } in
+    MakesNoMachine dvi_before dvi_after lines_before lines_after outcome left ⊎ RunsMachine job opening dvi_before dvi_after lines_before lines_after outcome left
