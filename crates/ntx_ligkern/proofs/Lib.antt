@@ -10,3 +10,5 @@ pub mod Rises
 pub mod Ahead
 pub mod Measures
 pub mod Parts
+pub mod Stepping
+pub mod Lists
