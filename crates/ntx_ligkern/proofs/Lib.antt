@@ -9,6 +9,6 @@ pub mod Turning
 pub mod Rises
 pub mod Ahead
 pub mod Measures
-pub mod Parts
+pub mod DiscTurns
 pub mod Stepping
-pub mod Lists
+pub mod ListTurns
