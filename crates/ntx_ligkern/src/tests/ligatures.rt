@@ -226,7 +226,7 @@ fn steps_without_a_move_are_refused(rt: HostRuntime) -> Result<(), test::Fail> {
     let (why, live, text) = ending(rt.alloc(), &turns, "ab")?;
     assert_eq!(rt; (why, live), (Some(Trouble::LigLoop), 2));
     assert!(rt; text.as_slice() == b"c'b".as_slice());
-    // A glyph more at each step, before the cursor or behind it.
+    // A glyph more at each step, before the cursor or after it.
     let (why, live, _) = ending(rt.alloc(), &[(b'a', b'b', 3, b'b')], "ab")?;
     assert_eq!(rt; (why, live), (Some(Trouble::LigLoop), 257));
     let (why, live, _) = ending(rt.alloc(), &[(b'a', b'b', 7, b'a')], "ab")?;
@@ -341,7 +341,7 @@ fn a_new_ligature_is_like_the_left_glyph(rt: HostRuntime) -> Result<(), test::Fa
 #[test]
 fn a_refusal_leaves_what_was_done(rt: HostRuntime) -> Result<(), test::Fail> {
     let fonts = [font_with(rt.alloc(), &EIGHT)?];
-    // Six names are left after the list, which is one too few for the second new ligature.
+    // After the list one name is left, which is one too few for the second new ligature.
     let first = (1 << 48) - 5;
     let mut heap = PlainHeap::new(rt.alloc(), first)?;
     make_list(&mut heap, b"axaw")?;
