@@ -20,7 +20,7 @@ fn the_first_trouble_ends_a_run(rt: HostRuntime) -> Result<(), Fail> {
             0,
             2,
         ),
-        // The inner box is packed, the outer one is not: 3, 2^30-1 wide each.
+        // The inner box is packed, the outer one is not. Three nodes stay: the kern, its box, and the kern after the box.
         (
             b"hbox\nhbox\nkern 1073741823\nend\nkern 1\nend",
             Trouble::Dimension,

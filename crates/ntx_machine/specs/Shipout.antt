@@ -21,7 +21,7 @@ abbrev pub shipped_if : List FontTables → Option ℕ → State → Course (Uni
 shipped_if fonts None state = stays state (Ok tt)
 shipped_if fonts (Some page) state = shipped fonts page state
 
--- The last page is made before anything is written. The preamble is written also if the page is then refused, or if there is none.
+-- The last page is made before anything is written. The preamble is written even if the page is then refused, and if there is no page.
 abbrev pub ended : List FontTables → State → Course (Unit {0})
 ended fonts state =
     trace_and_then (last_page fonts state) (λ page s.

@@ -27,10 +27,10 @@ const MAX_DVI: u64 = 0x7fff_ffff;
 ///
 /// # Stops
 ///
-/// A call may stop the machine. Then the nodes and the DVI file are as the step that was refused found them, and each later call answers the
-/// same.
+/// A call may stop the machine. If a step is refused, the nodes and the DVI file are as that step found them. If memory runs out, they are as
+/// one of the steps of the call left them. Each later call answers the same.
 ///
-/// - `Engine`: this trouble came in this phase. `Build` is the making of nodes, `Hpack` the packing of a box, `Page` the making of the page, and
+/// - `Engine`: this trouble came in this phase. `Build` is the making of nodes and the setting of attributes, `Hpack` the packing of a box, `Page` the making of the page, and
 ///   `Ship` its placing.
 /// - `DviFull`: an operation of the DVI file would end past 2^31-1 bytes. The operations before it stay written.
 /// - `Memory`: memory ran out.
@@ -72,8 +72,8 @@ impl<N: Nodes> Machine<N> {
         answer
     }
 
-    /// Carries out a command of a document that stands outside of boxes. Each number in it is in the range that a document gives it. A command
-    /// that does not stand there does nothing. The stack holds a call for each box in a box.
+    /// Carries out a command of a document that stands outside of boxes. Each number in it is in the range that a document gives it. A box takes
+    /// the place of a box before it. A command that does not stand there does nothing. The stack holds a call for each box in a box.
     pub fn command(&mut self, command: &Command) -> Result<(), Stop>
         requires { has_numbers_in_range command.now ≡ true }
         ensures carries { Carries result (view_of N.heap self.old) (view_of N.heap self.new) (command_step (view_of N.heap self.old).fonts command.now) }

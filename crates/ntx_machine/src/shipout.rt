@@ -19,7 +19,7 @@ use ntx_ship::{ShipFault, ship};
 use ntx_tfm::Font;
 use std::alloc::Global;
 
-/// What the answer of shipping a page is to the machine.
+/// The machine's answer after a page is shipped.
 fn shipped_as(answer: Result<(), Fail<ShipFault>>) -> Result<(), Stop>
     ensures { result ≡ shipped_as answer }
 {

@@ -1,7 +1,7 @@
 //! Pages as bytes.
 
 use crate::boxes::Part::{Kern, Letter, Node, Rule};
-use crate::boxes::{begun, hbox, letter_font};
+use crate::boxes::{begun, disc, hbox, letter_font};
 use ntx_item::PackTo::Additional;
 use ntx_nodes::{Nodes, PlainHeap, Trouble};
 use ntx_num::Fail;
@@ -37,6 +37,23 @@ fn characters_of_two_fonts_are_written(rt: HostRuntime) -> Result<(), test::Fail
     let written = dvi.take();
     assert_eq!(rt; written.get(18..63), Some(FIRST_PAGE.as_slice()));
     assert_eq!(rt; written.get(63..), Some(drawn.as_slice()));
+    Ok(())
+}
+
+#[test]
+fn the_replace_list_of_a_disc_is_written(rt: HostRuntime) -> Result<(), test::Fail> {
+    let alloc = rt.alloc();
+    let mut nodes = PlainHeap::new(alloc, 1)?;
+    let fonts = [read_font(alloc, &letter_font(alloc)?, "t", None)?];
+    let hyphen = disc(&mut nodes)?;
+    let page = hbox(alloc, &mut nodes, &fonts, &[Node(hyphen)], Additional(0))?;
+    let mut dvi = begun(alloc, 1000)?;
+    ship(alloc, &mut nodes, &fonts, page, &mut dvi)?;
+    assert_eq!(rt; nodes.live(), 0);
+    let drawn = [
+        159, 4, 96, 0, 243, 0, 0, 0, 0, 0, 0, 10, 0, 0, 0, 10, 0, 0, 0, 1, b't', 171, b'a', 140,
+    ];
+    assert_eq!(rt; dvi.take().get(63..), Some(drawn.as_slice()));
     Ok(())
 }
 

@@ -75,7 +75,7 @@ fn a_mark_stands_after_the_rules_before_it(rt: HostRuntime) -> Result<(), Fail> 
 }
 
 #[test]
-fn as_many_rules_as_a_box_may_have_are_marked(rt: HostRuntime) -> Result<(), Fail> {
+fn five_hundred_rules_are_marked(rt: HostRuntime) -> Result<(), Fail> {
     let alloc = rt.alloc();
     let mut document = b"hbox\n".to_vec(alloc)?;
     let mut file = PREAMBLE.to_vec(alloc)?;

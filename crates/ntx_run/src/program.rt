@@ -103,8 +103,8 @@ fn run_over_feeds<N: Nodes, D: Source, S: Source, P: Source, O: Sink, L: Sink>(
 /// Typesets a document over a heap of nodes, and gives the nodes back.
 ///
 /// As [`run`], which says what is read, written and refused. The nodes are given back at the statuses `Done`, `EngineFault` and `DviFull`, and not at `Words`,
-/// `Document`, `Script`, `Patterns`, `Font` and `ReadFault`, where no machine was made. At `WriteFault` they are given back if the inputs were read
-/// and accepted, and then they are those after the first step whose bytes were not written whole. At `Memory` they may be given back or not.
+/// `Document`, `Script`, `Patterns`, `Font` and `ReadFault`, where no machine was made. At `WriteFault` they are given back if the words and
+/// the inputs are accepted, and then they are those after the first step whose bytes or fault line were not written whole. At `Memory` they may be given back or not.
 pub fn run_over<N: Nodes, D: Source, S: Source, P: Source, O: Sink, L: Sink>(
     alloc: Global,
     nodes: N,
