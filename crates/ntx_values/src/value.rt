@@ -45,6 +45,15 @@ pub enum Value {
     Node(u64),
 }
 
+impl FuncId {
+    /// How many functions of its store were given a number before it.
+    pub fn number(self) -> u64
+        ensures { result ≡ self.number }
+    {
+        self.number
+    }
+}
+
 impl Value {
     /// Whether it is nil.
     pub fn is_nil(self) -> bool
