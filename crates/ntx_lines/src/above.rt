@@ -1,0 +1,157 @@
+//! The vertical list of a paragraph.
+
+ghost use Rattle.std.specs.Prelude.{◌≡◌, OnOk};
+ghost use Rattle.ntx_num.specs.Dimension.{IsDimension};
+ghost use Rattle.ntx_num.specs.Answer.{Answers};
+ghost use Rattle.ntx_lines.specs.Above.{nothing_above, interline_subtype, checked_glue, interline, with_box, line_penalty, only_if, with_penalty};
+ghost use Rattle.ntx_lines.specs.inner.Chains.{EndsAs, EndsAsAbove};
+
+use crate::line_box::box_fields;
+use crate::making::{follow, glue_fields, make_at_end, make_before, penalty_fields};
+use ntx_item::{GlueParam, GlueSpec, Param, Params};
+use ntx_nodes::{Nodes, Trouble};
+use ntx_num::{Fail, is_dimension};
+use ntx_pack::interline_glue;
+
+/// The subtypes of glue between two lines.
+const LINESKIP: u8 = 1;
+const BASELINESKIP: u8 = 2;
+
+/// The vertical list so far.
+#[derive(Clone, Copy)]
+pub(crate) struct Above {
+    /// The first node.
+    pub first: Option<u64>,
+    /// The last node.
+    pub last: Option<u64>,
+    /// The depth of the last line, in scaled points.
+    pub depth: i64,
+}
+
+/// What the penalty after a line depends on.
+#[derive(Clone, Copy)]
+pub(crate) struct Place {
+    /// Whether the line is the first one.
+    pub is_first: bool,
+    /// Whether the last line alone comes later.
+    pub is_before_last: bool,
+    /// Whether a discretionary broke it.
+    pub is_hyphenated: bool,
+}
+
+/// The subtype of the glue between a box of this depth and one of this height below it: lineskip if they would be too close.
+fn interline_subtype(params: &Params, depth: i64, height: i64) -> u8
+    requires depth { IsDimension depth }
+    requires height { IsDimension height }
+    ensures { result ≡ interline_subtype params.now depth height }
+{
+    let gap = params.get_glue(GlueParam::Baselineskip).width - depth - height;
+    if gap < params.get(Param::Lineskiplimit) {
+        LINESKIP
+    } else {
+        BASELINESKIP
+    }
+}
+
+/// Refuses with Dimension where a glue is wider than a node can be.
+fn checked_glue(spec: GlueSpec) -> Result<GlueSpec, Fail<Trouble>>
+    ensures { Answers result (checked_glue spec) }
+{
+    if is_dimension(spec.width) {
+        Ok(spec)
+    } else {
+        Err(Fail::Is(Trouble::Dimension))
+    }
+}
+
+/// Makes the glue between the last node of a list and the box `n`, of this height, after it.
+fn make_interline<N: Nodes>(
+    nodes: &mut N,
+    params: &Params,
+    depth: i64,
+    height: i64,
+    last: u64,
+    n: u64,
+) -> Result<(), Fail<Trouble>>
+    requires depth { IsDimension depth }
+    requires height { IsDimension height }
+    ensures traced { EndsAs result (N.heap nodes.new) (interline params.now depth height last n (N.heap nodes.old)) }
+{
+    let spec = checked_glue(interline_glue(params, depth, height))?;
+    let subtype = interline_subtype(params, depth, height);
+    let glue = make_before(nodes, glue_fields(subtype, spec), Some(n))?;
+    follow(nodes, Some(last), Some(glue))
+}
+
+/// A number, or 0.
+fn only_if(test: bool, p: i64) -> i64
+    ensures { result ≡ only_if test p }
+{
+    if test { p } else { 0 }
+}
+
+/// The penalty after a line.
+fn line_penalty(params: &Params, place: Place) -> i64
+    ensures { result ≡ line_penalty params.now place.is_first place.is_before_last place.is_hyphenated }
+{
+    params.get(Param::Interlinepenalty)
+        + only_if(place.is_first, params.get(Param::Clubpenalty))
+        + only_if(place.is_before_last, params.get(Param::Widowpenalty))
+        + only_if(place.is_hyphenated, params.get(Param::Brokenpenalty))
+}
+
+impl Above {
+    /// No lines.
+    pub fn nothing() -> Above
+        ensures { result ≡ nothing_above }
+    {
+        Above {
+            first: None,
+            last: None,
+            depth: 0,
+        }
+    }
+
+    /// Puts a box at the end, after interline glue if it is not the first one. Refuses with Dimension where the glue is wider
+    /// than a node can be, and as the making of a node.
+    pub fn push_box<N: Nodes>(
+        &mut self,
+        nodes: &mut N,
+        params: &Params,
+        n: u64,
+    ) -> Result<(), Fail<Trouble>>
+        requires { IsDimension self.old.depth }
+        ensures traced { EndsAsAbove result self.new (N.heap nodes.new) (with_box params.now self.old n (N.heap nodes.old)) }
+        ensures depth { OnOk result (IsDimension self.new.depth) }
+    {
+        let fields = match box_fields(nodes, n) {
+            Ok(fields) => fields,
+            Err(why) => return Err(Fail::Is(why)),
+        };
+        follow(nodes, self.last, Some(n))?;
+        if let Some(last) = self.last {
+            make_interline(nodes, params, self.depth, fields.height, last, n)?;
+        }
+        self.first = self.first.or(Some(n));
+        self.last = Some(n);
+        self.depth = fields.depth;
+        Ok(())
+    }
+
+    /// Puts the penalty after a line at the end, unless it is 0. Refuses as the making of a node.
+    pub fn push_penalty<N: Nodes>(
+        &mut self,
+        nodes: &mut N,
+        params: &Params,
+        place: Place,
+    ) -> Result<(), Fail<Trouble>>
+        ensures traced { EndsAsAbove result self.new (N.heap nodes.new) (with_penalty (line_penalty params.now place.is_first place.is_before_last place.is_hyphenated) self.old (N.heap nodes.old)) }
+        ensures depth { OnOk result (self.new.depth ≡ self.old.depth) }
+    {
+        let p = line_penalty(params, place);
+        if p != 0 {
+            self.last = Some(make_at_end(nodes, penalty_fields(p), self.last)?);
+        }
+        Ok(())
+    }
+}

@@ -1,0 +1,71 @@
+//! The two ends of a list.
+
+ghost use Rattle.std.specs.Prelude.{◌≡◌, ◌++◌, ◌∷◌, [], List, ℕ};
+ghost use Rattle.ntx_num.specs.Answer.{result_map};
+ghost use Rattle.ntx_nodes.specs.Walk.{flat_walk};
+ghost use Rattle.ntx_lines.specs.inner.Chains.{ends_of};
+
+use ntx_lists::tail;
+use ntx_nodes::{Nodes, Trouble};
+
+/// The first and the last node of a list, which may be empty.
+#[derive(Clone, Copy, Debug, PartialEq, Eq)]
+pub(crate) struct Ends {
+    /// The first node.
+    pub first: Option<u64>,
+    /// The last node.
+    pub last: Option<u64>,
+}
+
+impl Ends {
+    /// Those of the empty list.
+    pub const NONE: Ends = Ends {
+        first: None,
+        last: None,
+    };
+
+    /// Those of a list of these nodes.
+    pub fn of(names: &[u64]) -> Ends
+        ensures { result ≡ ends_of names.now }
+    {
+        Ends {
+            first: names.first().copied(),
+            last: names.last().copied(),
+        }
+    }
+
+    /// Those of a list and then another.
+    pub fn then(self, later: Ends) -> Ends
+        ensures { (one two : List ℕ) → self ≡ ends_of one → later ≡ ends_of two → result ≡ ends_of (one ++ two) }
+    {
+        Ends {
+            first: self.first.or(later.first),
+            last: later.last.or(self.last),
+        }
+    }
+
+    /// Those of a list with one node more at its end.
+    pub fn with_last(self, n: u64) -> Ends
+        ensures { (names : List ℕ) → self ≡ ends_of names → result ≡ ends_of (names ++ n ∷ []) }
+    {
+        self.then(Ends {
+            first: Some(n),
+            last: Some(n),
+        })
+    }
+}
+
+/// The ends of the list at a head. Refuses along the list with Stale where a node is dead, and Loop where the list comes to it
+/// a second time.
+pub(crate) fn ends_at<N: Nodes>(nodes: &mut N, head: Option<u64>) -> Result<Ends, Trouble>
+    ensures same { N.heap nodes.new ≡ N.heap nodes.old }
+    ensures answer { result ≡ result_map ends_of (flat_walk (N.heap nodes.old) head) }
+{
+    match head {
+        None => Ok(Ends::NONE),
+        Some(first) => Ok(Ends {
+            first: head,
+            last: Some(tail(nodes, first)?),
+        }),
+    }
+}

@@ -1,0 +1,166 @@
+//! All lines of a paragraph.
+
+ghost use Rattle.std.specs.Prelude.{◌≡◌, ℕ, List, [], length, OnOk};
+ghost use Rattle.ntx_num.specs.Answer.{Traces};
+ghost use Rattle.ntx_num.specs.Dimension.{IsDimension};
+ghost use Rattle.ntx_breaks.specs.Chosen.{breaks_seen};
+ghost use Rattle.ntx_lines.specs.Trace.{states};
+ghost use Rattle.ntx_lines.specs.Above.{nothing_above};
+ghost use Rattle.ntx_lines.specs.Parts.{parts_of};
+ghost use Rattle.ntx_lines.specs.Parts as parts;
+ghost use Rattle.ntx_lines.specs.Lines.{AreBreaksOf, RefusesAs, boxed, line_made, lines_made};
+ghost use Rattle.ntx_lines.specs.Lines as pass;
+ghost use Rattle.ntx_lines.specs.inner.Chains.{ends_of, part_seen, EndsAs, EndsAsAbove, EndsAsMade};
+
+use crate::above::{Above, Place};
+use crate::ends::Ends;
+use crate::line_box::pack_line;
+use crate::line_end::{discard, end_line};
+use crate::part::{Matter, Part};
+use crate::skips::{make_leftskip, make_rightskip};
+use ntx_breaks::Breaks;
+use ntx_item::Params;
+use ntx_nodes::{ListKind, Nodes, Trouble, Way, names_reached};
+use ntx_num::Fail;
+use ntx_tfm::Font;
+use ntx_view::items;
+use std::alloc::Global;
+
+/// The nodes of a line in a box at the end of the vertical list.
+fn push_line<N: Nodes>(
+    alloc: Global,
+    nodes: &mut N,
+    fonts: &[Font],
+    params: &Params,
+    above: &mut Above,
+    line: Ends,
+) -> Result<(), Fail<Trouble>>
+    requires { IsDimension above.old.depth }
+    ensures traced { (names : List ℕ) → line ≡ ends_of names → EndsAsAbove result above.new (N.heap nodes.new) (boxed fonts.now params.now above.old names (N.heap nodes.old)) }
+    ensures depth { OnOk result (IsDimension above.new.depth) }
+{
+    let head = make_leftskip(nodes, params, line.first)?;
+    let n = pack_line(alloc, nodes, fonts, params, head)?;
+    above.push_box(nodes, params, n)
+}
+
+/// Makes one line, after which so many come later, and puts it into the vertical list. Gives the ends of what begins the next
+/// line.
+fn make_line<N: Nodes>(
+    alloc: Global,
+    nodes: &mut N,
+    fonts: &[Font],
+    params: &Params,
+    above: &mut Above,
+    front: Ends,
+    part: Part,
+    later: usize,
+) -> Result<Ends, Fail<Trouble>>
+    requires { IsDimension above.old.depth }
+    ensures traced { (names : List ℕ) (rest : List parts.Part) → front ≡ ends_of names → later ≡ length rest → EndsAsMade result above.new (N.heap nodes.new) (line_made fonts.now params.now above.old names (part_seen part) rest (N.heap nodes.old)) }
+    ensures depth { OnOk result (IsDimension above.new.depth) }
+{
+    let is_first = above.first.is_none();
+    let body = front.then(Ends::of(part.body));
+    let ended = end_line(nodes, params, body, part.at, part.after)?;
+    let line = if ended.has_rightskip {
+        ended.line
+    } else {
+        make_rightskip(nodes, params, ended.line)?
+    };
+    discard(nodes, part.discarded)?;
+    push_line(alloc, nodes, fonts, params, above, line)?;
+    if later > 0 {
+        let place = Place {
+            is_first,
+            is_before_last: later == 1,
+            is_hyphenated: ended.is_hyphenated,
+        };
+        above.push_penalty(nodes, params, place)?;
+    }
+    Ok(ended.front)
+}
+
+/// Makes the lines that end at these places.
+fn make_lines<N: Nodes>(
+    alloc: Global,
+    nodes: &mut N,
+    fonts: &[Font],
+    params: &Params,
+    matter: Matter,
+    places: &[u64],
+) -> Result<Above, Fail<Trouble>>
+    ensures traced { EndsAs result (N.heap nodes.new) (lines_made fonts.now params.now nothing_above [] (parts_of matter.items.now matter.names.now 0 places.now) (N.heap nodes.old)) }
+{
+    let mut above = Above::nothing();
+    let mut front = Ends::NONE;
+    let mut from = 0;
+    for i in 0..places.len() {
+        let to = places[i] as usize;
+        let later = &places[i + 1..];
+        let part = matter.part(from, to, later);
+        front = make_line(
+            alloc,
+            nodes,
+            fonts,
+            params,
+            &mut above,
+            front,
+            part,
+            later.len(),
+        )?;
+        from = to;
+    }
+    Ok(above)
+}
+
+/// Makes a vertical list of lines from the horizontal list at a head ("TeX: The Program", sections 876 to 890), and gives its
+/// head and the number of lines. The breaks have to be those that `break_items` gives of the list's items and the parameters.
+///
+/// Each line is made before the next one, in this order:
+///
+/// 1. Glue at its break becomes `rightskip`, an explicit kern there becomes 0, and a penalty stays. A discretionary is
+///    replaced by what it shows before the break; what it shows without one is freed, what it shows after it begins the next
+///    line, and it is freed itself. Then nothing follows the line.
+/// 2. `rightskip` is made at its end, unless glue has become it.
+/// 3. The glue, penalties and explicit kerns directly after the break, up to the next break, are freed, unless a
+///    discretionary shows something after the break.
+/// 4. `leftskip` is made in front, unless its five numbers are 0.
+/// 5. The line is packed to `hsize`, in scaled points, into an hlist of subtype 1, and comes to the end of the vertical list.
+/// 6. If it is not the first line, interline glue is made before it: `baselineskip` less the depth of the line before and the
+///    height of this one, or `lineskip` if that is below `lineskiplimit`.
+/// 7. If it is not the last line, a penalty is made after it, unless it would be 0: `interlinepenalty`, and `clubpenalty`
+///    after the first line, `widowpenalty` before the last, and `brokenpenalty` after a discretionary.
+///
+/// `leftskip` and `rightskip` shrink finitely. What is made has the current attributes.
+///
+/// # Refusals
+///
+/// - First those of `ntx_view::items` for a horizontal list: `Stale`, `Loop`, `Nest`, `WrongKind` and `NoChar`. The heap stays
+///   then.
+/// - `Dimension` where the width, height or depth of a line, or the width of interline glue, is beyond 2^30-1 in absolute
+///   value.
+/// - `NodesFull` if 2^18 nodes are live where a node is to be made, else `NamesOut` if the next name is 2^48.
+///
+/// After one of the last three, and after running out of memory, what was done before is done.
+pub fn lines<N: Nodes>(
+    alloc: Global,
+    nodes: &mut N,
+    fonts: &[Font],
+    head: u64,
+    b: &Breaks,
+    params: &Params,
+) -> Result<(u64, u64), Fail<Trouble>>
+    requires { AreBreaksOf (N.heap nodes.old) fonts.now head params.now b.now }
+    ensures traced { let made = pass.lines fonts.now params.now head (breaks_seen b.now).places (N.heap nodes.old) in Traces result (N.heap nodes.new) (states made) made.ending }
+    ensures refused { RefusesAs (N.heap nodes.old) fonts.now head result }
+{
+    let items = items(alloc, nodes, fonts, Some(head), ListKind::H)?;
+    let names = names_reached(alloc, nodes, Way::Flat, Some(head), ListKind::H)?;
+    let matter = Matter {
+        items: &items,
+        names: &names,
+    };
+    let above = make_lines(alloc, nodes, fonts, params, matter, &b.places)?;
+    Ok((above.first.unwrap_or(head), b.places.len() as u64))
+}
