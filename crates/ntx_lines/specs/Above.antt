@@ -13,7 +13,7 @@ use Rattle.ntx_item.specs.Settings.{Settings}
 use Rattle.ntx_item.specs.declared.glue.GlueSpec.{GlueSpec}
 use Rattle.ntx_pack.specs.Vertical.{interline_glue}
 use Rattle.ntx_lines.specs.declared.above.Above.{Above}
-use Rattle.ntx_lines.specs.Trace.{Trace, stays, trace_and_then}
+use Rattle.ntx_num.specs.Trace.{Trace, stays, trace_and_then}
 use Rattle.ntx_lines.specs.Making.{glue_fields, penalty_fields, follows, made_before, made_at_end}
 use Rattle.ntx_lines.specs.LineBox.{box_fields_at}
 

@@ -1,5 +1,3 @@
--- a pass through several states
-pub mod Trace
 -- what the lines are made of
 pub mod Parts
 -- steps of a line that set fields and make nodes

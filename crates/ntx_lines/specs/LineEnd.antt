@@ -18,7 +18,7 @@ use Rattle.ntx_item.specs.Settings.{Settings}
 use Rattle.ntx_item.specs.declared.glue.GlueSpec.{GlueSpec}
 use Rattle.ntx_lists.specs.Survey.{last_from}
 use Rattle.ntx_lists.specs.Trees.{flush_list_step}
-use Rattle.ntx_lines.specs.Trace.{Trace, stays, stepped, trace_and_then, each_in_turn}
+use Rattle.ntx_num.specs.Trace.{Trace, stays, stepped, trace_and_then, each_in_turn}
 use Rattle.ntx_lines.specs.Making.{set, sets, follows}
 use Rattle.ntx_lines.specs.Skips.{rightskip_subtype, finite}
 

@@ -17,7 +17,7 @@ use Rattle.ntx_item.specs.declared.item.Item.{Item}
 use Rattle.ntx_view.specs.View.{items_answer}
 use Rattle.ntx_breaks.specs.declared.answer.Breaks.{Breaks}
 use Rattle.ntx_breaks.specs.Chosen.{breaks_seen, breaks_of}
-use Rattle.ntx_lines.specs.Trace.{Trace, stays, trace_and_then}
+use Rattle.ntx_num.specs.Trace.{Trace, stays, trace_and_then}
 use Rattle.ntx_lines.specs.Parts.{Part, parts_of}
 use Rattle.ntx_lines.specs.LineEnd.{Ended, ended, discards}
 use Rattle.ntx_lines.specs.Skips.{with_rightskip, with_leftskip}

@@ -17,7 +17,7 @@ use Rattle.ntx_nodes.specs.declared.fields.Contents.TheVariants as contents
 use Rattle.ntx_nodes.specs.declared.fields.Fields.{Fields}
 use Rattle.ntx_nodes.specs.declared.trouble.Trouble.{Trouble}
 use Rattle.ntx_item.specs.declared.glue.GlueSpec.{GlueSpec}
-use Rattle.ntx_lines.specs.Trace.{Trace, stays, stepped, trace_and_then, each_in_turn}
+use Rattle.ntx_num.specs.Trace.{Trace, stays, stepped, trace_and_then, each_in_turn}
 
 -- ---- fields
 abbrev pub set : ℕ → Field × FieldValue → Heap → Trace Heap (Unit {0}) Trouble

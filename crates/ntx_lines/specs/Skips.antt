@@ -9,7 +9,7 @@ use Rattle.ntx_nodes.specs.declared.trouble.Trouble.{Trouble}
 use Rattle.ntx_item.specs.Settings.{Settings}
 use Rattle.ntx_item.specs.declared.glue.GlueSpec.{GlueSpec}
 use Rattle.ntx_lists.specs.Survey.{last_from}
-use Rattle.ntx_lines.specs.Trace.{Trace, stays, trace_and_then}
+use Rattle.ntx_num.specs.Trace.{Trace, stays, trace_and_then}
 use Rattle.ntx_lines.specs.Making.{glue_fields, made_before, made_at_end}
 
 -- subtypes of glue

@@ -4,7 +4,8 @@ ghost use Rattle.std.specs.Prelude.{◌≡◌, OnOk};
 ghost use Rattle.ntx_num.specs.Dimension.{IsDimension};
 ghost use Rattle.ntx_num.specs.Answer.{Answers};
 ghost use Rattle.ntx_lines.specs.Above.{nothing_above, interline_subtype, checked_glue, interline, with_box, line_penalty, only_if, with_penalty};
-ghost use Rattle.ntx_lines.specs.inner.Chains.{EndsAs, EndsAsAbove};
+ghost use Rattle.ntx_num.specs.Trace.{EndsAs};
+ghost use Rattle.ntx_lines.specs.inner.Chains.{EndsAsAbove};
 
 use crate::line_box::box_fields;
 use crate::making::{follow, glue_fields, make_at_end, make_before, penalty_fields};

@@ -2,7 +2,7 @@
 
 ghost use Rattle.std.specs.Prelude.{◌≡◌};
 ghost use Rattle.ntx_lines.specs.LineBox.{box_fields_at, line_box};
-ghost use Rattle.ntx_lines.specs.inner.Chains.{EndsAs};
+ghost use Rattle.ntx_num.specs.Trace.{EndsAs};
 
 use crate::making::set;
 use ntx_item::{PackTo, Param, Params};

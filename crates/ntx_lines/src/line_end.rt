@@ -2,7 +2,8 @@
 
 ghost use Rattle.std.specs.Prelude.{◌≡◌, Some};
 ghost use Rattle.ntx_lines.specs.LineEnd.{discards, ended, ends_at_disc, replaced, rightskip_values};
-ghost use Rattle.ntx_lines.specs.inner.Chains.{whole_line, with_memory, EndsAs, EndsAsLine, EndsAsReplaced};
+ghost use Rattle.ntx_num.specs.Trace.{EndsAs};
+ghost use Rattle.ntx_lines.specs.inner.Chains.{whole_line, with_memory, EndsAsLine, EndsAsReplaced};
 
 use crate::ends::{Ends, ends_at};
 use crate::making::{follow, set, set_all};

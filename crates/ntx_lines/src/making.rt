@@ -4,7 +4,7 @@ ghost use Rattle.std.specs.Prelude.{◌≡◌};
 ghost use Rattle.ntx_nodes.specs.Writing.{AreMakable};
 ghost use Rattle.ntx_lines.specs.Making.{glue_fields, penalty_fields, follows, sets, made_before, made_at_end};
 ghost use Rattle.ntx_lines.specs.Making as made;
-ghost use Rattle.ntx_lines.specs.inner.Chains.{EndsAs};
+ghost use Rattle.ntx_num.specs.Trace.{EndsAs};
 
 use ntx_item::GlueSpec;
 use ntx_nodes::{Contents, Field, FieldValue, Fields, GlueFields, Nodes, Trouble, make_current};

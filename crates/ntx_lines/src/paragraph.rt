@@ -4,13 +4,13 @@ ghost use Rattle.std.specs.Prelude.{◌≡◌, ℕ, List, [], length, OnOk};
 ghost use Rattle.ntx_num.specs.Answer.{Traces};
 ghost use Rattle.ntx_num.specs.Dimension.{IsDimension};
 ghost use Rattle.ntx_breaks.specs.Chosen.{breaks_seen};
-ghost use Rattle.ntx_lines.specs.Trace.{states};
+ghost use Rattle.ntx_num.specs.Trace.{states, EndsAs};
 ghost use Rattle.ntx_lines.specs.Above.{nothing_above};
 ghost use Rattle.ntx_lines.specs.Parts.{parts_of};
 ghost use Rattle.ntx_lines.specs.Parts as parts;
 ghost use Rattle.ntx_lines.specs.Lines.{AreBreaksOf, RefusesAs, boxed, line_made, lines_made};
 ghost use Rattle.ntx_lines.specs.Lines as pass;
-ghost use Rattle.ntx_lines.specs.inner.Chains.{ends_of, part_seen, EndsAs, EndsAsAbove, EndsAsMade};
+ghost use Rattle.ntx_lines.specs.inner.Chains.{ends_of, part_seen, EndsAsAbove, EndsAsMade};
 
 use crate::above::{Above, Place};
 use crate::ends::Ends;

@@ -3,7 +3,8 @@
 ghost use Rattle.std.specs.Prelude.{◌≡◌};
 ghost use Rattle.ntx_item.specs.Parameters.{IsGlueInRange};
 ghost use Rattle.ntx_lines.specs.Skips.{finite, is_zero_glue, with_leftskip, with_rightskip};
-ghost use Rattle.ntx_lines.specs.inner.Chains.{EndsAs, EndsAsNames};
+ghost use Rattle.ntx_num.specs.Trace.{EndsAs};
+ghost use Rattle.ntx_lines.specs.inner.Chains.{EndsAsNames};
 
 use crate::ends::Ends;
 use crate::making::{glue_fields, make_at_end, make_before};

@@ -6,7 +6,7 @@ use Rattle.ntx_nodes.specs.Heap.{Heap}
 use Rattle.ntx_nodes.specs.declared.trouble.Trouble.{Trouble}
 use Rattle.ntx_item.specs.declared.item.Item.{Item}
 use Rattle.ntx_lists.specs.Survey.{last_from}
-use Rattle.ntx_lines.specs.Trace.{Trace, states}
+use Rattle.ntx_num.specs.Trace.{Trace, EndsAs, Passes}
 use Rattle.ntx_lines.specs.declared.above.Above.{Above}
 use Rattle.ntx_lines.specs.LineEnd as line_end
 use Rattle.ntx_lines.specs.declared.ends.Ends.{Ends}
@@ -16,20 +16,12 @@ use Rattle.ntx_lines.specs.Parts.{Part}
 
 -- ---- traces
 
--- a state is one of a trace
-abbrev pub Passes : {S A E : Type 0} → Trace S A E → S → Type 0
-Passes {S} t s = (before : List S) × (more : List S) × (states t ≡ before ++ s ∷ more)
-
 -- The call goes through the trace and ends in its last state, with a value or a refusal that its ending stands for. Where memory ran out it
 -- stopped in one of its states.
 abbrev pub EndsLike : {S A B E : Type 0} → (A → B → Type 0) → Result A (Fail E) → S → Trace S B E → Type 0
 EndsLike {B = B} same (Ok a) new t = (b : B) × (t.ending ≡ Ok b) × same a b × (t.last ≡ new)
 EndsLike same (Err (Is e)) new t = (t.ending ≡ Err e) × (t.last ≡ new)
 EndsLike same (Err NoMemory) new t = Passes t new
-
--- with the same value
-abbrev pub EndsAs : {S A E : Type 0} → Result A (Fail E) → S → Trace S A E → Type 0
-EndsAs result new t = EndsLike (λ a b. a ≡ b) result new t
 
 -- an answer of a call that takes no memory, as one of a call that takes some
 abbrev pub with_memory : {A E : Type 0} → Result A E → Result A (Fail E)
