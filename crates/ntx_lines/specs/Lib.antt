@@ -1,3 +1,5 @@
+-- the ends of lists
+pub mod Ends
 -- what the lines are made of
 pub mod Parts
 -- steps of a line that set fields and make nodes
@@ -10,7 +12,7 @@ pub mod Skips
 pub mod LineBox
 -- the vertical list: glue and penalties between lines
 pub mod Above
--- the whole pass
-pub mod Lines
 -- what private calls say among themselves
 pub mod inner
+-- the whole pass
+pub mod Lines

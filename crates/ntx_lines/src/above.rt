@@ -1,14 +1,13 @@
 //! The vertical list of a paragraph.
 
-ghost use Rattle.std.specs.Prelude.{◌≡◌, OnOk};
-ghost use Rattle.ntx_num.specs.Dimension.{IsDimension};
+ghost use Rattle.std.specs.Prelude.{◌≡◌, IfOk};
+ghost use Rattle.ntx_num.specs.Dimension.{IsDimension, IsWithin, max_penalty};
 ghost use Rattle.ntx_num.specs.Answer.{Answers};
-ghost use Rattle.ntx_lines.specs.Above.{nothing_above, interline_subtype, checked_glue, interline, with_box, line_penalty, only_if, with_penalty};
+ghost use Rattle.ntx_lines.specs.Above.{nothing_above, above_with, interline_subtype, checked_glue, interline, interline_after, with_box, line_penalty, only_if, with_penalty};
 ghost use Rattle.ntx_num.specs.Trace.{EndsAs};
-ghost use Rattle.ntx_lines.specs.inner.Chains.{EndsAsAbove};
 
 use crate::line_box::box_fields;
-use crate::making::{follow, glue_fields, make_at_end, make_before, penalty_fields};
+use crate::making::{answer, follow, glue_fields, make_at_end, make_before, penalty_fields};
 use ntx_item::{GlueParam, GlueSpec, Param, Params};
 use ntx_nodes::{Nodes, Trouble};
 use ntx_num::{Fail, is_dimension};
@@ -84,6 +83,25 @@ fn make_interline<N: Nodes>(
     follow(nodes, Some(last), Some(glue))
 }
 
+/// The same after the last node of a list, or nothing if the list has no nodes.
+fn make_interline_after<N: Nodes>(
+    nodes: &mut N,
+    params: &Params,
+    depth: i64,
+    height: i64,
+    last: Option<u64>,
+    n: u64,
+) -> Result<(), Fail<Trouble>>
+    requires depth { IsDimension depth }
+    requires height { IsDimension height }
+    ensures traced { EndsAs result (N.heap nodes.new) (interline_after params.now depth height last n (N.heap nodes.old)) }
+{
+    match last {
+        None => Ok(()),
+        Some(last) => make_interline(nodes, params, depth, height, last, n),
+    }
+}
+
 /// A number, or 0.
 fn only_if(test: bool, p: i64) -> i64
     ensures { result ≡ only_if test p }
@@ -92,8 +110,9 @@ fn only_if(test: bool, p: i64) -> i64
 }
 
 /// The penalty after a line.
-fn line_penalty(params: &Params, place: Place) -> i64
-    ensures { result ≡ line_penalty params.now place.is_first place.is_before_last place.is_hyphenated }
+pub(crate) fn line_penalty(params: &Params, place: Place) -> i64
+    ensures value { result ≡ line_penalty params.now place.is_first place.is_before_last place.is_hyphenated }
+    ensures in_range { IsWithin max_penalty result }
 {
     params.get(Param::Interlinepenalty)
         + only_if(place.is_first, params.get(Param::Clubpenalty))
@@ -113,46 +132,48 @@ impl Above {
         }
     }
 
+    /// With this node more, a box of this depth.
+    fn with(self, n: u64, depth: i64) -> Above
+        ensures { result ≡ above_with self n depth }
+    {
+        Above {
+            first: self.first.or(Some(n)),
+            last: Some(n),
+            depth,
+        }
+    }
+
     /// Puts a box at the end, after interline glue if it is not the first one. Refuses with Dimension where the glue is wider
     /// than a node can be, and as the making of a node.
-    pub fn push_box<N: Nodes>(
-        &mut self,
+    pub fn with_box<N: Nodes>(
+        self,
         nodes: &mut N,
         params: &Params,
         n: u64,
-    ) -> Result<(), Fail<Trouble>>
-        requires { IsDimension self.old.depth }
-        ensures traced { EndsAsAbove result self.new (N.heap nodes.new) (with_box params.now self.old n (N.heap nodes.old)) }
-        ensures depth { OnOk result (IsDimension self.new.depth) }
+    ) -> Result<Above, Fail<Trouble>>
+        requires { IsDimension self.depth }
+        ensures traced { EndsAs result (N.heap nodes.new) (with_box params.now self n (N.heap nodes.old)) }
+        ensures depth { IfOk result (λ above. IsDimension above.depth) }
     {
-        let fields = match box_fields(nodes, n) {
-            Ok(fields) => fields,
-            Err(why) => return Err(Fail::Is(why)),
-        };
+        let fields = answer(box_fields(nodes, n))?;
         follow(nodes, self.last, Some(n))?;
-        if let Some(last) = self.last {
-            make_interline(nodes, params, self.depth, fields.height, last, n)?;
-        }
-        self.first = self.first.or(Some(n));
-        self.last = Some(n);
-        self.depth = fields.depth;
-        Ok(())
+        make_interline_after(nodes, params, self.depth, fields.height, self.last, n)?;
+        Ok(self.with(n, fields.depth))
     }
 
-    /// Puts the penalty after a line at the end, unless it is 0. Refuses as the making of a node.
-    pub fn push_penalty<N: Nodes>(
-        &mut self,
-        nodes: &mut N,
-        params: &Params,
-        place: Place,
-    ) -> Result<(), Fail<Trouble>>
-        ensures traced { EndsAsAbove result self.new (N.heap nodes.new) (with_penalty (line_penalty params.now place.is_first place.is_before_last place.is_hyphenated) self.old (N.heap nodes.old)) }
-        ensures depth { OnOk result (self.new.depth ≡ self.old.depth) }
+    /// Puts a penalty at the end, unless it is 0. Refuses as the making of a node.
+    pub fn with_penalty<N: Nodes>(self, nodes: &mut N, p: i64) -> Result<Above, Fail<Trouble>>
+        requires { IsWithin max_penalty p }
+        ensures traced { EndsAs result (N.heap nodes.new) (with_penalty p self (N.heap nodes.old)) }
+        ensures depth { IfOk result (λ above. above.depth ≡ self.depth) }
     {
-        let p = line_penalty(params, place);
-        if p != 0 {
-            self.last = Some(make_at_end(nodes, penalty_fields(p), self.last)?);
+        if p == 0 {
+            return Ok(self);
         }
-        Ok(())
+        let n = make_at_end(nodes, penalty_fields(p), self.last)?;
+        Ok(Above {
+            last: Some(n),
+            ..self
+        })
     }
 }

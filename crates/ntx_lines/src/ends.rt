@@ -1,9 +1,9 @@
 //! The two ends of a list.
 
-ghost use Rattle.std.specs.Prelude.{◌≡◌, ◌++◌, ◌∷◌, [], List, ℕ};
+ghost use Rattle.std.specs.Prelude.{◌≡◌};
 ghost use Rattle.ntx_num.specs.Answer.{result_map};
 ghost use Rattle.ntx_nodes.specs.Walk.{flat_walk};
-ghost use Rattle.ntx_lines.specs.inner.Chains.{ends_of};
+ghost use Rattle.ntx_lines.specs.Ends.{ends_of, joined, no_nodes, with_last};
 
 use ntx_lists::tail;
 use ntx_nodes::{Nodes, Trouble};
@@ -19,10 +19,14 @@ pub(crate) struct Ends {
 
 impl Ends {
     /// Those of the empty list.
-    pub const NONE: Ends = Ends {
-        first: None,
-        last: None,
-    };
+    pub fn none() -> Ends
+        ensures { result ≡ no_nodes }
+    {
+        Ends {
+            first: None,
+            last: None,
+        }
+    }
 
     /// Those of a list of these nodes.
     pub fn of(names: &[u64]) -> Ends
@@ -36,7 +40,7 @@ impl Ends {
 
     /// Those of a list and then another.
     pub fn then(self, later: Ends) -> Ends
-        ensures { (one two : List ℕ) → self ≡ ends_of one → later ≡ ends_of two → result ≡ ends_of (one ++ two) }
+        ensures { result ≡ joined self later }
     {
         Ends {
             first: self.first.or(later.first),
@@ -46,7 +50,7 @@ impl Ends {
 
     /// Those of a list with one node more at its end.
     pub fn with_last(self, n: u64) -> Ends
-        ensures { (names : List ℕ) → self ≡ ends_of names → result ≡ ends_of (names ++ n ∷ []) }
+        ensures { result ≡ with_last self n }
     {
         self.then(Ends {
             first: Some(n),
@@ -62,7 +66,7 @@ pub(crate) fn ends_at<N: Nodes>(nodes: &mut N, head: Option<u64>) -> Result<Ends
     ensures answer { result ≡ result_map ends_of (flat_walk (N.heap nodes.old) head) }
 {
     match head {
-        None => Ok(Ends::NONE),
+        None => Ok(Ends::none()),
         Some(first) => Ok(Ends {
             first: head,
             last: Some(tail(nodes, first)?),

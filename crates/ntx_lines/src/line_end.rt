@@ -1,12 +1,11 @@
 //! The end of a line, at its break.
 
-ghost use Rattle.std.specs.Prelude.{◌≡◌, Some};
-ghost use Rattle.ntx_lines.specs.LineEnd.{discards, ended, ends_at_disc, replaced, rightskip_values};
+ghost use Rattle.std.specs.Prelude.{◌≡◌, ◌∷◌, [], Some};
+ghost use Rattle.ntx_lines.specs.LineEnd.{discards, ended, ends_at, ends_at_disc, ends_with, kern_values, nothing_after, replaced, rightskip_values, whole_line};
 ghost use Rattle.ntx_num.specs.Trace.{EndsAs};
-ghost use Rattle.ntx_lines.specs.inner.Chains.{whole_line, with_memory, EndsAsLine, EndsAsReplaced};
 
 use crate::ends::{Ends, ends_at};
-use crate::making::{follow, set, set_all};
+use crate::making::{answer, follow, set_all};
 use crate::skips::{RIGHTSKIP, rightskip};
 use ntx_item::Params;
 use ntx_lists::flush_list;
@@ -33,20 +32,10 @@ impl Ended {
     {
         Ended {
             line,
-            front: Ends::NONE,
+            front: Ends::none(),
             has_rightskip,
             is_hyphenated: false,
         }
-    }
-}
-
-/// The answer of a call that takes no memory, as one of a call that takes some.
-fn answer<A>(found: Result<A, Trouble>) -> Result<A, Fail<Trouble>>
-    ensures { result ≡ with_memory found }
-{
-    match found {
-        Ok(a) => Ok(a),
-        Err(why) => Err(Fail::Is(why)),
     }
 }
 
@@ -72,21 +61,52 @@ fn rightskip_values(params: &Params) -> [(Field, FieldValue); 7]
     ]
 }
 
+/// What a kern at a break gets, which comes to nothing.
+fn kern_values() -> [(Field, FieldValue); 2]
+    ensures { result.now ≡ kern_values }
+{
+    [
+        (Field::Kern, FieldValue::Number(0)),
+        (Field::Next, FieldValue::Link(None)),
+    ]
+}
+
+/// What any other node at a break gets, unless it is a discretionary: nothing follows it.
+fn last_values() -> [(Field, FieldValue); 1]
+    ensures { result.now ≡ nothing_after ∷ [] }
+{
+    [(Field::Next, FieldValue::Link(None))]
+}
+
+/// Ends a line with a node that stays and gets these values.
+fn end_with<N: Nodes>(
+    nodes: &mut N,
+    body: Ends,
+    n: u64,
+    has_rightskip: bool,
+    values: &[(Field, FieldValue)],
+) -> Result<Ended, Fail<Trouble>>
+    ensures traced { EndsAs result (N.heap nodes.new) (ends_with body n has_rightskip values.now (N.heap nodes.old)) }
+{
+    set_all(nodes, n, values)?;
+    Ok(Ended::whole(body.with_last(n), has_rightskip))
+}
+
 /// Replaces a discretionary at a break by what it shows before the break. What it shows without a break is freed, what it shows
-/// after the break comes in front of the nodes after it, and it is freed itself.
+/// after the break comes in front of the node after it, and it is freed itself.
 fn replace_disc<N: Nodes>(
     nodes: &mut N,
     before: Option<u64>,
     n: u64,
     disc: DiscFields,
-    post: Ends,
+    last_of_post: Option<u64>,
     after: Option<u64>,
 ) -> Result<(), Fail<Trouble>>
-    ensures traced { EndsAsReplaced before post result (N.heap nodes.new) (λ body names. replaced body n disc names after (N.heap nodes.old)) }
+    ensures traced { EndsAs result (N.heap nodes.new) (replaced before n disc last_of_post after (N.heap nodes.old)) }
 {
     follow(nodes, before, disc.pre)?;
     answer(flush_list(nodes, disc.replace))?;
-    follow(nodes, post.last, after)?;
+    follow(nodes, last_of_post, after)?;
     answer(nodes.free_one(n))
 }
 
@@ -98,11 +118,11 @@ fn end_at_disc<N: Nodes>(
     disc: DiscFields,
     after: Option<u64>,
 ) -> Result<Ended, Fail<Trouble>>
-    ensures traced { EndsAsLine body result (N.heap nodes.new) (λ names. ends_at_disc names n disc after (N.heap nodes.old)) }
+    ensures traced { EndsAs result (N.heap nodes.new) (ends_at_disc body n disc after (N.heap nodes.old)) }
 {
     let pre = answer(ends_at(nodes, disc.pre))?;
     let post = answer(ends_at(nodes, disc.post))?;
-    replace_disc(nodes, body.last, n, disc, post, after)?;
+    replace_disc(nodes, body.last, n, disc, post.last, after)?;
     Ok(Ended {
         line: body.then(pre),
         front: post,
@@ -111,33 +131,23 @@ fn end_at_disc<N: Nodes>(
     })
 }
 
-/// Ends a line at a node: glue becomes rightskip, a kern comes to nothing, a discretionary is replaced by what it shows before
-/// the break, and anything else stays. Nothing follows the line then.
+/// Ends a line at a node with these contents: glue becomes rightskip, a kern comes to nothing, a discretionary is replaced by
+/// what it shows before the break, and anything else stays. Nothing follows the line then.
 fn end_at<N: Nodes>(
     nodes: &mut N,
     params: &Params,
     body: Ends,
     n: u64,
     after: Option<u64>,
+    contents: Contents,
 ) -> Result<Ended, Fail<Trouble>>
-    ensures traced { EndsAsLine body result (N.heap nodes.new) (λ names. ended params.now names (Some n) after (N.heap nodes.old)) }
+    ensures traced { EndsAs result (N.heap nodes.new) (ends_at params.now body n after contents (N.heap nodes.old)) }
 {
-    let fields = answer(nodes.fields(n))?;
-    match fields.contents {
-        Contents::Glue(_) => {
-            set_all(nodes, n, &rightskip_values(params))?;
-            Ok(Ended::whole(body.with_last(n), true))
-        }
-        Contents::Kern(_) => {
-            set(nodes, n, Field::Kern, FieldValue::Number(0))?;
-            follow(nodes, Some(n), None)?;
-            Ok(Ended::whole(body.with_last(n), false))
-        }
+    match contents {
+        Contents::Glue(_) => end_with(nodes, body, n, true, &rightskip_values(params)),
+        Contents::Kern(_) => end_with(nodes, body, n, false, &kern_values()),
         Contents::Disc(disc) => end_at_disc(nodes, body, n, disc, after),
-        _ => {
-            follow(nodes, Some(n), None)?;
-            Ok(Ended::whole(body.with_last(n), false))
-        }
+        _ => end_with(nodes, body, n, false, &last_values()),
     }
 }
 
@@ -149,12 +159,13 @@ pub(crate) fn end_line<N: Nodes>(
     at: Option<u64>,
     after: Option<u64>,
 ) -> Result<Ended, Fail<Trouble>>
-    ensures traced { EndsAsLine body result (N.heap nodes.new) (λ names. ended params.now names at after (N.heap nodes.old)) }
+    ensures traced { EndsAs result (N.heap nodes.new) (ended params.now body at after (N.heap nodes.old)) }
 {
-    match at {
-        None => Ok(Ended::whole(body, false)),
-        Some(n) => end_at(nodes, params, body, n, after),
-    }
+    let Some(n) = at else {
+        return Ok(Ended::whole(body, false));
+    };
+    let fields = answer(nodes.fields(n))?;
+    end_at(nodes, params, body, n, after, fields.contents)
 }
 
 /// Frees what a break discards.

@@ -5,10 +5,21 @@ ghost use Rattle.ntx_nodes.specs.Writing.{AreMakable};
 ghost use Rattle.ntx_lines.specs.Making.{glue_fields, penalty_fields, follows, sets, made_before, made_at_end};
 ghost use Rattle.ntx_lines.specs.Making as made;
 ghost use Rattle.ntx_num.specs.Trace.{EndsAs};
+ghost use Rattle.ntx_lines.specs.inner.Answers.{with_memory};
 
 use ntx_item::GlueSpec;
 use ntx_nodes::{Contents, Field, FieldValue, Fields, GlueFields, Nodes, Trouble, make_current};
 use ntx_num::Fail;
+
+/// The answer of a call that takes no memory, as one of a call that takes some.
+pub(crate) fn answer<A>(found: Result<A, Trouble>) -> Result<A, Fail<Trouble>>
+    ensures { result ≡ with_memory found }
+{
+    match found {
+        Ok(a) => Ok(a),
+        Err(why) => Err(Fail::Is(why)),
+    }
+}
 
 /// Puts a value into a field of a node. Refuses as `Nodes::set`.
 pub(crate) fn set<N: Nodes>(
@@ -19,10 +30,7 @@ pub(crate) fn set<N: Nodes>(
 ) -> Result<(), Fail<Trouble>>
     ensures traced { EndsAs result (N.heap nodes.new) (made.set n (f, v) (N.heap nodes.old)) }
 {
-    match nodes.set(n, f, v) {
-        Ok(()) => Ok(()),
-        Err(why) => Err(Fail::Is(why)),
-    }
+    answer(nodes.set(n, f, v))
 }
 
 /// Puts values into fields of a node, one after another. Refuses as `Nodes::set`.

@@ -1,21 +1,21 @@
 //! All lines of a paragraph.
 
-ghost use Rattle.std.specs.Prelude.{◌≡◌, ℕ, List, [], length, OnOk};
+ghost use Rattle.std.specs.Prelude.{◌≡◌, length, IfOk};
 ghost use Rattle.ntx_num.specs.Answer.{Traces};
 ghost use Rattle.ntx_num.specs.Dimension.{IsDimension};
-ghost use Rattle.ntx_breaks.specs.Chosen.{breaks_seen};
 ghost use Rattle.ntx_num.specs.Trace.{states, EndsAs};
+ghost use Rattle.ntx_breaks.specs.Chosen.{breaks_seen};
 ghost use Rattle.ntx_lines.specs.Above.{nothing_above};
+ghost use Rattle.ntx_lines.specs.Ends.{no_nodes};
 ghost use Rattle.ntx_lines.specs.Parts.{parts_of};
-ghost use Rattle.ntx_lines.specs.Parts as parts;
-ghost use Rattle.ntx_lines.specs.Lines.{AreBreaksOf, RefusesAs, boxed, line_made, lines_made};
+ghost use Rattle.ntx_lines.specs.Lines.{boxed, line_made, lines_made, penalized, with_right};
 ghost use Rattle.ntx_lines.specs.Lines as pass;
-ghost use Rattle.ntx_lines.specs.inner.Chains.{ends_of, part_seen, EndsAsAbove, EndsAsMade};
+ghost use Rattle.ntx_lines.specs.inner.Seen.{part_seen};
 
-use crate::above::{Above, Place};
+use crate::above::{Above, Place, line_penalty};
 use crate::ends::Ends;
 use crate::line_box::pack_line;
-use crate::line_end::{discard, end_line};
+use crate::line_end::{Ended, discard, end_line};
 use crate::part::{Matter, Part};
 use crate::skips::{make_leftskip, make_rightskip};
 use ntx_breaks::Breaks;
@@ -26,59 +26,85 @@ use ntx_tfm::Font;
 use ntx_view::items;
 use std::alloc::Global;
 
-/// The nodes of a line in a box at the end of the vertical list.
+/// The ends of a line with rightskip at its end.
+fn with_right<N: Nodes>(
+    nodes: &mut N,
+    params: &Params,
+    line: Ended,
+) -> Result<Ends, Fail<Trouble>>
+    ensures traced { EndsAs result (N.heap nodes.new) (with_right params.now line (N.heap nodes.old)) }
+{
+    if line.has_rightskip {
+        return Ok(line.line);
+    }
+    make_rightskip(nodes, params, line.line)
+}
+
+/// The nodes from a head on in a box at the end of the vertical list.
 fn push_line<N: Nodes>(
     alloc: Global,
     nodes: &mut N,
     fonts: &[Font],
     params: &Params,
-    above: &mut Above,
-    line: Ends,
-) -> Result<(), Fail<Trouble>>
-    requires { IsDimension above.old.depth }
-    ensures traced { (names : List ℕ) → line ≡ ends_of names → EndsAsAbove result above.new (N.heap nodes.new) (boxed fonts.now params.now above.old names (N.heap nodes.old)) }
-    ensures depth { OnOk result (IsDimension above.new.depth) }
+    above: Above,
+    head: Option<u64>,
+) -> Result<Above, Fail<Trouble>>
+    requires { IsDimension above.depth }
+    ensures traced { EndsAs result (N.heap nodes.new) (boxed fonts.now params.now above head (N.heap nodes.old)) }
+    ensures depth { IfOk result (λ above. IsDimension above.depth) }
 {
-    let head = make_leftskip(nodes, params, line.first)?;
-    let n = pack_line(alloc, nodes, fonts, params, head)?;
-    above.push_box(nodes, params, n)
+    let first = make_leftskip(nodes, params, head)?;
+    let n = pack_line(alloc, nodes, fonts, params, first)?;
+    above.with_box(nodes, params, n)
 }
 
-/// Makes one line, after which so many come later, and puts it into the vertical list. Gives the ends of what begins the next
-/// line.
+/// The vertical list with a penalty after a line that so many come after, unless it is the last one.
+fn push_penalty<N: Nodes>(
+    nodes: &mut N,
+    params: &Params,
+    is_first: bool,
+    is_hyphenated: bool,
+    later: usize,
+    above: Above,
+) -> Result<Above, Fail<Trouble>>
+    ensures traced { EndsAs result (N.heap nodes.new) (penalized params.now is_first is_hyphenated later above (N.heap nodes.old)) }
+    ensures depth { IfOk result (λ longer. longer.depth ≡ above.depth) }
+{
+    if later == 0 {
+        return Ok(above);
+    }
+    let place = Place {
+        is_first,
+        is_before_last: later == 1,
+        is_hyphenated,
+    };
+    above.with_penalty(nodes, line_penalty(params, place))
+}
+
+/// Makes one line, after which so many come later, and puts it into the vertical list. Gives the list, and the ends of what
+/// begins the next line.
 fn make_line<N: Nodes>(
     alloc: Global,
     nodes: &mut N,
     fonts: &[Font],
     params: &Params,
-    above: &mut Above,
+    above: Above,
     front: Ends,
     part: Part,
     later: usize,
-) -> Result<Ends, Fail<Trouble>>
-    requires { IsDimension above.old.depth }
-    ensures traced { (names : List ℕ) (rest : List parts.Part) → front ≡ ends_of names → later ≡ length rest → EndsAsMade result above.new (N.heap nodes.new) (line_made fonts.now params.now above.old names (part_seen part) rest (N.heap nodes.old)) }
-    ensures depth { OnOk result (IsDimension above.new.depth) }
+) -> Result<(Above, Ends), Fail<Trouble>>
+    requires { IsDimension above.depth }
+    ensures traced { EndsAs result (N.heap nodes.new) (line_made fonts.now params.now above front (part_seen part) later (N.heap nodes.old)) }
+    ensures depth { IfOk result (λ done. IsDimension done.0.depth) }
 {
-    let is_first = above.first.is_none();
     let body = front.then(Ends::of(part.body));
-    let ended = end_line(nodes, params, body, part.at, part.after)?;
-    let line = if ended.has_rightskip {
-        ended.line
-    } else {
-        make_rightskip(nodes, params, ended.line)?
-    };
+    let line = end_line(nodes, params, body, part.at, part.after)?;
+    let whole = with_right(nodes, params, line)?;
     discard(nodes, part.discarded)?;
-    push_line(alloc, nodes, fonts, params, above, line)?;
-    if later > 0 {
-        let place = Place {
-            is_first,
-            is_before_last: later == 1,
-            is_hyphenated: ended.is_hyphenated,
-        };
-        above.push_penalty(nodes, params, place)?;
-    }
-    Ok(ended.front)
+    let longer = push_line(alloc, nodes, fonts, params, above, whole.first)?;
+    let is_first = above.first.is_none();
+    let longest = push_penalty(nodes, params, is_first, line.is_hyphenated, later, longer)?;
+    Ok((longest, line.front))
 }
 
 /// Makes the lines that end at these places.
@@ -90,32 +116,56 @@ fn make_lines<N: Nodes>(
     matter: Matter,
     places: &[u64],
 ) -> Result<Above, Fail<Trouble>>
-    ensures traced { EndsAs result (N.heap nodes.new) (lines_made fonts.now params.now nothing_above [] (parts_of matter.items.now matter.names.now 0 places.now) (N.heap nodes.old)) }
+    ensures traced { EndsAs result (N.heap nodes.new) (lines_made fonts.now params.now nothing_above no_nodes (parts_of matter.items.now matter.names.now 0 places.now) (N.heap nodes.old)) }
 {
     let mut above = Above::nothing();
-    let mut front = Ends::NONE;
+    let mut front = Ends::none();
     let mut from = 0;
     for i in 0..places.len() {
         let to = places[i] as usize;
         let later = &places[i + 1..];
         let part = matter.part(from, to, later);
-        front = make_line(
+        let (longer, next) = make_line(
             alloc,
             nodes,
             fonts,
             params,
-            &mut above,
+            above,
             front,
             part,
             later.len(),
         )?;
+        above = longer;
+        front = next;
         from = to;
     }
     Ok(above)
 }
 
+/// Reads the items and the names of a list, and makes the lines that end at these places.
+fn make_paragraph<N: Nodes>(
+    alloc: Global,
+    nodes: &mut N,
+    fonts: &[Font],
+    head: u64,
+    places: &[u64],
+    params: &Params,
+) -> Result<(u64, u64), Fail<Trouble>>
+    ensures traced { EndsAs result (N.heap nodes.new) (pass.lines fonts.now params.now head places.now (N.heap nodes.old)) }
+{
+    let items = items(alloc, nodes, fonts, Some(head), ListKind::H)?;
+    let names = names_reached(alloc, nodes, Way::Flat, Some(head), ListKind::H)?;
+    let matter = Matter {
+        items: &items,
+        names: &names,
+    };
+    let above = make_lines(alloc, nodes, fonts, params, matter, places)?;
+    Ok((above.first.unwrap_or(head), places.len() as u64))
+}
+
 /// Makes a vertical list of lines from the horizontal list at a head ("TeX: The Program", sections 876 to 890), and gives its
-/// head and the number of lines. The breaks have to be those that `break_items` gives of the list's items and the parameters.
+/// head and the number of lines. The breaks are meant to be those that `break_items` gives of the list's items and the
+/// parameters.
 ///
 /// Each line is made before the next one, in this order:
 ///
@@ -151,16 +201,7 @@ pub fn lines<N: Nodes>(
     b: &Breaks,
     params: &Params,
 ) -> Result<(u64, u64), Fail<Trouble>>
-    requires { AreBreaksOf (N.heap nodes.old) fonts.now head params.now b.now }
     ensures traced { let made = pass.lines fonts.now params.now head (breaks_seen b.now).places (N.heap nodes.old) in Traces result (N.heap nodes.new) (states made) made.ending }
-    ensures refused { RefusesAs (N.heap nodes.old) fonts.now head result }
 {
-    let items = items(alloc, nodes, fonts, Some(head), ListKind::H)?;
-    let names = names_reached(alloc, nodes, Way::Flat, Some(head), ListKind::H)?;
-    let matter = Matter {
-        items: &items,
-        names: &names,
-    };
-    let above = make_lines(alloc, nodes, fonts, params, matter, &b.places)?;
-    Ok((above.first.unwrap_or(head), b.places.len() as u64))
+    make_paragraph(alloc, nodes, fonts, head, &b.places, params)
 }

@@ -4,7 +4,6 @@ ghost use Rattle.std.specs.Prelude.{◌≡◌};
 ghost use Rattle.ntx_item.specs.Parameters.{IsGlueInRange};
 ghost use Rattle.ntx_lines.specs.Skips.{finite, is_zero_glue, with_leftskip, with_rightskip};
 ghost use Rattle.ntx_num.specs.Trace.{EndsAs};
-ghost use Rattle.ntx_lines.specs.inner.Chains.{EndsAsNames};
 
 use crate::ends::Ends;
 use crate::making::{glue_fields, make_at_end, make_before};
@@ -55,7 +54,7 @@ pub(crate) fn make_rightskip<N: Nodes>(
     params: &Params,
     line: Ends,
 ) -> Result<Ends, Fail<Trouble>>
-    ensures traced { EndsAsNames line result (N.heap nodes.new) (λ names. with_rightskip params.now names (N.heap nodes.old)) }
+    ensures traced { EndsAs result (N.heap nodes.new) (with_rightskip params.now line (N.heap nodes.old)) }
 {
     let n = make_at_end(nodes, glue_fields(RIGHTSKIP, rightskip(params)), line.last)?;
     Ok(line.with_last(n))

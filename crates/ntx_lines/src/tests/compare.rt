@@ -24,6 +24,7 @@ pub enum Wanted {
 }
 
 /// A line that is wanted: its width, height and depth; the sign, order, numerator and denominator of its glue; and its nodes.
+#[derive(Clone, Copy)]
 pub struct Line<'a> {
     pub size: (i64, i64, i64),
     pub glue: (u8, u8, i64, i64),

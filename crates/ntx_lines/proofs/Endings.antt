@@ -1,0 +1,87 @@
+-- How a call of one step ends, and a call that makes a node with the current attributes.
+use Rattle.std.proofs.Common.{◌≡◌, ℕ, Some, Result, Ok, Err, refl, sym, ◌∙◌, ap, subst, inl, inr}
+use Rattle.ntx_num.specs.Answer.{Steps, StepsAtOnce, result_map}
+use Rattle.ntx_num.specs.declared.answer.Fail.{Fail}
+use Rattle.ntx_num.specs.declared.answer.Fail.TheVariants.{NoMemory, Is}
+use Rattle.ntx_num.specs.Trace.{Trace, stays, stepped, trace_and_then, EndsAs}
+use Rattle.ntx_num.proofs.Answers.{same_Ok}
+use Rattle.ntx_num.proofs.Traces.{Begins, begins_stays, begins_step, begins_then, passes_first, ends_later, ends_there, ends_stepped, ends_refused}
+use Rattle.std.specs.Ordering.{nat_cmp}
+use Rattle.std.specs.FinMap as map
+use Rattle.ntx_nodes.specs.Heap.{Attributes, Heap}
+use Rattle.ntx_nodes.specs.Steps.{of_found, put, making, put_attributes, wear_current_step}
+use Rattle.ntx_nodes.specs.Writing.{make_filled_step, make_current_step, StepsInTwo}
+use Rattle.ntx_nodes.specs.declared.fields.Fields.{Fields}
+use Rattle.ntx_nodes.specs.declared.node.Node.{Node}
+use Rattle.ntx_nodes.specs.declared.trouble.Trouble.{Trouble}
+use Rattle.ntx_nodes.proofs.Fills.{made, refused_too}
+use Rattle.ntx_nodes.proofs.Writes.{put_same, insert_again}
+use Rattle.ntx_lines.specs.Making as lines
+use Rattle.ntx_lines.specs.inner.Answers.{with_memory}
+
+-- ---- one step
+pub ends_once : {S A E : Type 0} (r : Result A (Fail E)) (old new : S) (step : Result (A × S) E) → Steps r old new step → EndsAs r new (stepped step old)
+ends_once (Ok a) old new step e = ends_stepped step a old new e
+ends_once {S} {A} (Err (Is why)) old new step e = subst (λ s. EndsAs {A = A} (Err (Is why)) s (stepped step old)) (sym e.1) (ends_refused step why old e.0)
+ends_once {S} {A} (Err NoMemory) old new step e = subst (λ s. EndsAs {A = A} (Err NoMemory) s (stepped step old)) (sym e) (passes_first (stepped step old) old (begins_step step old))
+
+pub ends_at_once : {S A E : Type 0} (r : Result A E) (old new : S) (step : Result (A × S) E) → StepsAtOnce r old new step → EndsAs (with_memory r) new (stepped step old)
+ends_at_once (Ok a) old new step e = ends_stepped step a old new e
+ends_at_once {S} {A} (Err why) old new step e = subst (λ s. EndsAs {A = A} (Err (Is why)) s (stepped step old)) (sym e.1) (ends_refused step why old e.0)
+
+-- a step whose value is not that of the call
+pub once_mapped : {S A B E : Type 0} (f : A → B) (r : Result A (Fail E)) (old new : S) (step : Result (A × S) E) → Steps r old new step
+    → EndsAs (result_map f r) new (stepped (result_map (λ done. (f done.0, done.1)) step) old)
+once_mapped f (Ok a) old new step e = ends_stepped (result_map (λ done. (f done.0, done.1)) step) (f a) old new (ap (result_map (λ done. (f done.0, done.1))) e)
+once_mapped {S} {A} {B} f (Err (Is why)) old new step e =
+    subst (λ s. EndsAs {A = B} (Err (Is why)) s (stepped (result_map (λ done. (f done.0, done.1)) step) old)) (sym e.1)
+    (ends_refused (result_map (λ done. (f done.0, done.1)) step) why old (ap (result_map (λ done. (f done.0, done.1))) e.0))
+once_mapped {S} {A} {B} f (Err NoMemory) old new step e =
+    subst (λ s. EndsAs {A = B} (Err NoMemory) s (stepped (result_map (λ done. (f done.0, done.1)) step) old)) (sym e)
+    (passes_first (stepped (result_map (λ done. (f done.0, done.1)) step) old) old (begins_step (result_map (λ done. (f done.0, done.1)) step) old))
+
+-- an answer that changes nothing
+pub ends_found : {S A E : Type 0} (r : Result A E) (old new : S) → new ≡ old → EndsAs (with_memory r) new (stays old r)
+ends_found (Ok a) old new same = (refl, sym same)
+ends_found (Err why) old new same = (refl, sym same)
+
+-- ---- a node with the current attributes
+abbrev bare : Fields → Node
+bare fields = record { fields = fields; attributes = map.empty }
+
+abbrev pub wearing : ℕ → Heap → Trace Heap ℕ Trouble
+wearing n heap = stepped (result_map (λ done. (n, done.1)) (wear_current_step n heap)) heap
+
+pub begins_wearing : (n : ℕ) (heap : Heap) → Begins (wearing n heap) heap
+begins_wearing n heap = begins_step (result_map (λ done. (n, done.1)) (wear_current_step n heap)) heap
+
+pub begins_made : (fields : Fields) (heap : Heap) → Begins (lines.made fields heap) heap
+begins_made fields heap = begins_then (stepped (make_filled_step fields heap) heap) heap wearing begins_wearing (begins_step (make_filled_step fields heap) heap)
+
+put_again : (new : Heap) (n : ℕ) (a b : Node) → map.get new.nodes n ≡ Some b → put (put new n a) n b ≡ new
+put_again new n a b at = ap (λ (m : map.FinMap nat_cmp Node). record new { nodes = m }) (insert_again new.nodes n a b) ∙ put_same new n b at
+
+pub current_ends : (r : Result ℕ (Fail Trouble)) (old new : Heap) (fields : Fields) → StepsInTwo r old new (make_filled_step fields old) (make_current_step fields old) → EndsAs r new (lines.made fields old)
+current_ends (Ok n) old new fields s =
+    let node : Node = record { fields = fields; attributes = old.current } in
+    let m = made old new node n s in
+    let mid : Heap = put new n (bare fields) in
+    let filled : make_filled_step fields old ≡ Ok (n, mid) = m.again (bare fields) in
+    let b = made old mid (bare fields) n filled in
+    let wears : wear_current_step n mid ≡ Ok (tt, new) =
+    ap (of_found {A = Unit {0} × Heap} n (λ x. Ok (tt, put_attributes mid n x mid.current))) b.at
+    ∙ ap (λ (a : Attributes). Ok (tt, put mid n (record { fields = fields; attributes = a }))) b.current
+    ∙ ap {B = Result (Unit {0} × Heap) Trouble} (λ h. Ok (tt, h)) (put_again new n (bare fields) node m.at) in
+    ends_later (stepped (make_filled_step fields old) old) n mid new wearing (Ok n)
+    (ends_stepped (make_filled_step fields old) n old mid filled)
+    (ends_stepped (result_map (λ done. (n, done.1)) (wear_current_step n mid)) n mid new (ap (result_map (λ done. (n, done.1))) wears))
+current_ends (Err (Is why)) old new fields s =
+    subst (λ h. EndsAs {A = ℕ} (Err (Is why)) h (lines.made fields old)) (sym s.1)
+    (ends_there (stepped (make_filled_step fields old) old) old wearing (Is why) begins_wearing
+    (ends_refused (make_filled_step fields old) why old (refused_too old (record { fields = fields; attributes = old.current }) (bare fields) why s.0)))
+current_ends (Err NoMemory) old new fields (inl same) =
+    subst (λ h. EndsAs {A = ℕ} (Err NoMemory) h (lines.made fields old)) (sym same) (passes_first (lines.made fields old) old (begins_made fields old))
+current_ends (Err NoMemory) old new fields (inr first) =
+    ends_later (stepped (make_filled_step fields old) old) first.0 new new wearing (Err NoMemory)
+    (ends_stepped (make_filled_step fields old) first.0 old new first.1)
+    (passes_first (wearing first.0 new) new (begins_wearing first.0 new))
