@@ -1,6 +1,6 @@
 -- How a call of one step ends, and a call that makes a node with the current attributes.
 use Rattle.std.proofs.Common.{◌≡◌, ℕ, Some, Result, Ok, Err, refl, sym, ◌∙◌, ap, subst, inl, inr}
-use Rattle.ntx_num.specs.Answer.{Steps, StepsAtOnce, result_map}
+use Rattle.ntx_num.specs.Answer.{Answers, Steps, StepsAtOnce, result_map}
 use Rattle.ntx_num.specs.declared.answer.Fail.{Fail}
 use Rattle.ntx_num.specs.declared.answer.Fail.TheVariants.{NoMemory, Is}
 use Rattle.ntx_num.specs.Trace.{Trace, stays, stepped, trace_and_then, EndsAs}
@@ -85,3 +85,10 @@ current_ends (Err NoMemory) old new fields (inr first) =
     ends_later (stepped (make_filled_step fields old) old) first.0 new new wearing (Err NoMemory)
     (ends_stepped (make_filled_step fields old) first.0 old new first.1)
     (passes_first (wearing first.0 new) new (begins_wearing first.0 new))
+
+-- ---- answers that change nothing
+pub answered : {S A B E : Type 0} (f : A → B) (r : Result A (Fail E)) (ans : Result A E) (old new : S) → Answers r ans → new ≡ old → EndsAs (result_map f r) new (stays old (result_map f ans))
+answered f (Ok a) ans old new e same = (ap (result_map f) e, sym same)
+answered f (Err (Is why)) ans old new e same = (ap (result_map f) e, sym same)
+answered {S} {A} {B} f (Err NoMemory) ans old new e same =
+    subst (λ s. EndsAs {A = B} (Err NoMemory) s (stays old (result_map f ans))) (sym same) (passes_first (stays old (result_map f ans)) old (begins_stays old (result_map f ans)))

@@ -1,12 +1,13 @@
 //! The two ends of a list.
 
 ghost use Rattle.std.specs.Prelude.{◌≡◌};
-ghost use Rattle.ntx_num.specs.Answer.{result_map};
-ghost use Rattle.ntx_nodes.specs.Walk.{flat_walk};
+ghost use Rattle.ntx_num.specs.Trace.{EndsAs};
 ghost use Rattle.ntx_lines.specs.Ends.{ends_of, joined, no_nodes, with_last};
+ghost use Rattle.ntx_lines.specs.LineEnd.{ends_found};
 
-use ntx_lists::tail;
-use ntx_nodes::{Nodes, Trouble};
+use ntx_nodes::{ListKind, Nodes, Trouble, Way, names_reached};
+use ntx_num::Fail;
+use std::alloc::Global;
 
 /// The first and the last node of a list, which may be empty.
 #[derive(Clone, Copy, Debug, PartialEq, Eq)]
@@ -61,15 +62,13 @@ impl Ends {
 
 /// The ends of the list at a head. Refuses along the list with Stale where a node is dead, and Loop where the list comes to it
 /// a second time.
-pub(crate) fn ends_at<N: Nodes>(nodes: &mut N, head: Option<u64>) -> Result<Ends, Trouble>
-    ensures same { N.heap nodes.new ≡ N.heap nodes.old }
-    ensures answer { result ≡ result_map ends_of (flat_walk (N.heap nodes.old) head) }
+pub(crate) fn ends_at<N: Nodes>(
+    alloc: Global,
+    nodes: &mut N,
+    head: Option<u64>,
+) -> Result<Ends, Fail<Trouble>>
+    ensures traced { EndsAs result (N.heap nodes.new) (ends_found head (N.heap nodes.old)) }
 {
-    match head {
-        None => Ok(Ends::none()),
-        Some(first) => Ok(Ends {
-            first: head,
-            last: Some(tail(nodes, first)?),
-        }),
-    }
+    let names = names_reached(alloc, nodes, Way::Flat, head, ListKind::H)?;
+    Ok(Ends::of(&names))
 }

@@ -11,6 +11,7 @@ use ntx_item::Params;
 use ntx_lists::flush_list;
 use ntx_nodes::{Contents, DiscFields, Field, FieldValue, Nodes, Trouble};
 use ntx_num::Fail;
+use std::alloc::Global;
 
 /// A line up to its break.
 #[derive(Clone, Copy)]
@@ -41,7 +42,7 @@ impl Ended {
 
 /// What a glue at a break gets, which becomes rightskip.
 fn rightskip_values(params: &Params) -> [(Field, FieldValue); 7]
-    ensures { result.now ≡ rightskip_values params.now }
+    ensures { result ≡ rightskip_values params.now }
 {
     let spec = rightskip(params);
     [
@@ -63,7 +64,7 @@ fn rightskip_values(params: &Params) -> [(Field, FieldValue); 7]
 
 /// What a kern at a break gets, which comes to nothing.
 fn kern_values() -> [(Field, FieldValue); 2]
-    ensures { result.now ≡ kern_values }
+    ensures { result ≡ kern_values }
 {
     [
         (Field::Kern, FieldValue::Number(0)),
@@ -73,7 +74,7 @@ fn kern_values() -> [(Field, FieldValue); 2]
 
 /// What any other node at a break gets, unless it is a discretionary: nothing follows it.
 fn last_values() -> [(Field, FieldValue); 1]
-    ensures { result.now ≡ nothing_after ∷ [] }
+    ensures { result ≡ nothing_after ∷ [] }
 {
     [(Field::Next, FieldValue::Link(None))]
 }
@@ -112,6 +113,7 @@ fn replace_disc<N: Nodes>(
 
 /// Ends a line at a discretionary.
 fn end_at_disc<N: Nodes>(
+    alloc: Global,
     nodes: &mut N,
     body: Ends,
     n: u64,
@@ -120,8 +122,8 @@ fn end_at_disc<N: Nodes>(
 ) -> Result<Ended, Fail<Trouble>>
     ensures traced { EndsAs result (N.heap nodes.new) (ends_at_disc body n disc after (N.heap nodes.old)) }
 {
-    let pre = answer(ends_at(nodes, disc.pre))?;
-    let post = answer(ends_at(nodes, disc.post))?;
+    let pre = ends_at(alloc, nodes, disc.pre)?;
+    let post = ends_at(alloc, nodes, disc.post)?;
     replace_disc(nodes, body.last, n, disc, post.last, after)?;
     Ok(Ended {
         line: body.then(pre),
@@ -134,6 +136,7 @@ fn end_at_disc<N: Nodes>(
 /// Ends a line at a node with these contents: glue becomes rightskip, a kern comes to nothing, a discretionary is replaced by
 /// what it shows before the break, and anything else stays. Nothing follows the line then.
 fn end_at<N: Nodes>(
+    alloc: Global,
     nodes: &mut N,
     params: &Params,
     body: Ends,
@@ -146,13 +149,14 @@ fn end_at<N: Nodes>(
     match contents {
         Contents::Glue(_) => end_with(nodes, body, n, true, &rightskip_values(params)),
         Contents::Kern(_) => end_with(nodes, body, n, false, &kern_values()),
-        Contents::Disc(disc) => end_at_disc(nodes, body, n, disc, after),
+        Contents::Disc(disc) => end_at_disc(alloc, nodes, body, n, disc, after),
         _ => end_with(nodes, body, n, false, &last_values()),
     }
 }
 
 /// Ends a line at its break, or at the end of the paragraph, where nothing is to be done.
 pub(crate) fn end_line<N: Nodes>(
+    alloc: Global,
     nodes: &mut N,
     params: &Params,
     body: Ends,
@@ -165,7 +169,7 @@ pub(crate) fn end_line<N: Nodes>(
         return Ok(Ended::whole(body, false));
     };
     let fields = answer(nodes.fields(n))?;
-    end_at(nodes, params, body, n, after, fields.contents)
+    end_at(alloc, nodes, params, body, n, after, fields.contents)
 }
 
 /// Frees what a break discards.

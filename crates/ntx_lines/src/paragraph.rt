@@ -98,7 +98,7 @@ fn make_line<N: Nodes>(
     ensures depth { IfOk result (λ done. IsDimension done.0.depth) }
 {
     let body = front.then(Ends::of(part.body));
-    let line = end_line(nodes, params, body, part.at, part.after)?;
+    let line = end_line(alloc, nodes, params, body, part.at, part.after)?;
     let whole = with_right(nodes, params, line)?;
     discard(nodes, part.discarded)?;
     let longer = push_line(alloc, nodes, fonts, params, above, whole.first)?;
