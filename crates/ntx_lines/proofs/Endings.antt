@@ -1,11 +1,11 @@
 -- How a call of one step ends, and a call that makes a node with the current attributes.
-use Rattle.std.proofs.Common.{◌≡◌, ℕ, Some, Result, Ok, Err, refl, sym, ◌∙◌, ap, subst, inl, inr}
+use Rattle.std.proofs.Common.{◌≡◌, ℕ, ◌+◌, ◌<◌, List, length, drop, get_or, Some, Result, Ok, Err, refl, sym, ◌∙◌, ap, subst, inl, inr}
 use Rattle.ntx_num.specs.Answer.{Answers, Steps, StepsAtOnce, result_map}
 use Rattle.ntx_num.specs.declared.answer.Fail.{Fail}
 use Rattle.ntx_num.specs.declared.answer.Fail.TheVariants.{NoMemory, Is}
-use Rattle.ntx_num.specs.Trace.{Trace, stays, stepped, trace_and_then, EndsAs}
+use Rattle.ntx_num.specs.Trace.{Trace, stays, stepped, trace_and_then, each_in_turn, EndsAs}
 use Rattle.ntx_num.proofs.Answers.{same_Ok}
-use Rattle.ntx_num.proofs.Traces.{Begins, begins_stays, begins_step, begins_then, passes_first, ends_later, ends_there, ends_stepped, ends_refused}
+use Rattle.ntx_num.proofs.Traces.{Begins, begins_stays, begins_step, begins_then, passes_first, ends_later, ends_there, ends_stepped, ends_refused, Goes, goes_on, goes_stopped}
 use Rattle.std.specs.Ordering.{nat_cmp}
 use Rattle.std.specs.FinMap as map
 use Rattle.ntx_nodes.specs.Heap.{Attributes, Heap}
@@ -15,7 +15,7 @@ use Rattle.ntx_nodes.specs.declared.fields.Fields.{Fields}
 use Rattle.ntx_nodes.specs.declared.node.Node.{Node}
 use Rattle.ntx_nodes.specs.declared.trouble.Trouble.{Trouble}
 use Rattle.ntx_nodes.proofs.Fills.{made, refused_too}
-use Rattle.ntx_nodes.proofs.Writes.{put_same, insert_again}
+use Rattle.ntx_nodes.proofs.Writes.{put_same, insert_again, taken_off}
 use Rattle.ntx_lines.specs.Making as lines
 use Rattle.ntx_lines.specs.inner.Answers.{with_memory}
 
@@ -92,3 +92,12 @@ answered f (Ok a) ans old new e same = (ap (result_map f) e, sym same)
 answered f (Err (Is why)) ans old new e same = (ap (result_map f) e, sym same)
 answered {S} {A} {B} f (Err NoMemory) ans old new e same =
     subst (λ s. EndsAs {A = B} (Err NoMemory) s (stays old (result_map f ans))) (sym same) (passes_first (stays old (result_map f ans)) old (begins_stays old (result_map f ans)))
+
+-- ---- each in turn
+pub next_item : {S X E : Type 0} (pass : X → S → Trace S (Unit {0}) E) (xs : List X) (old now new : S) (i : ℕ) (d : X) → i < length xs → Goes pass xs old (drop i xs) now → EndsAs (Ok tt) new (pass (get_or xs i d) now) → Goes pass xs old (drop (i + 1) xs) new
+next_item pass xs old now new i d lt g e = goes_on pass xs (drop (i + 1) xs) (get_or xs i d) old now new (subst (λ x. Goes pass xs old x now) (taken_off i xs d lt) g) e
+
+pub item_stops : {S X E : Type 0} (pass : X → S → Trace S (Unit {0}) E) (xs : List X) (old now new : S) (i : ℕ) (d : X) (e : Fail E) → ((x : X) (s : S) → Begins (pass x s) s) → i < length xs → Goes pass xs old (drop i xs) now
+    → EndsAs {A = Unit {0}} (Err e) new (pass (get_or xs i d) now) → EndsAs {A = Unit {0}} (Err e) new (each_in_turn pass xs old)
+item_stops pass xs old now new i d e begins lt g stops =
+    goes_stopped pass xs (drop (i + 1) xs) (get_or xs i d) old now new e begins (subst (λ x. Goes pass xs old x now) (taken_off i xs d lt) g) stops

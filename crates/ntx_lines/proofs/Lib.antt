@@ -1,2 +1,4 @@
 pub mod Endings
 pub mod Begins
+pub mod Makings
+pub mod Disc

@@ -1,7 +1,7 @@
 //! The end of a line, at its break.
 
 ghost use Rattle.std.specs.Prelude.{◌≡◌, ◌∷◌, [], Some};
-ghost use Rattle.ntx_lines.specs.LineEnd.{discards, ended, ends_at, ends_at_disc, ends_with, kern_values, nothing_after, replaced, rightskip_values, whole_line};
+ghost use Rattle.ntx_lines.specs.LineEnd.{discards, ended, ends_at, ends_at_disc, ends_with, freed, kern_values, nothing_after, replaced, rightskip_values, whole_line};
 ghost use Rattle.ntx_num.specs.Trace.{EndsAs};
 
 use crate::ends::{Ends, ends_at};
@@ -108,7 +108,7 @@ fn replace_disc<N: Nodes>(
     follow(nodes, before, disc.pre)?;
     answer(flush_list(nodes, disc.replace))?;
     follow(nodes, last_of_post, after)?;
-    answer(nodes.free_one(n))
+    free(nodes, n)
 }
 
 /// Ends a line at a discretionary.
@@ -172,12 +172,19 @@ pub(crate) fn end_line<N: Nodes>(
     end_at(alloc, nodes, params, body, n, after, fields.contents)
 }
 
+/// Frees a node.
+fn free<N: Nodes>(nodes: &mut N, n: u64) -> Result<(), Fail<Trouble>>
+    ensures traced { EndsAs result (N.heap nodes.new) (freed n (N.heap nodes.old)) }
+{
+    answer(nodes.free_one(n))
+}
+
 /// Frees what a break discards.
 pub(crate) fn discard<N: Nodes>(nodes: &mut N, names: &[u64]) -> Result<(), Fail<Trouble>>
     ensures traced { EndsAs result (N.heap nodes.new) (discards names.now (N.heap nodes.old)) }
 {
     for n in names {
-        answer(nodes.free_one(*n))?;
+        free(nodes, *n)?;
     }
     Ok(())
 }

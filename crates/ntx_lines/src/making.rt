@@ -41,8 +41,8 @@ pub(crate) fn set_all<N: Nodes>(
 ) -> Result<(), Fail<Trouble>>
     ensures traced { EndsAs result (N.heap nodes.new) (sets n values.now (N.heap nodes.old)) }
 {
-    for (f, v) in values {
-        set(nodes, n, *f, *v)?;
+    for value in values {
+        set(nodes, n, value.0, value.1)?;
     }
     Ok(())
 }
