@@ -2,7 +2,8 @@
 
 ghost use Rattle.std.specs.Prelude.{◌≡◌, ◌∷◌, [], Some};
 ghost use Rattle.ntx_lines.specs.LineEnd.{discards, ended, ends_at, ends_at_disc, ends_with, freed, kern_values, nothing_after, replaced, rightskip_values, whole_line};
-ghost use Rattle.ntx_num.specs.Trace.{EndsAs};
+ghost use Rattle.ntx_num.specs.Trace.{stepped, EndsAs};
+ghost use Rattle.ntx_lists.specs.Trees.{flush_list_step};
 
 use crate::ends::{Ends, ends_at};
 use crate::making::{answer, follow, set_all};
@@ -93,6 +94,13 @@ fn end_with<N: Nodes>(
     Ok(Ended::whole(body.with_last(n), has_rightskip))
 }
 
+/// Frees all that a list reaches.
+fn flush<N: Nodes>(nodes: &mut N, head: Option<u64>) -> Result<(), Fail<Trouble>>
+    ensures traced { EndsAs result (N.heap nodes.new) (stepped (flush_list_step head (N.heap nodes.old)) (N.heap nodes.old)) }
+{
+    answer(flush_list(nodes, head))
+}
+
 /// Replaces a discretionary at a break by what it shows before the break. What it shows without a break is freed, what it shows
 /// after the break comes in front of the node after it, and it is freed itself.
 fn replace_disc<N: Nodes>(
@@ -106,7 +114,7 @@ fn replace_disc<N: Nodes>(
     ensures traced { EndsAs result (N.heap nodes.new) (replaced before n disc last_of_post after (N.heap nodes.old)) }
 {
     follow(nodes, before, disc.pre)?;
-    answer(flush_list(nodes, disc.replace))?;
+    flush(nodes, disc.replace)?;
     follow(nodes, last_of_post, after)?;
     free(nodes, n)
 }
