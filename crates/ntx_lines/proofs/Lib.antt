@@ -2,3 +2,4 @@ pub mod Endings
 pub mod Begins
 pub mod Makings
 pub mod Disc
+pub mod BeginsLines

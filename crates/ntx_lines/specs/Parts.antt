@@ -3,7 +3,7 @@
 --     between list from to              what stands between two places
 --     parts_of items names from places  one part for each line, where the lines end at these places and the first one begins after `from`
 -- The nodes that a break discards are those whose items do not count in the line after it.
-use Rattle.std.specs.Prelude.{ℕ, zero, suc, ◌-◌, if◌then◌else◌, Option, None, List, [], ◌∷◌, take, drop, slice_get}
+use Rattle.std.specs.Prelude.{ℕ, zero, suc, ◌-◌, if◌then◌else◌, Option, None, Some, List, [], ◌∷◌, take, drop, slice_get}
 use Rattle.std.specs.List.{prefix_len}
 use Rattle.ntx_item.specs.declared.item.Item.{Item}
 use Rattle.ntx_legal.specs.Kept.{is_discardable, keeps_all}
@@ -33,19 +33,20 @@ discarded_count items from to = if keeps_all items from then 0 else prefix_len i
 abbrev pub body_of : List Item → List ℕ → ℕ → ℕ → List ℕ
 body_of items names from to = drop (discarded_count items from to) (between names from to)
 
--- what the break at a place discards; the last one discards nothing
-abbrev pub discarded_at : List Item → List ℕ → ℕ → List ℕ → List ℕ
-discarded_at items names to [] = []
-discarded_at items names to (next ∷ later) = take (discarded_count items to next) (between names to next)
+-- what the break at a place discards, up to the next one; the last break discards nothing
+abbrev pub discarded_at : List Item → List ℕ → ℕ → Option ℕ → List ℕ
+discarded_at items names to None = []
+discarded_at items names to (Some next) = take (discarded_count items to next) (between names to next)
 
-abbrev pub part_of : List Item → List ℕ → ℕ → ℕ → List ℕ → Part
-part_of items names from to later = record {
+-- what the line between two places is made of, before the break at the next one
+abbrev pub part_of : List Item → List ℕ → ℕ → ℕ → Option ℕ → Part
+part_of items names from to next = record {
   body = body_of items names from to;
   at = name_at names to;
   after = name_at names (suc to);
-  discarded = discarded_at items names to later;
+  discarded = discarded_at items names to next;
 }
 
 abbrev pub parts_of : List Item → List ℕ → ℕ → List ℕ → List Part
 parts_of items names from [] = []
-parts_of items names from (to ∷ later) = part_of items names from to later ∷ parts_of items names to later
+parts_of items names from (to ∷ later) = part_of items names from to (slice_get later 0) ∷ parts_of items names to later

@@ -123,8 +123,7 @@ fn make_lines<N: Nodes>(
     let mut from = 0;
     for i in 0..places.len() {
         let to = places[i] as usize;
-        let later = &places[i + 1..];
-        let part = matter.part(from, to, later);
+        let part = matter.part(from, to, places.get(i + 1).copied());
         let (longer, next) = make_line(
             alloc,
             nodes,
@@ -133,7 +132,7 @@ fn make_lines<N: Nodes>(
             above,
             front,
             part,
-            later.len(),
+            places.len() - i - 1,
         )?;
         above = longer;
         front = next;

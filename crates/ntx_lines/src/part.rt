@@ -1,8 +1,8 @@
 //! What the lines of a paragraph are made of.
 
-ghost use Rattle.std.specs.Prelude.{◌≡◌, ◌≤◌, length};
+ghost use Rattle.std.specs.Prelude.{◌≡◌, ◌≤◌, length, take, drop, Some};
 ghost use Rattle.std.specs.List.{prefix_len};
-ghost use Rattle.ntx_legal.specs.Kept.{is_discardable, keeps_all};
+ghost use Rattle.ntx_legal.specs.Kept.{is_discardable, has_post, keeps_all};
 ghost use Rattle.ntx_lines.specs.Parts.{between, body_of, discarded_at, discarded_count, name_at, part_of};
 ghost use Rattle.ntx_lines.specs.inner.Chains.{part_seen};
 
@@ -55,9 +55,11 @@ fn discarded(items: &[Item]) -> usize
 }
 
 /// Whether a discretionary shows something after a break.
-fn has_post(item: Option<&Item>) -> bool {
+fn has_post(item: &Item) -> bool
+    ensures { result ≡ has_post (Some item.now) }
+{
     match item {
-        Some(Item::Disc { post_empty, .. }) => !*post_empty,
+        Item::Disc { post_empty, .. } => !*post_empty,
         _ => false,
     }
 }
@@ -67,19 +69,37 @@ fn has_post(item: Option<&Item>) -> bool {
 fn keeps_all(items: &[Item], from: usize) -> bool
     ensures { result ≡ keeps_all items.now from }
 {
-    match from.checked_sub(1) {
-        None => true,
-        Some(i) => has_post(items.get(i)),
+    if from == 0 {
+        return true;
     }
+    if from > items.len() {
+        return false;
+    }
+    has_post(&items[from - 1])
+}
+
+/// The first elements, as far as there are so many.
+fn taken<T>(list: &[T], count: usize) -> &[T]
+    ensures { result.now ≡ take count list.now }
+{
+    &list[..count.min(list.len())]
+}
+
+/// All but the first elements.
+fn dropped<T>(list: &[T], count: usize) -> &[T]
+    ensures { result.now ≡ drop count list.now }
+{
+    &list[count.min(list.len())..]
 }
 
 /// The elements between two places, as far as there are any.
 fn between<T>(list: &[T], from: usize, to: usize) -> &[T]
     ensures { result.now ≡ between list.now from to }
 {
-    let rest = &list[from.min(list.len())..];
-    let count = to.saturating_sub(from).saturating_sub(1);
-    &rest[..count.min(rest.len())]
+    taken(
+        dropped(list, from),
+        to.saturating_sub(from).saturating_sub(1),
+    )
 }
 
 impl<'a> Matter<'a> {
@@ -88,31 +108,31 @@ impl<'a> Matter<'a> {
         ensures { result ≡ discarded_count self.items.now from to }
     {
         if keeps_all(self.items, from) {
-            0
-        } else {
-            discarded(between(self.items, from, to))
+            return 0;
         }
+        discarded(between(self.items, from, to))
     }
 
     /// The nodes before a break, without those that the break before discards.
     fn body(self, from: usize, to: usize) -> &'a [u64]
         ensures { result.now ≡ body_of self.items.now self.names.now from to }
     {
-        let all = between(self.names, from, to);
-        &all[self.discarded_count(from, to).min(all.len())..]
+        dropped(
+            between(self.names, from, to),
+            self.discarded_count(from, to),
+        )
     }
 
-    /// What the break at a place discards. The last one discards nothing.
-    fn discarded_at(self, to: usize, later: &[u64]) -> &'a [u64]
-        ensures { result.now ≡ discarded_at self.items.now self.names.now to later.now }
+    /// What the break at a place discards, up to the next one. The last one discards nothing.
+    fn discarded_at(self, to: usize, next: Option<u64>) -> &'a [u64]
+        ensures { result.now ≡ discarded_at self.items.now self.names.now to next }
     {
-        match later.first() {
+        match next {
             None => &self.names[..0],
-            Some(next) => {
-                let next = *next as usize;
-                let all = between(self.names, to, next);
-                &all[..self.discarded_count(to, next).min(all.len())]
-            }
+            Some(next) => taken(
+                between(self.names, to, next as usize),
+                self.discarded_count(to, next as usize),
+            ),
         }
     }
 
@@ -120,18 +140,21 @@ impl<'a> Matter<'a> {
     fn name_at(self, place: usize) -> Option<u64>
         ensures { result ≡ name_at self.names.now place }
     {
-        self.names.get(place.checked_sub(1)?).copied()
+        if place == 0 {
+            return None;
+        }
+        self.names.get(place - 1).copied()
     }
 
-    /// What the line between two places is made of, where the lines after it end at the later ones.
-    pub fn part(self, from: usize, to: usize, later: &[u64]) -> Part<'a>
-        ensures { part_seen result ≡ part_of self.items.now self.names.now from to later.now }
+    /// What the line between two places is made of, before the break at the next one.
+    pub fn part(self, from: usize, to: usize, next: Option<u64>) -> Part<'a>
+        ensures { part_seen result ≡ part_of self.items.now self.names.now from to next }
     {
         Part {
             body: self.body(from, to),
             at: self.name_at(to),
             after: self.names.get(to).copied(),
-            discarded: self.discarded_at(to, later),
+            discarded: self.discarded_at(to, next),
         }
     }
 }
