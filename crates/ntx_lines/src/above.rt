@@ -75,7 +75,7 @@ fn make_interline<N: Nodes>(
 ) -> Result<(), Fail<Trouble>>
     requires depth { IsDimension depth }
     requires height { IsDimension height }
-    ensures traced { EndsAs result (N.heap nodes.new) (interline params.now depth height last n (N.heap nodes.old)) }
+    ensures { EndsAs result (N.heap nodes.new) (interline params.now depth height last n (N.heap nodes.old)) }
 {
     let spec = checked_glue(interline_glue(params, depth, height))?;
     let subtype = interline_subtype(params, depth, height);
@@ -94,7 +94,7 @@ fn make_interline_after<N: Nodes>(
 ) -> Result<(), Fail<Trouble>>
     requires depth { IsDimension depth }
     requires height { IsDimension height }
-    ensures traced { EndsAs result (N.heap nodes.new) (interline_after params.now depth height last n (N.heap nodes.old)) }
+    ensures { EndsAs result (N.heap nodes.new) (interline_after params.now depth height last n (N.heap nodes.old)) }
 {
     match last {
         None => Ok(()),

@@ -67,7 +67,7 @@ pub(crate) fn ends_at<N: Nodes>(
     nodes: &mut N,
     head: Option<u64>,
 ) -> Result<Ends, Fail<Trouble>>
-    ensures traced { EndsAs result (N.heap nodes.new) (ends_found head (N.heap nodes.old)) }
+    ensures { EndsAs result (N.heap nodes.new) (ends_found head (N.heap nodes.old)) }
 {
     let names = names_reached(alloc, nodes, Way::Flat, head, ListKind::H)?;
     Ok(Ends::of(&names))

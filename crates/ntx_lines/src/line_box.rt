@@ -33,7 +33,7 @@ pub(crate) fn pack_line<N: Nodes>(
     params: &Params,
     head: Option<u64>,
 ) -> Result<u64, Fail<Trouble>>
-    ensures traced { EndsAs result (N.heap nodes.new) (line_box fonts.now params.now head (N.heap nodes.old)) }
+    ensures { EndsAs result (N.heap nodes.new) (line_box fonts.now params.now head (N.heap nodes.old)) }
 {
     let to = PackTo::Exactly(params.get(Param::Hsize));
     let (n, _badness) = hpack(alloc, nodes, fonts, head, to)?;

@@ -88,7 +88,7 @@ fn end_with<N: Nodes>(
     has_rightskip: bool,
     values: &[(Field, FieldValue)],
 ) -> Result<Ended, Fail<Trouble>>
-    ensures traced { EndsAs result (N.heap nodes.new) (ends_with body n has_rightskip values.now (N.heap nodes.old)) }
+    ensures { EndsAs result (N.heap nodes.new) (ends_with body n has_rightskip values.now (N.heap nodes.old)) }
 {
     set_all(nodes, n, values)?;
     Ok(Ended::whole(body.with_last(n), has_rightskip))
@@ -96,7 +96,7 @@ fn end_with<N: Nodes>(
 
 /// Frees all that a list reaches.
 fn flush<N: Nodes>(nodes: &mut N, head: Option<u64>) -> Result<(), Fail<Trouble>>
-    ensures traced { EndsAs result (N.heap nodes.new) (stepped (flush_list_step head (N.heap nodes.old)) (N.heap nodes.old)) }
+    ensures { EndsAs result (N.heap nodes.new) (stepped (flush_list_step head (N.heap nodes.old)) (N.heap nodes.old)) }
 {
     answer(flush_list(nodes, head))
 }
@@ -111,7 +111,7 @@ fn replace_disc<N: Nodes>(
     last_of_post: Option<u64>,
     after: Option<u64>,
 ) -> Result<(), Fail<Trouble>>
-    ensures traced { EndsAs result (N.heap nodes.new) (replaced before n disc last_of_post after (N.heap nodes.old)) }
+    ensures { EndsAs result (N.heap nodes.new) (replaced before n disc last_of_post after (N.heap nodes.old)) }
 {
     follow(nodes, before, disc.pre)?;
     flush(nodes, disc.replace)?;
@@ -128,7 +128,7 @@ fn end_at_disc<N: Nodes>(
     disc: DiscFields,
     after: Option<u64>,
 ) -> Result<Ended, Fail<Trouble>>
-    ensures traced { EndsAs result (N.heap nodes.new) (ends_at_disc body n disc after (N.heap nodes.old)) }
+    ensures { EndsAs result (N.heap nodes.new) (ends_at_disc body n disc after (N.heap nodes.old)) }
 {
     let pre = ends_at(alloc, nodes, disc.pre)?;
     let post = ends_at(alloc, nodes, disc.post)?;
@@ -152,7 +152,7 @@ fn end_at<N: Nodes>(
     after: Option<u64>,
     contents: Contents,
 ) -> Result<Ended, Fail<Trouble>>
-    ensures traced { EndsAs result (N.heap nodes.new) (ends_at params.now body n after contents (N.heap nodes.old)) }
+    ensures { EndsAs result (N.heap nodes.new) (ends_at params.now body n after contents (N.heap nodes.old)) }
 {
     match contents {
         Contents::Glue(_) => end_with(nodes, body, n, true, &rightskip_values(params)),
@@ -171,7 +171,7 @@ pub(crate) fn end_line<N: Nodes>(
     at: Option<u64>,
     after: Option<u64>,
 ) -> Result<Ended, Fail<Trouble>>
-    ensures traced { EndsAs result (N.heap nodes.new) (ended params.now body at after (N.heap nodes.old)) }
+    ensures { EndsAs result (N.heap nodes.new) (ended params.now body at after (N.heap nodes.old)) }
 {
     let Some(n) = at else {
         return Ok(Ended::whole(body, false));
@@ -182,14 +182,14 @@ pub(crate) fn end_line<N: Nodes>(
 
 /// Frees a node.
 fn free<N: Nodes>(nodes: &mut N, n: u64) -> Result<(), Fail<Trouble>>
-    ensures traced { EndsAs result (N.heap nodes.new) (freed n (N.heap nodes.old)) }
+    ensures { EndsAs result (N.heap nodes.new) (freed n (N.heap nodes.old)) }
 {
     answer(nodes.free_one(n))
 }
 
 /// Frees what a break discards.
 pub(crate) fn discard<N: Nodes>(nodes: &mut N, names: &[u64]) -> Result<(), Fail<Trouble>>
-    ensures traced { EndsAs result (N.heap nodes.new) (discards names.now (N.heap nodes.old)) }
+    ensures { EndsAs result (N.heap nodes.new) (discards names.now (N.heap nodes.old)) }
 {
     for n in names {
         free(nodes, *n)?;

@@ -28,7 +28,7 @@ pub(crate) fn set<N: Nodes>(
     f: Field,
     v: FieldValue,
 ) -> Result<(), Fail<Trouble>>
-    ensures traced { EndsAs result (N.heap nodes.new) (made.set n (f, v) (N.heap nodes.old)) }
+    ensures { EndsAs result (N.heap nodes.new) (made.set n (f, v) (N.heap nodes.old)) }
 {
     answer(nodes.set(n, f, v))
 }
@@ -39,7 +39,7 @@ pub(crate) fn set_all<N: Nodes>(
     n: u64,
     values: &[(Field, FieldValue)],
 ) -> Result<(), Fail<Trouble>>
-    ensures traced { EndsAs result (N.heap nodes.new) (sets n values.now (N.heap nodes.old)) }
+    ensures { EndsAs result (N.heap nodes.new) (sets n values.now (N.heap nodes.old)) }
 {
     for value in values {
         set(nodes, n, value.0, value.1)?;
@@ -53,7 +53,7 @@ pub(crate) fn follow<N: Nodes>(
     last: Option<u64>,
     to: Option<u64>,
 ) -> Result<(), Fail<Trouble>>
-    ensures traced { EndsAs result (N.heap nodes.new) (follows last to (N.heap nodes.old)) }
+    ensures { EndsAs result (N.heap nodes.new) (follows last to (N.heap nodes.old)) }
 {
     match last {
         None => Ok(()),
@@ -96,7 +96,7 @@ pub(crate) fn make_before<N: Nodes>(
     to: Option<u64>,
 ) -> Result<u64, Fail<Trouble>>
     requires { AreMakable (N.heap nodes.old) fields }
-    ensures traced { EndsAs result (N.heap nodes.new) (made_before fields to (N.heap nodes.old)) }
+    ensures { EndsAs result (N.heap nodes.new) (made_before fields to (N.heap nodes.old)) }
 {
     let n = make_current(nodes, fields)?;
     follow(nodes, Some(n), to)?;
@@ -110,7 +110,7 @@ pub(crate) fn make_at_end<N: Nodes>(
     last: Option<u64>,
 ) -> Result<u64, Fail<Trouble>>
     requires { AreMakable (N.heap nodes.old) fields }
-    ensures traced { EndsAs result (N.heap nodes.new) (made_at_end fields last (N.heap nodes.old)) }
+    ensures { EndsAs result (N.heap nodes.new) (made_at_end fields last (N.heap nodes.old)) }
 {
     let n = make_current(nodes, fields)?;
     follow(nodes, last, Some(n))?;

@@ -32,7 +32,7 @@ fn with_right<N: Nodes>(
     params: &Params,
     line: Ended,
 ) -> Result<Ends, Fail<Trouble>>
-    ensures traced { EndsAs result (N.heap nodes.new) (with_right params.now line (N.heap nodes.old)) }
+    ensures { EndsAs result (N.heap nodes.new) (with_right params.now line (N.heap nodes.old)) }
 {
     if line.has_rightskip {
         return Ok(line.line);
@@ -116,7 +116,7 @@ fn make_lines<N: Nodes>(
     matter: Matter,
     places: &[u64],
 ) -> Result<Above, Fail<Trouble>>
-    ensures traced { EndsAs result (N.heap nodes.new) (lines_made fonts.now params.now nothing_above no_nodes (parts_of matter.items.now matter.names.now 0 places.now) (N.heap nodes.old)) }
+    ensures { EndsAs result (N.heap nodes.new) (lines_made fonts.now params.now nothing_above no_nodes (parts_of matter.items.now matter.names.now 0 places.now) (N.heap nodes.old)) }
 {
     let mut above = Above::nothing();
     let mut front = Ends::none();
@@ -150,7 +150,7 @@ fn make_paragraph<N: Nodes>(
     places: &[u64],
     params: &Params,
 ) -> Result<(u64, u64), Fail<Trouble>>
-    ensures traced { EndsAs result (N.heap nodes.new) (pass.lines fonts.now params.now head places.now (N.heap nodes.old)) }
+    ensures { EndsAs result (N.heap nodes.new) (pass.lines fonts.now params.now head places.now (N.heap nodes.old)) }
 {
     let items = items(alloc, nodes, fonts, Some(head), ListKind::H)?;
     let names = names_reached(alloc, nodes, Way::Flat, Some(head), ListKind::H)?;
@@ -200,7 +200,7 @@ pub fn lines<N: Nodes>(
     b: &Breaks,
     params: &Params,
 ) -> Result<(u64, u64), Fail<Trouble>>
-    ensures traced { let made = pass.lines fonts.now params.now head (breaks_seen b.now).places (N.heap nodes.old) in Traces result (N.heap nodes.new) (states made) made.ending }
+    ensures { let made = pass.lines fonts.now params.now head (breaks_seen b.now).places (N.heap nodes.old) in Traces result (N.heap nodes.new) (states made) made.ending }
 {
     make_paragraph(alloc, nodes, fonts, head, &b.places, params)
 }

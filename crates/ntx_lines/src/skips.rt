@@ -54,7 +54,7 @@ pub(crate) fn make_rightskip<N: Nodes>(
     params: &Params,
     line: Ends,
 ) -> Result<Ends, Fail<Trouble>>
-    ensures traced { EndsAs result (N.heap nodes.new) (with_rightskip params.now line (N.heap nodes.old)) }
+    ensures { EndsAs result (N.heap nodes.new) (with_rightskip params.now line (N.heap nodes.old)) }
 {
     let n = make_at_end(nodes, glue_fields(RIGHTSKIP, rightskip(params)), line.last)?;
     Ok(line.with_last(n))
@@ -67,7 +67,7 @@ pub(crate) fn make_leftskip<N: Nodes>(
     params: &Params,
     head: Option<u64>,
 ) -> Result<Option<u64>, Fail<Trouble>>
-    ensures traced { EndsAs result (N.heap nodes.new) (with_leftskip params.now head (N.heap nodes.old)) }
+    ensures { EndsAs result (N.heap nodes.new) (with_leftskip params.now head (N.heap nodes.old)) }
 {
     let leftskip = params.get_glue(GlueParam::Leftskip);
     if is_zero(leftskip) {
