@@ -58,9 +58,12 @@ worn n u named = stepped (result_map (λ done. (n, done.1)) (wear_current_step n
 abbrev pub naming : ℕ → Heap → Trace Heap ℕ Trouble
 naming n packed = trace_and_then (set n (Subtype, Number (pos line_subtype)) packed) (worn n)
 
+pub begins_worn : (n : ℕ) (u : Unit {0}) (heap : Heap) → Begins (worn n u heap) heap
+begins_worn n u heap = begins_step (result_map (λ done. (n, done.1)) (wear_current_step n heap)) heap
+
 pub begins_naming : (n : ℕ) (heap : Heap) → Begins (naming n heap) heap
 begins_naming n heap =
-    begins_then (set n (Subtype, Number (pos line_subtype)) heap) heap (worn n) (λ _ named. begins_step (result_map (λ done. (n, done.1)) (wear_current_step n named)) named) (begins_set n (Subtype, Number (pos line_subtype)) heap)
+    begins_then (set n (Subtype, Number (pos line_subtype)) heap) heap (worn n) (begins_worn n) (begins_set n (Subtype, Number (pos line_subtype)) heap)
 
 pub begins_line_box : (fonts : List FontTables) (s : Settings) (head : Option ℕ) (heap : Heap) → Begins (line_box fonts s head heap) heap
 begins_line_box fonts s head heap =

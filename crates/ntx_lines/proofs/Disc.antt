@@ -1,5 +1,6 @@
 -- How a discretionary at a break is replaced.
 use Rattle.std.proofs.Common.{ℕ, Option, Ok, Err, refl}
+use Rattle.std.specs.Prelude.{Result}
 use Rattle.ntx_num.specs.Trace.{stepped, EndsAs}
 use Rattle.ntx_num.specs.declared.answer.Fail.{Fail}
 use Rattle.ntx_num.proofs.Traces.{ends_later, ends_there}
@@ -10,8 +11,8 @@ use Rattle.ntx_lists.specs.Trees.{flush_list_step}
 use Rattle.ntx_lines.specs.declared.ends.Ends.{Ends}
 use Rattle.ntx_lines.specs.declared.line_end.Ended.{Ended}
 use Rattle.ntx_lines.specs.Making.{follows}
-use Rattle.ntx_lines.specs.LineEnd.{replaced, ends_found, ended_by_disc, ends_at_disc}
-use Rattle.ntx_lines.proofs.Begins.{freeing, joining, flushing, broken, replacing, posting, begins_given, begins_freeing, begins_flushing, begins_replacing, begins_posting}
+use Rattle.ntx_lines.specs.LineEnd.{replaced, freed, ends_found, ended_by_disc, ends_at_disc}
+use Rattle.ntx_lines.proofs.Begins.{freeing, joining, flushing, broken, replacing, posting, begins_given, begins_freeing, begins_joining, begins_flushing, begins_replacing, begins_posting}
 
 pub part_stops : (before : Option ℕ) (n : ℕ) (d : DiscFields) (last_of_post after : Option ℕ) (old new : Heap) (e : Fail Trouble) → EndsAs {A = Unit {0}} (Err e) new (follows before d.pre old)
     → EndsAs {A = Unit {0}} (Err e) new (replaced before n d last_of_post after old)
@@ -48,3 +49,17 @@ disc_done body n d after old mid there new pre post u one two three =
     ends_later (ends_found d.pre old) pre mid new (posting body n d after) (Ok (ended_by_disc body pre post)) one
     (ends_later (ends_found d.post mid) post there new (replacing body n d after pre) (Ok (ended_by_disc body pre post)) two
     (ends_later (replaced body.last n d post.last after there) u new new (broken body pre post) (Ok (ended_by_disc body pre post)) three (refl, refl)))
+
+-- ---- a discretionary that is replaced, as its steps end
+pub flush_stops : (before : Option ℕ) (n : ℕ) (d : DiscFields) (last_of_post after : Option ℕ) (old parted new : Heap) (u : Unit {0}) (e : Fail Trouble) → EndsAs (Ok u) parted (follows before d.pre old)
+    → EndsAs {A = Unit {0}} (Err e) new (stepped (flush_list_step d.replace parted) parted) → EndsAs {A = Unit {0}} (Err e) new (replaced before n d last_of_post after old)
+flush_stops before n d last_of_post after old parted new u e one two =
+    ends_later (follows before d.pre old) u parted new (flushing n d last_of_post after) (Err e) one
+    (ends_there (stepped (flush_list_step d.replace parted) parted) new (joining n last_of_post after) e (begins_joining n last_of_post after) two)
+
+pub free_ends : (before : Option ℕ) (n : ℕ) (d : DiscFields) (last_of_post after : Option ℕ) (old parted flushed linked new : Heap) (u v w : Unit {0}) (r : Result (Unit {0}) (Fail Trouble)) → EndsAs (Ok u) parted (follows before d.pre old)
+    → EndsAs (Ok v) flushed (stepped (flush_list_step d.replace parted) parted) → EndsAs (Ok w) linked (follows last_of_post after flushed) → EndsAs r new (freed n linked) → EndsAs r new (replaced before n d last_of_post after old)
+free_ends before n d last_of_post after old parted flushed linked new u v w r one two three four =
+    ends_later (follows before d.pre old) u parted new (flushing n d last_of_post after) r one
+    (ends_later (stepped (flush_list_step d.replace parted) parted) v flushed new (joining n last_of_post after) r two
+    (ends_later (follows last_of_post after flushed) w linked new (freeing n) r three four))

@@ -40,11 +40,6 @@ once_mapped {S} {A} {B} f (Err NoMemory) old new step e =
     subst (λ s. EndsAs {A = B} (Err NoMemory) s (stepped (result_map (λ done. (f done.0, done.1)) step) old)) (sym e)
     (passes_first (stepped (result_map (λ done. (f done.0, done.1)) step) old) old (begins_step (result_map (λ done. (f done.0, done.1)) step) old))
 
--- an answer that changes nothing
-pub ends_found : {S A E : Type 0} (r : Result A E) (old new : S) → new ≡ old → EndsAs (with_memory r) new (stays old r)
-ends_found (Ok a) old new same = (refl, sym same)
-ends_found (Err why) old new same = (refl, sym same)
-
 -- ---- a node with the current attributes
 abbrev bare : Fields → Node
 bare fields = record { fields = fields; attributes = map.empty }
@@ -101,3 +96,8 @@ pub item_stops : {S X E : Type 0} (pass : X → S → Trace S (Unit {0}) E) (xs 
     → EndsAs {A = Unit {0}} (Err e) new (pass (get_or xs i d) now) → EndsAs {A = Unit {0}} (Err e) new (each_in_turn pass xs old)
 item_stops pass xs old now new i d e begins lt g stops =
     goes_stopped pass xs (drop (i + 1) xs) (get_or xs i d) old now new e begins (subst (λ x. Goes pass xs old x now) (taken_off i xs d lt) g) stops
+
+pub found_ends : {S A E : Type 0} (r : Result A (Fail E)) (ans : Result A E) (old new : S) → Answers r ans → new ≡ old → EndsAs r new (stays old ans)
+found_ends (Ok a) ans old new e same = (e, sym same)
+found_ends (Err (Is why)) ans old new e same = (e, sym same)
+found_ends {S} {A} (Err NoMemory) ans old new e same = subst (λ s. EndsAs {A = A} (Err NoMemory) s (stays old ans)) (sym same) (passes_first (stays old ans) old (begins_stays old ans))

@@ -2,4 +2,5 @@ pub mod Endings
 pub mod Begins
 pub mod Makings
 pub mod Disc
+pub mod Found
 pub mod BeginsLines

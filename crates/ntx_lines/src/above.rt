@@ -7,7 +7,7 @@ ghost use Rattle.ntx_lines.specs.Above.{nothing_above, above_with, interline_sub
 ghost use Rattle.ntx_num.specs.Trace.{EndsAs};
 
 use crate::line_box::box_fields;
-use crate::making::{answer, follow, glue_fields, make_at_end, make_before, penalty_fields};
+use crate::making::{follow, glue_fields, make_at_end, make_before, penalty_fields};
 use ntx_item::{GlueParam, GlueSpec, Param, Params};
 use ntx_nodes::{Nodes, Trouble};
 use ntx_num::{Fail, is_dimension};
@@ -155,7 +155,7 @@ impl Above {
         ensures traced { EndsAs result (N.heap nodes.new) (with_box params.now self n (N.heap nodes.old)) }
         ensures depth { IfOk result (λ above. IsDimension above.depth) }
     {
-        let fields = answer(box_fields(nodes, n))?;
+        let fields = box_fields(nodes, n)?;
         follow(nodes, self.last, Some(n))?;
         make_interline_after(nodes, params, self.depth, fields.height, self.last, n)?;
         Ok(self.with(n, fields.depth))

@@ -1,7 +1,9 @@
 //! The box of a line.
 
-ghost use Rattle.std.specs.Prelude.{◌≡◌};
-ghost use Rattle.ntx_lines.specs.LineBox.{box_fields_at, line_box};
+ghost use Rattle.std.specs.Prelude.{IfOk};
+ghost use Rattle.ntx_num.specs.Answer.{Answers};
+ghost use Rattle.ntx_num.specs.Dimension.{IsDimension};
+ghost use Rattle.ntx_lines.specs.LineBox.{box_fields_at, fields_of_box, line_box};
 ghost use Rattle.ntx_num.specs.Trace.{EndsAs};
 
 use crate::making::set;
@@ -15,13 +17,25 @@ use std::alloc::Global;
 /// The subtype of an hlist that is a line.
 const LINE: u8 = 1;
 
-/// The fields of a box. Refuses with Stale of a dead `n`, and else with WrongKind where it is no box.
-pub(crate) fn box_fields<N: Nodes>(nodes: &N, n: u64) -> Result<BoxFields, Trouble>
-    ensures { result ≡ box_fields_at n (N.heap nodes.now) }
+/// The fields of the box `n` with these contents. Refuses with WrongKind where it is no box.
+fn box_in(n: u64, contents: Contents) -> Result<BoxFields, Fail<Trouble>>
+    ensures { Answers result (fields_of_box n contents) }
 {
-    match nodes.fields(n)?.contents {
+    match contents {
         Contents::Hlist(b) | Contents::Vlist(b) => Ok(b),
-        _ => Err(Trouble::WrongKind(n)),
+        _ => Err(Fail::Is(Trouble::WrongKind(n))),
+    }
+}
+
+/// The fields of a box. Refuses with Stale of a dead `n`, and else with WrongKind where it is no box.
+pub(crate) fn box_fields<N: Nodes>(nodes: &N, n: u64) -> Result<BoxFields, Fail<Trouble>>
+    ensures answer { Answers result (box_fields_at n (N.heap nodes.now)) }
+    ensures in_range { IfOk result (λ b. IsDimension b.height × IsDimension b.depth) }
+{
+    nodes.lawful();
+    match nodes.fields(n) {
+        Ok(fields) => box_in(n, fields.contents),
+        Err(why) => Err(Fail::Is(why)),
     }
 }
 

@@ -1,6 +1,8 @@
 //! The end of a line, at its break.
 
-ghost use Rattle.std.specs.Prelude.{◌≡◌, ◌∷◌, [], Some};
+ghost use Rattle.std.specs.Prelude.{◌≡◌, ◌∷◌, [], Some, Ok};
+ghost use Rattle.ntx_num.specs.Answer.{Answers};
+ghost use Rattle.ntx_nodes.specs.Steps.{at};
 ghost use Rattle.ntx_lines.specs.LineEnd.{discards, ended, ends_at, ends_at_disc, ends_with, freed, kern_values, nothing_after, replaced, rightskip_values, whole_line};
 ghost use Rattle.ntx_num.specs.Trace.{stepped, EndsAs};
 ghost use Rattle.ntx_lists.specs.Trees.{flush_list_step};
@@ -162,6 +164,16 @@ fn end_at<N: Nodes>(
     }
 }
 
+/// The contents of a node. Refuses with Stale of a dead one.
+fn contents_at<N: Nodes>(nodes: &N, n: u64) -> Result<Contents, Fail<Trouble>>
+    ensures { Answers result (at (N.heap nodes.now) n (λ node. Ok node.fields.contents)) }
+{
+    match nodes.fields(n) {
+        Ok(fields) => Ok(fields.contents),
+        Err(why) => Err(Fail::Is(why)),
+    }
+}
+
 /// Ends a line at its break, or at the end of the paragraph, where nothing is to be done.
 pub(crate) fn end_line<N: Nodes>(
     alloc: Global,
@@ -176,8 +188,8 @@ pub(crate) fn end_line<N: Nodes>(
     let Some(n) = at else {
         return Ok(Ended::whole(body, false));
     };
-    let fields = answer(nodes.fields(n))?;
-    end_at(alloc, nodes, params, body, n, after, fields.contents)
+    let contents = contents_at(nodes, n)?;
+    end_at(alloc, nodes, params, body, n, after, contents)
 }
 
 /// Frees a node.
