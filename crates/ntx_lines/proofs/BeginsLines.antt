@@ -13,11 +13,10 @@ use Rattle.ntx_nodes.specs.declared.field.FieldValue.TheVariants.{Number}
 use Rattle.ntx_nodes.specs.declared.trouble.Trouble.{Trouble}
 use Rattle.ntx_tfm.specs.Font.{FontTables}
 use Rattle.ntx_item.specs.Settings.{Settings}
-use Rattle.ntx_item.specs.declared.glue.GlueSpec.{GlueSpec}
+use Rattle.ntx_nodes.specs.declared.fields.Fields.{Fields}
 use Rattle.ntx_item.specs.declared.item.Item.{Item}
 use Rattle.ntx_item.specs.declared.pack_to.PackTo.TheVariants.{Exactly}
 use Rattle.ntx_pack.specs.Pack.{hpack_step}
-use Rattle.ntx_pack.specs.Vertical.{interline_glue}
 use Rattle.ntx_lines.specs.declared.above.Above.{Above}
 use Rattle.ntx_lines.specs.declared.ends.Ends.{Ends}
 use Rattle.ntx_lines.specs.declared.line_end.Ended.{Ended}
@@ -26,7 +25,7 @@ use Rattle.ntx_lines.specs.Making.{set, follows, glue_fields, penalty_fields, ma
 use Rattle.ntx_lines.specs.LineEnd.{ended, discards}
 use Rattle.ntx_lines.specs.Skips.{leftskip_subtype, rightskip_subtype, finite, is_zero_glue, with_rightskip, with_leftskip}
 use Rattle.ntx_lines.specs.LineBox.{line_subtype, box_fields_at, line_box}
-use Rattle.ntx_lines.specs.Above.{interline_subtype, checked_glue, interline, interline_after, above_with, with_box, line_penalty, with_penalty}
+use Rattle.ntx_lines.specs.Above.{interline_fields, interline_after, above_with, with_box, line_penalty, with_penalty}
 use Rattle.ntx_lines.specs.Parts.{Part, parts_of}
 use Rattle.ntx_lines.specs.Lines.{with_right, boxed, penalized, line_made, lines_made}
 use Rattle.ntx_lines.proofs.Begins.{begins_given, begins_set, begins_follows, begins_before, begins_at_end, begins_ended, begins_discards}
@@ -74,19 +73,16 @@ begins_line_box fonts s head heap =
 abbrev pub gluing : ℕ → ℕ → Heap → Trace Heap (Unit {0}) Trouble
 gluing last glue new = follows (Some last) (Some glue) new
 
-abbrev pub spaced : Settings → ℤ → ℤ → ℕ → ℕ → GlueSpec → Heap → Trace Heap (Unit {0}) Trouble
-spaced s depth height last n spec heap = trace_and_then (made_before (glue_fields (interline_subtype s depth height) spec) (Some n) heap) (gluing last)
+abbrev pub spaced : ℕ → ℕ → Fields → Heap → Trace Heap (Unit {0}) Trouble
+spaced last n fields heap = trace_and_then (made_before fields (Some n) heap) (gluing last)
 
-pub begins_spaced : (s : Settings) (depth height : ℤ) (last n : ℕ) (spec : GlueSpec) (heap : Heap) → Begins (spaced s depth height last n spec heap) heap
-begins_spaced s depth height last n spec heap =
-    let fields = glue_fields (interline_subtype s depth height) spec in
-    begins_then (made_before fields (Some n) heap) heap (gluing last) (λ glue new. begins_follows (Some last) (Some glue) new) (begins_before fields (Some n) heap)
+pub begins_spaced : (last n : ℕ) (fields : Fields) (heap : Heap) → Begins (spaced last n fields heap) heap
+begins_spaced last n fields heap = begins_then (made_before fields (Some n) heap) heap (gluing last) (λ glue new. begins_follows (Some last) (Some glue) new) (begins_before fields (Some n) heap)
 
 pub begins_interline_after : (s : Settings) (depth height : ℤ) (last : Option ℕ) (n : ℕ) (heap : Heap) → Begins (interline_after s depth height last n heap) heap
 begins_interline_after s depth height None n heap = begins_given tt heap
 begins_interline_after s depth height (Some last) n heap =
-    let glue = checked_glue (interline_glue s depth height) in
-    begins_then (stays heap glue) heap (spaced s depth height last n) (begins_spaced s depth height last n) (begins_stays heap glue)
+    let fields = interline_fields s depth height in begins_then (stays heap fields) heap (spaced last n) (begins_spaced last n) (begins_stays heap fields)
 
 abbrev pub stacked : Above → ℕ → BoxFields → Unit {0} → Heap → Trace Heap Above Trouble
 stacked above n b u new = stays new (Ok (above_with above n b.depth))

@@ -4,3 +4,6 @@ pub mod Makings
 pub mod Disc
 pub mod Found
 pub mod BeginsLines
+pub mod Boxes
+pub mod Stacking
+pub mod OneLine

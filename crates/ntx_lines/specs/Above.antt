@@ -6,7 +6,9 @@
 use Rattle.std.specs.Prelude.{ℕ, ℤ, pos, ◌+ℤ◌, ◌-ℤ◌, int_lt, Bool, if◌then◌else◌, Option, None, Some, Result, Ok, Err}
 use Rattle.std.specs.Ordering.{int_eq}
 use Rattle.ntx_num.specs.Dimension.{is_dimension}
+use Rattle.ntx_num.specs.Answer.{result_map}
 use Rattle.ntx_nodes.specs.Heap.{Heap}
+use Rattle.ntx_nodes.specs.declared.fields.Fields.{Fields}
 use Rattle.ntx_nodes.specs.declared.trouble.Trouble.{Trouble}
 use Rattle.ntx_nodes.specs.declared.trouble.Trouble.TheVariants.{Dimension}
 use Rattle.ntx_item.specs.Settings.{Settings}
@@ -31,11 +33,15 @@ interline_subtype s depth height = if int_lt ((s.baselineskip.width -ℤ depth) 
 abbrev pub checked_glue : GlueSpec → Result GlueSpec Trouble
 checked_glue spec = if is_dimension spec.width then Ok spec else Err Dimension
 
+-- the fields of the glue between a box of this depth and one of this height below it
+abbrev pub interline_fields : Settings → ℤ → ℤ → Result Fields Trouble
+interline_fields s depth height = result_map (glue_fields (interline_subtype s depth height)) (checked_glue (interline_glue s depth height))
+
 -- Glue between the last node of the list and a box of this height after it.
 abbrev pub interline : Settings → ℤ → ℤ → ℕ → ℕ → Heap → Trace Heap (Unit {0}) Trouble
 interline s depth height last n heap =
-    trace_and_then (stays heap (checked_glue (interline_glue s depth height))) (λ spec _.
-    trace_and_then (made_before (glue_fields (interline_subtype s depth height) spec) (Some n) heap) (λ glue new. follows (Some last) (Some glue) new))
+    trace_and_then (stays heap (interline_fields s depth height)) (λ fields h.
+    trace_and_then (made_before fields (Some n) h) (λ glue new. follows (Some last) (Some glue) new))
 
 abbrev pub interline_after : Settings → ℤ → ℤ → Option ℕ → ℕ → Heap → Trace Heap (Unit {0}) Trouble
 interline_after s depth height None n heap = stays heap (Ok tt)
@@ -53,8 +59,8 @@ above_with above n depth = record { first = first_of above.first n; last = Some 
 -- The box is in the list before the glue in front of it is made.
 abbrev pub with_box : Settings → Above → ℕ → Heap → Trace Heap Above Trouble
 with_box s above n heap =
-    trace_and_then (stays heap (box_fields_at n heap)) (λ b _.
-    trace_and_then (follows above.last (Some n) heap) (λ _ linked.
+    trace_and_then (stays heap (box_fields_at n heap)) (λ b h.
+    trace_and_then (follows above.last (Some n) h) (λ _ linked.
     trace_and_then (interline_after s above.depth b.height above.last n linked) (λ _ new. stays new (Ok (above_with above n b.depth)))))
 
 -- ---- penalties

@@ -1,17 +1,20 @@
 //! The vertical list of a paragraph.
 
-ghost use Rattle.std.specs.Prelude.{◌≡◌, IfOk};
+ghost use Rattle.std.specs.Prelude.{◌≡◌, ◌-ℤ◌, int_lt, IfOk};
 ghost use Rattle.ntx_num.specs.Dimension.{IsDimension, IsWithin, max_penalty};
 ghost use Rattle.ntx_num.specs.Answer.{Answers};
-ghost use Rattle.ntx_lines.specs.Above.{nothing_above, above_with, interline_subtype, checked_glue, interline, interline_after, with_box, line_penalty, only_if, with_penalty};
+ghost use Rattle.ntx_nodes.specs.Heap.{Heap};
+ghost use Rattle.ntx_nodes.specs.Writing.{AreMakable};
+ghost use Rattle.ntx_item.specs.Parameters.{IsGlueInRange};
+ghost use Rattle.ntx_pack.specs.Vertical.{interline_glue};
+ghost use Rattle.ntx_lines.specs.Above.{nothing_above, above_with, interline_subtype, checked_glue, interline_fields, interline, interline_after, with_box, line_penalty, only_if, with_penalty};
 ghost use Rattle.ntx_num.specs.Trace.{EndsAs};
 
 use crate::line_box::box_fields;
 use crate::making::{follow, glue_fields, make_at_end, make_before, penalty_fields};
 use ntx_item::{GlueParam, GlueSpec, Param, Params};
-use ntx_nodes::{Nodes, Trouble};
+use ntx_nodes::{Fields, Nodes, Trouble};
 use ntx_num::{Fail, is_dimension};
-use ntx_pack::interline_glue;
 
 /// The subtypes of glue between two lines.
 const LINESKIP: u8 = 1;
@@ -39,29 +42,72 @@ pub(crate) struct Place {
     pub is_hyphenated: bool,
 }
 
+/// What baselineskip leaves between a box of this depth and one of this height below it, in scaled points.
+fn gap(params: &Params, depth: i64, height: i64) -> i64
+    requires depth { IsDimension depth }
+    requires height { IsDimension height }
+    ensures { result ≡ (params.now.baselineskip.width -ℤ depth) -ℤ height }
+{
+    params.get_glue(GlueParam::Baselineskip).width - depth - height
+}
+
+/// Whether boxes with this gap between them would be too close.
+fn is_close(params: &Params, gap: i64) -> bool
+    ensures { result ≡ int_lt gap params.now.lineskiplimit }
+{
+    gap < params.get(Param::Lineskiplimit)
+}
+
 /// The subtype of the glue between a box of this depth and one of this height below it: lineskip if they would be too close.
 fn interline_subtype(params: &Params, depth: i64, height: i64) -> u8
     requires depth { IsDimension depth }
     requires height { IsDimension height }
     ensures { result ≡ interline_subtype params.now depth height }
 {
-    let gap = params.get_glue(GlueParam::Baselineskip).width - depth - height;
-    if gap < params.get(Param::Lineskiplimit) {
-        LINESKIP
-    } else {
-        BASELINESKIP
+    if is_close(params, gap(params, depth, height)) {
+        return LINESKIP;
+    }
+    BASELINESKIP
+}
+
+/// The glue between the same boxes. All but its width can be a node's.
+fn interline_spec(params: &Params, depth: i64, height: i64) -> GlueSpec
+    requires depth { IsDimension depth }
+    requires height { IsDimension height }
+    ensures value { result ≡ interline_glue params.now depth height }
+    ensures in_range { IsDimension result.width → IsGlueInRange result }
+{
+    let width = gap(params, depth, height);
+    if is_close(params, width) {
+        return params.get_glue(GlueParam::Lineskip);
+    }
+    GlueSpec {
+        width,
+        ..params.get_glue(GlueParam::Baselineskip)
     }
 }
 
 /// Refuses with Dimension where a glue is wider than a node can be.
 fn checked_glue(spec: GlueSpec) -> Result<GlueSpec, Fail<Trouble>>
-    ensures { Answers result (checked_glue spec) }
+    requires { IsDimension spec.width → IsGlueInRange spec }
+    ensures answer { Answers result (checked_glue spec) }
+    ensures in_range { IfOk result IsGlueInRange }
 {
     if is_dimension(spec.width) {
-        Ok(spec)
-    } else {
-        Err(Fail::Is(Trouble::Dimension))
+        return Ok(spec);
     }
+    Err(Fail::Is(Trouble::Dimension))
+}
+
+/// The fields of that glue. Refuses with Dimension where it is wider than a node can be.
+fn interline_fields(params: &Params, depth: i64, height: i64) -> Result<Fields, Fail<Trouble>>
+    requires depth { IsDimension depth }
+    requires height { IsDimension height }
+    ensures answer { Answers result (interline_fields params.now depth height) }
+    ensures makable { IfOk result (λ fields. (heap : Heap) → AreMakable heap fields) }
+{
+    let spec = checked_glue(interline_spec(params, depth, height))?;
+    Ok(glue_fields(interline_subtype(params, depth, height), spec))
 }
 
 /// Makes the glue between the last node of a list and the box `n`, of this height, after it.
@@ -77,9 +123,8 @@ fn make_interline<N: Nodes>(
     requires height { IsDimension height }
     ensures { EndsAs result (N.heap nodes.new) (interline params.now depth height last n (N.heap nodes.old)) }
 {
-    let spec = checked_glue(interline_glue(params, depth, height))?;
-    let subtype = interline_subtype(params, depth, height);
-    let glue = make_before(nodes, glue_fields(subtype, spec), Some(n))?;
+    let fields = interline_fields(params, depth, height)?;
+    let glue = make_before(nodes, fields, Some(n))?;
     follow(nodes, Some(last), Some(glue))
 }
 
