@@ -7,3 +7,4 @@ pub mod BeginsLines
 pub mod Boxes
 pub mod Stacking
 pub mod OneLine
+pub mod AllLines
