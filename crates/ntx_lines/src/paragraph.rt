@@ -16,10 +16,10 @@ use crate::above::{Above, Place, line_penalty};
 use crate::ends::Ends;
 use crate::line_box::pack_line;
 use crate::line_end::{Ended, discard, end_line};
-use crate::part::{Matter, Part};
+use crate::part::Part;
 use crate::skips::{make_leftskip, make_rightskip};
 use ntx_breaks::Breaks;
-use ntx_item::Params;
+use ntx_item::{Item, Params};
 use ntx_nodes::{ListKind, Nodes, Trouble, Way, names_reached};
 use ntx_num::Fail;
 use ntx_tfm::Font;
@@ -94,7 +94,7 @@ fn make_line<N: Nodes>(
     later: usize,
 ) -> Result<(Above, Ends), Fail<Trouble>>
     requires { IsDimension above.depth }
-    ensures traced { EndsAs result (N.heap nodes.new) (line_made fonts.now params.now above front (part_seen part) later (N.heap nodes.old)) }
+    ensures traced { EndsAs result (N.heap nodes.new) (line_made fonts.now params.now above front (part_seen part.entry) later (N.heap nodes.old)) }
     ensures depth { IfOk result (λ done. IsDimension done.0.depth) }
 {
     let body = front.then(Ends::of(part.body));
@@ -113,17 +113,18 @@ fn make_lines<N: Nodes>(
     nodes: &mut N,
     fonts: &[Font],
     params: &Params,
-    matter: Matter,
+    items: &[Item],
+    names: &[u64],
     places: &[u64],
 ) -> Result<Above, Fail<Trouble>>
-    ensures { EndsAs result (N.heap nodes.new) (lines_made fonts.now params.now nothing_above no_nodes (parts_of matter.items.now matter.names.now 0 places.now) (N.heap nodes.old)) }
+    ensures { EndsAs result (N.heap nodes.new) (lines_made fonts.now params.now nothing_above no_nodes (parts_of items.now names.now 0 places.now) (N.heap nodes.old)) }
 {
     let mut above = Above::nothing();
     let mut front = Ends::none();
     let mut from = 0;
     for i in 0..places.len() {
         let to = places[i] as usize;
-        let part = matter.part(from, to, places.get(i + 1).copied());
+        let part = Part::new(items, names, from, to, places.get(i + 1).copied());
         let (longer, next) = make_line(
             alloc,
             nodes,
@@ -154,11 +155,7 @@ fn make_paragraph<N: Nodes>(
 {
     let items = items(alloc, nodes, fonts, Some(head), ListKind::H)?;
     let names = names_reached(alloc, nodes, Way::Flat, Some(head), ListKind::H)?;
-    let matter = Matter {
-        items: &items,
-        names: &names,
-    };
-    let above = make_lines(alloc, nodes, fonts, params, matter, places)?;
+    let above = make_lines(alloc, nodes, fonts, params, &items, &names, places)?;
     Ok((above.first.unwrap_or(head), places.len() as u64))
 }
 

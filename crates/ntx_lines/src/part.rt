@@ -4,7 +4,7 @@ ghost use Rattle.std.specs.Prelude.{◌≡◌, ◌≤◌, length, take, drop, So
 ghost use Rattle.std.specs.List.{prefix_len};
 ghost use Rattle.ntx_legal.specs.Kept.{is_discardable, has_post, keeps_all};
 ghost use Rattle.ntx_lines.specs.Parts.{between, body_of, discarded_at, discarded_count, name_at, part_of};
-ghost use Rattle.ntx_lines.specs.inner.Chains.{part_seen};
+ghost use Rattle.ntx_lines.specs.inner.Seen.{part_seen};
 
 use ntx_item::Item;
 
@@ -19,15 +19,6 @@ pub(crate) struct Part<'a> {
     pub after: Option<u64>,
     /// The nodes that the break discards, up to the next break.
     pub discarded: &'a [u64],
-}
-
-/// The items and the names of a paragraph's nodes, one item for each.
-#[derive(Clone, Copy)]
-pub(crate) struct Matter<'a> {
-    /// The items.
-    pub items: &'a [Item],
-    /// The names.
-    pub names: &'a [u64],
 }
 
 /// Whether a break discards this item if the item follows it.
@@ -102,59 +93,67 @@ fn between<T>(list: &[T], from: usize, to: usize) -> &[T]
     )
 }
 
-impl<'a> Matter<'a> {
-    /// How many nodes the break at `from` discards, where the next break is at `to`.
-    fn discarded_count(self, from: usize, to: usize) -> usize
-        ensures { result ≡ discarded_count self.items.now from to }
-    {
-        if keeps_all(self.items, from) {
-            return 0;
-        }
-        discarded(between(self.items, from, to))
+/// How many nodes the break at `from` discards, where the next break is at `to`.
+fn discarded_count(items: &[Item], from: usize, to: usize) -> usize
+    ensures { result ≡ discarded_count items.now from to }
+{
+    if keeps_all(items, from) {
+        return 0;
     }
+    discarded(between(items, from, to))
+}
 
-    /// The nodes before a break, without those that the break before discards.
-    fn body(self, from: usize, to: usize) -> &'a [u64]
-        ensures { result.now ≡ body_of self.items.now self.names.now from to }
-    {
-        dropped(
-            between(self.names, from, to),
-            self.discarded_count(from, to),
-        )
+/// The nodes before a break, without those that the break before discards.
+fn body<'a>(items: &[Item], names: &'a [u64], from: usize, to: usize) -> &'a [u64]
+    ensures { result.now ≡ body_of items.now names.now from to }
+{
+    dropped(between(names, from, to), discarded_count(items, from, to))
+}
+
+/// What the break at a place discards, up to the next one. The last one discards nothing.
+fn discarded_at<'a>(
+    items: &[Item],
+    names: &'a [u64],
+    to: usize,
+    next: Option<u64>,
+) -> &'a [u64]
+    ensures { result.now ≡ discarded_at items.now names.now to next }
+{
+    match next {
+        None => &names[..0],
+        Some(next) => taken(
+            between(names, to, next as usize),
+            discarded_count(items, to, next as usize),
+        ),
     }
+}
 
-    /// What the break at a place discards, up to the next one. The last one discards nothing.
-    fn discarded_at(self, to: usize, next: Option<u64>) -> &'a [u64]
-        ensures { result.now ≡ discarded_at self.items.now self.names.now to next }
-    {
-        match next {
-            None => &self.names[..0],
-            Some(next) => taken(
-                between(self.names, to, next as usize),
-                self.discarded_count(to, next as usize),
-            ),
-        }
+/// The name at a place.
+fn name_at(names: &[u64], place: usize) -> Option<u64>
+    ensures { result ≡ name_at names.now place }
+{
+    if place == 0 {
+        return None;
     }
+    names.get(place - 1).copied()
+}
 
-    /// The name at a place.
-    fn name_at(self, place: usize) -> Option<u64>
-        ensures { result ≡ name_at self.names.now place }
-    {
-        if place == 0 {
-            return None;
-        }
-        self.names.get(place - 1).copied()
-    }
-
+impl<'a> Part<'a> {
     /// What the line between two places is made of, before the break at the next one.
-    pub fn part(self, from: usize, to: usize, next: Option<u64>) -> Part<'a>
-        ensures { part_seen result ≡ part_of self.items.now self.names.now from to next }
+    pub fn new(
+        items: &[Item],
+        names: &'a [u64],
+        from: usize,
+        to: usize,
+        next: Option<u64>,
+    ) -> Part<'a>
+        ensures { part_seen result ≡ part_of items.now names.now from to next }
     {
         Part {
-            body: self.body(from, to),
-            at: self.name_at(to),
-            after: self.names.get(to).copied(),
-            discarded: self.discarded_at(to, next),
+            body: body(items, names, from, to),
+            at: name_at(names, to),
+            after: names.get(to).copied(),
+            discarded: discarded_at(items, names, to, next),
         }
     }
 }
