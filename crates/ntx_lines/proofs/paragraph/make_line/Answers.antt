@@ -21,7 +21,7 @@ returns-in_err-line-clause-traced g c =
     let e = c.in_err-line.field-0.0 in
     let p = err_from_is_err_and c.from_residual.result c.from_residual.ensures.1 in
     rw (p.1, p.2) (end_stops a.fonts.now a.params.now a.above a.front part a.later old (h c.end_line.new.nodes) e
-    (subst (λ (b : Ends). EndsAs {A = Ended} {E = Trouble} (Err e) (h c.end_line.new.nodes) (ended a.params.now b part.at part.after old)) (c.then.ensures ∙ ap (joined a.front) c.of.ensures) c.in_err-line.ensures))
+    (subst (λ (b : Ends). EndsAs {A = Ended} {E = Trouble} (Err e) (h c.end_line.new.nodes) (ended a.params.now b part.at part.after old)) (c.then-body.ensures ∙ ap (joined a.front) c.of.ensures) c.in_err-line.ensures))
 
 pub returns-in_err-whole-clause-traced : goal.returns-in_err-whole-clause-traced
 returns-in_err-whole-clause-traced g c =
@@ -29,7 +29,7 @@ returns-in_err-whole-clause-traced g c =
     let a = c.args in
     let old = h a.nodes.now in
     let part : Part = part_seen a.part in
-    let one : EndsAs {A = Ended} {E = Trouble} (Ok c.in_ok-line.line) (h c.end_line.new.nodes) (ended a.params.now (joined a.front (ends_of part.body)) part.at part.after old) = subst (λ (b : Ends). EndsAs {A = Ended} {E = Trouble} (Ok c.in_ok-line.line) (h c.end_line.new.nodes) (ended a.params.now b part.at part.after old)) (c.then.ensures ∙ ap (joined a.front) c.of.ensures) c.in_ok-line.ensures in
+    let one : EndsAs {A = Ended} {E = Trouble} (Ok c.in_ok-line.line) (h c.end_line.new.nodes) (ended a.params.now (joined a.front (ends_of part.body)) part.at part.after old) = subst (λ (b : Ends). EndsAs {A = Ended} {E = Trouble} (Ok c.in_ok-line.line) (h c.end_line.new.nodes) (ended a.params.now b part.at part.after old)) (c.then-body.ensures ∙ ap (joined a.front) c.of.ensures) c.in_ok-line.ensures in
     let e = c.in_err-whole.field-0.0 in
     let p = err_from_is_err_and c.from_residual-in_err-whole.result c.from_residual-in_err-whole.ensures.1 in
     rw (p.1, p.2) (after_end a.fonts.now a.params.now a.above a.front part a.later old (h c.end_line.new.nodes) (h c.with_right.new.nodes) c.in_ok-line.line (Err e) one
@@ -41,7 +41,7 @@ returns-in_err-discard-clause-traced g c =
     let a = c.args in
     let old = h a.nodes.now in
     let part : Part = part_seen a.part in
-    let one : EndsAs {A = Ended} {E = Trouble} (Ok c.in_ok-line.line) (h c.end_line.new.nodes) (ended a.params.now (joined a.front (ends_of part.body)) part.at part.after old) = subst (λ (b : Ends). EndsAs {A = Ended} {E = Trouble} (Ok c.in_ok-line.line) (h c.end_line.new.nodes) (ended a.params.now b part.at part.after old)) (c.then.ensures ∙ ap (joined a.front) c.of.ensures) c.in_ok-line.ensures in
+    let one : EndsAs {A = Ended} {E = Trouble} (Ok c.in_ok-line.line) (h c.end_line.new.nodes) (ended a.params.now (joined a.front (ends_of part.body)) part.at part.after old) = subst (λ (b : Ends). EndsAs {A = Ended} {E = Trouble} (Ok c.in_ok-line.line) (h c.end_line.new.nodes) (ended a.params.now b part.at part.after old)) (c.then-body.ensures ∙ ap (joined a.front) c.of.ensures) c.in_ok-line.ensures in
     let e = c.in_err-discard.field-0.0 in
     let p = err_from_is_err_and c.from_residual-in_err-discard.result c.from_residual-in_err-discard.ensures.1 in
     rw (p.1, p.2) (after_end a.fonts.now a.params.now a.above a.front part a.later old (h c.end_line.new.nodes) (h c.discard.new.nodes) c.in_ok-line.line (Err e) one
@@ -54,7 +54,7 @@ returns-in_err-longer-clause-traced g c =
     let a = c.args in
     let old = h a.nodes.now in
     let part : Part = part_seen a.part in
-    let one : EndsAs {A = Ended} {E = Trouble} (Ok c.in_ok-line.line) (h c.end_line.new.nodes) (ended a.params.now (joined a.front (ends_of part.body)) part.at part.after old) = subst (λ (b : Ends). EndsAs {A = Ended} {E = Trouble} (Ok c.in_ok-line.line) (h c.end_line.new.nodes) (ended a.params.now b part.at part.after old)) (c.then.ensures ∙ ap (joined a.front) c.of.ensures) c.in_ok-line.ensures in
+    let one : EndsAs {A = Ended} {E = Trouble} (Ok c.in_ok-line.line) (h c.end_line.new.nodes) (ended a.params.now (joined a.front (ends_of part.body)) part.at part.after old) = subst (λ (b : Ends). EndsAs {A = Ended} {E = Trouble} (Ok c.in_ok-line.line) (h c.end_line.new.nodes) (ended a.params.now b part.at part.after old)) (c.then-body.ensures ∙ ap (joined a.front) c.of.ensures) c.in_ok-line.ensures in
     let e = c.in_err-longer.field-0.0 in
     let p = err_from_is_err_and c.from_residual-in_err-longer.result c.from_residual-in_err-longer.ensures.1 in
     rw (p.1, p.2) (after_end a.fonts.now a.params.now a.above a.front part a.later old (h c.end_line.new.nodes) (h c.push_line.new.nodes) c.in_ok-line.line (Err e) one
@@ -68,7 +68,7 @@ returns-in_err-longest-clause-traced g c =
     let a = c.args in
     let old = h a.nodes.now in
     let part : Part = part_seen a.part in
-    let one : EndsAs {A = Ended} {E = Trouble} (Ok c.in_ok-line.line) (h c.end_line.new.nodes) (ended a.params.now (joined a.front (ends_of part.body)) part.at part.after old) = subst (λ (b : Ends). EndsAs {A = Ended} {E = Trouble} (Ok c.in_ok-line.line) (h c.end_line.new.nodes) (ended a.params.now b part.at part.after old)) (c.then.ensures ∙ ap (joined a.front) c.of.ensures) c.in_ok-line.ensures in
+    let one : EndsAs {A = Ended} {E = Trouble} (Ok c.in_ok-line.line) (h c.end_line.new.nodes) (ended a.params.now (joined a.front (ends_of part.body)) part.at part.after old) = subst (λ (b : Ends). EndsAs {A = Ended} {E = Trouble} (Ok c.in_ok-line.line) (h c.end_line.new.nodes) (ended a.params.now b part.at part.after old)) (c.then-body.ensures ∙ ap (joined a.front) c.of.ensures) c.in_ok-line.ensures in
     let e = c.in_err-longest.field-0.0 in
     let p = err_from_is_err_and c.from_residual-in_err-longest.result c.from_residual-in_err-longest.ensures.1 in
     rw (p.1, p.2) (after_end a.fonts.now a.params.now a.above a.front part a.later old (h c.end_line.new.nodes) (h c.push_penalty.new.nodes) c.in_ok-line.line (Err e) one
@@ -83,7 +83,7 @@ returns-clause-traced g c =
     let a = c.args in
     let old = h a.nodes.now in
     let part : Part = part_seen a.part in
-    let one : EndsAs {A = Ended} {E = Trouble} (Ok c.in_ok-line.line) (h c.end_line.new.nodes) (ended a.params.now (joined a.front (ends_of part.body)) part.at part.after old) = subst (λ (b : Ends). EndsAs {A = Ended} {E = Trouble} (Ok c.in_ok-line.line) (h c.end_line.new.nodes) (ended a.params.now b part.at part.after old)) (c.then.ensures ∙ ap (joined a.front) c.of.ensures) c.in_ok-line.ensures in
+    let one : EndsAs {A = Ended} {E = Trouble} (Ok c.in_ok-line.line) (h c.end_line.new.nodes) (ended a.params.now (joined a.front (ends_of part.body)) part.at part.after old) = subst (λ (b : Ends). EndsAs {A = Ended} {E = Trouble} (Ok c.in_ok-line.line) (h c.end_line.new.nodes) (ended a.params.now b part.at part.after old)) (c.then-body.ensures ∙ ap (joined a.front) c.of.ensures) c.in_ok-line.ensures in
     (after_end a.fonts.now a.params.now a.above a.front part a.later old (h c.end_line.new.nodes) (h c.push_penalty.new.nodes) c.in_ok-line.line (Ok (c.in_ok-longest.longest, c.in_ok-line.line.front)) one
     (after_right a.fonts.now a.params.now a.above part a.later c.in_ok-line.line (h c.end_line.new.nodes) (h c.with_right.new.nodes) (h c.push_penalty.new.nodes) c.in_ok-whole.whole (Ok (c.in_ok-longest.longest, c.in_ok-line.line.front)) c.in_ok-whole.ensures
     (after_discard a.fonts.now a.params.now a.above part a.later c.in_ok-line.line c.in_ok-whole.whole (h c.with_right.new.nodes) (h c.discard.new.nodes) (h c.push_penalty.new.nodes) _ (Ok (c.in_ok-longest.longest, c.in_ok-line.line.front)) c.in_ok-discard.ensures
