@@ -10,6 +10,7 @@
 //! | `texts` | N texts are made, and each is found again |
 //! | `hyphens-500`, `hyphens-5000` | N words are hyphenated by so many patterns |
 //! | `documents` | a document of N bytes is read |
+//! | `paragraphs` | a paragraph of N items is broken into lines |
 //!
 //! `ntx_bench hyphens-of N FILE` hyphenates N words by the patterns of a file.
 //!
@@ -19,6 +20,7 @@
 mod documents;
 mod fault;
 mod hyphens;
+mod paragraphs;
 mod scripts;
 mod store;
 
@@ -44,6 +46,7 @@ fn work(alloc: Global, workload: &str, n: u64) -> Result<(), Fault> {
         "hyphens-500" => hyphens::hyphenate_by(alloc, 500, n),
         "hyphens-5000" => hyphens::hyphenate_by(alloc, 5000, n),
         "documents" => documents::read(alloc, n),
+        "paragraphs" => paragraphs::break_into_lines(alloc, n),
         _ => Err(Fault::Words),
     }
 }
