@@ -11,6 +11,9 @@
 //! | `hyphens-500`, `hyphens-5000` | N words are hyphenated by so many patterns |
 //! | `documents` | a document of N bytes is read |
 //! | `paragraphs` | a paragraph of N items is broken into lines |
+//! | `run-integers` | a script runs, with a loop of N turns over integers |
+//! | `run-elements` | the same over the elements of a table |
+//! | `run-calls` | the same with a call of a function in each turn |
 //!
 //! `ntx_bench hyphens-of N FILE` hyphenates N words by the patterns of a file.
 //!
@@ -21,6 +24,7 @@ mod documents;
 mod fault;
 mod hyphens;
 mod paragraphs;
+mod runs;
 mod scripts;
 mod store;
 
@@ -47,6 +51,9 @@ fn work(alloc: Global, workload: &str, n: u64) -> Result<(), Fault> {
         "hyphens-5000" => hyphens::hyphenate_by(alloc, 5000, n),
         "documents" => documents::read(alloc, n),
         "paragraphs" => paragraphs::break_into_lines(alloc, n),
+        "run-integers" => runs::integers(alloc, n),
+        "run-elements" => runs::elements(alloc, n),
+        "run-calls" => runs::calls(alloc, n),
         _ => Err(Fault::Words),
     }
 }

@@ -2,7 +2,7 @@
 
 use crate::fault::Fault;
 use ntx_parse::parse;
-use ntx_resolve::resolve;
+use ntx_resolve::{Code, resolve};
 use ntx_syntax::tokens;
 use std::alloc::Global;
 
@@ -24,11 +24,16 @@ pub fn parse_copies(alloc: Global, part: &[u8], n: u64) -> Result<(), Fault> {
     Ok(())
 }
 
+/// The code of a script.
+pub fn code_of(alloc: Global, bytes: &[u8]) -> Result<Code, Fault> {
+    let words = tokens(alloc, bytes)?;
+    let chunk = parse(alloc, bytes, &words)?;
+    Ok(resolve(alloc, &chunk)?)
+}
+
 /// Parses and resolves a script of a beginning and `n` copies of a part.
 pub fn resolve_copies(alloc: Global, beginning: &[u8], part: &[u8], n: u64) -> Result<(), Fault> {
     let bytes = copies(alloc, beginning, part, n)?;
-    let words = tokens(alloc, &bytes)?;
-    let chunk = parse(alloc, &bytes, &words)?;
-    resolve(alloc, &chunk)?;
+    code_of(alloc, &bytes)?;
     Ok(())
 }
