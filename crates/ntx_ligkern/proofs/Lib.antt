@@ -12,3 +12,4 @@ pub mod Measures
 pub mod DiscTurns
 pub mod Stepping
 pub mod ListTurns
+pub mod WholePass
