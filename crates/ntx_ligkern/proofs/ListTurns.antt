@@ -46,7 +46,7 @@ no_step fonts head spot (Some lig) heap e = cc
 
 before_is : (fonts : List FontTables) (head : ℕ) (spot : Spot) (heap : Heap) → None ≡ disc_at heap spot.at → None ≡ lig_between fonts heap (Some spot.at) (slice_get spot.ahead 0)
     → turn fonts head (InList spot) heap ≡ before_disc fonts head spot (next_disc heap spot.ahead) heap
-before_is fonts head spot heap none no = ap (λ o. list_turn fonts head spot o heap) (sym none) ∙ no_step fonts head spot (lig_between fonts heap (Some spot.at) (slice_get spot.ahead 0)) heap no
+before_is fonts head spot heap none unlig = ap (λ o. list_turn fonts head spot o heap) (sym none) ∙ no_step fonts head spot (lig_between fonts heap (Some spot.at) (slice_get spot.ahead 0)) heap unlig
 
 no_disc : (head : ℕ) (spot : Spot) (d : Option DiscFields) (ahead : List ℕ) (lig : Option Lig) (heap : Heap) → None ≡ d → draw_or_move head spot d ahead lig heap ≡ goes_to head (from_spot InList (moved_on spot)) heap
 no_disc head spot None [] None heap e = refl
@@ -64,17 +64,17 @@ no_lig head spot d ahead (Some lig) heap e = cc
 
 pub moves_no_disc : (fonts : List FontTables) (head : ℕ) (spot : Spot) (next : Option Spot) (heap : Heap) → None ≡ disc_at heap spot.at → None ≡ lig_between fonts heap (Some spot.at) (slice_get spot.ahead 0) → None ≡ next_disc heap spot.ahead → next ≡ moved_on spot
     → RunsOn fonts head (InList spot ∷ []) heap head (from_spot InList next) heap
-moves_no_disc fonts head spot next heap none no out is =
+moves_no_disc fonts head spot next heap none unlig out is =
     turn_there fonts head head (InList spot) (from_spot InList next) heap
-    (before_is fonts head spot heap none no
+    (before_is fonts head spot heap none unlig
     ∙ no_disc head spot (next_disc heap spot.ahead) spot.ahead (lig_between fonts heap (Some spot.at) (right_of_disc (next_disc heap spot.ahead) spot.ahead)) heap out
     ∙ ap (λ s. goes_to head (from_spot InList s) heap) (sym is))
 
 pub moves_no_lig : (fonts : List FontTables) (head : ℕ) (spot : Spot) (next : Option Spot) (heap : Heap) → None ≡ disc_at heap spot.at → None ≡ lig_between fonts heap (Some spot.at) (slice_get spot.ahead 0)
     → None ≡ lig_between fonts heap (Some spot.at) (right_of_disc (next_disc heap spot.ahead) spot.ahead) → next ≡ moved_on spot → RunsOn fonts head (InList spot ∷ []) heap head (from_spot InList next) heap
-moves_no_lig fonts head spot next heap none no out is =
+moves_no_lig fonts head spot next heap none unlig out is =
     turn_there fonts head head (InList spot) (from_spot InList next) heap
-    (before_is fonts head spot heap none no
+    (before_is fonts head spot heap none unlig
     ∙ no_lig head spot (next_disc heap spot.ahead) spot.ahead (lig_between fonts heap (Some spot.at) (right_of_disc (next_disc heap spot.ahead) spot.ahead)) heap out
     ∙ ap (λ s. goes_to head (from_spot InList s) heap) (sym is))
 
@@ -85,9 +85,9 @@ then_disc head before disc rest _ done = stays done (Ok (head_after head before 
 draws : (fonts : List FontTables) (head : ℕ) (spot : Spot) (d : DiscFields) (disc : ℕ) (rest : List ℕ) (lig : Lig) (heap : Heap) → None ≡ disc_at heap spot.at → None ≡ lig_between fonts heap (Some spot.at) (slice_get spot.ahead 0)
     → spot.ahead ≡ disc ∷ rest → Some d ≡ disc_at heap disc → Some lig ≡ lig_between fonts heap (Some spot.at) (option_or d.replace (slice_get spot.ahead 1))
     → turn fonts head (InList spot) heap ≡ trace_and_then (drawn_before spot.before spot.at disc d heap) (then_disc head spot.before disc rest)
-draws fonts head spot d disc rest lig heap none no split is some =
+draws fonts head spot d disc rest lig heap none unlig split is some =
     let there : Some d ≡ next_disc heap spot.ahead = is ∙ ap (λ (xs : List ℕ). next_disc heap xs) (sym split) in
-    before_is fonts head spot heap none no
+    before_is fonts head spot heap none unlig
     ∙ ap (λ o. before_disc fonts head spot o heap) (sym there)
     ∙ ap (λ o. draw_or_move head spot (Some d) spot.ahead o heap) (sym some)
     ∙ ap (λ (xs : List ℕ). draw_or_move head spot (Some d) xs (Some lig) heap) split
@@ -95,16 +95,16 @@ draws fonts head spot d disc rest lig heap none no split is some =
 pub draw_goes : (fonts : List FontTables) (head : ℕ) (spot : Spot) (d : DiscFields) (disc : ℕ) (rest : List ℕ) (lig : Lig) (heap new : Heap) → None ≡ disc_at heap spot.at → None ≡ lig_between fonts heap (Some spot.at) (slice_get spot.ahead 0)
     → spot.ahead ≡ disc ∷ rest → Some d ≡ disc_at heap disc → Some lig ≡ lig_between fonts heap (Some spot.at) (option_or d.replace (slice_get spot.ahead 1)) → EndsAs (Ok tt) new (drawn_before spot.before spot.at disc d heap)
     → RunsOn fonts head (InList spot ∷ []) heap (head_after head spot.before disc) (AtDisc disc rest ∷ []) new
-draw_goes fonts head spot d disc rest lig heap new none no split is some e =
+draw_goes fonts head spot d disc rest lig heap new none unlig split is some e =
     let later = head_after head spot.before disc in
     turn_goes fonts head later (InList spot) (AtDisc disc rest ∷ []) heap new
-    (subst (EndsAs (Ok (later, AtDisc disc rest ∷ [])) new) (sym (draws fonts head spot d disc rest lig heap none no split is some))
+    (subst (EndsAs (Ok (later, AtDisc disc rest ∷ [])) new) (sym (draws fonts head spot d disc rest lig heap none unlig split is some))
     (ends_later (drawn_before spot.before spot.at disc d heap) tt new new (then_disc head spot.before disc rest) (Ok (later, AtDisc disc rest ∷ [])) e (refl, refl)))
 
 pub draw_stops : (fonts : List FontTables) (head : ℕ) (spot : Spot) (d : DiscFields) (disc : ℕ) (rest : List ℕ) (lig : Lig) (heap new : Heap) (e : Fail Trouble) → None ≡ disc_at heap spot.at → None ≡ lig_between fonts heap (Some spot.at) (slice_get spot.ahead 0)
     → spot.ahead ≡ disc ∷ rest → Some d ≡ disc_at heap disc → Some lig ≡ lig_between fonts heap (Some spot.at) (option_or d.replace (slice_get spot.ahead 1)) → EndsAs {A = Unit {0}} (Err e) new (drawn_before spot.before spot.at disc d heap)
     → RunsTo fonts head (InList spot ∷ []) heap e new
-draw_stops fonts head spot d disc rest lig heap new e none no split is some h =
+draw_stops fonts head spot d disc rest lig heap new e none unlig split is some h =
     turn_stops fonts head (InList spot) heap new e
-    (subst (EndsAs {A = ℕ × List Chore} (Err e) new) (sym (draws fonts head spot d disc rest lig heap none no split is some))
+    (subst (EndsAs {A = ℕ × List Chore} (Err e) new) (sym (draws fonts head spot d disc rest lig heap none unlig split is some))
     (ends_there (drawn_before spot.before spot.at disc d heap) new (then_disc head spot.before disc rest) e (λ _ x. begins_stays x (Ok (head_after head spot.before disc, AtDisc disc rest ∷ []))) h))

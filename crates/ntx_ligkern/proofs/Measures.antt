@@ -183,7 +183,7 @@ move_less before names spot (Some next) heap new e h i =
     subst (λ k. 1 + ((name_limit - new.next) * 1024 + length next.ahead * 256 + (255 - k)) < left_from heap (Some spot)) (sym l.1) (less_moved name_limit heap.next new.next (length spot.ahead) (length next.ahead) spot.count i (omega arith))
 
 -- ---- a turn in a list without discretionaries
-moved_there : (spot : Spot) (heap new : Heap) (next : Option Spot) → EndsAs (Ok next) new (stays heap (Ok (moved_on spot))) → (left_from new next < left_from heap (Some spot)) × (heap.next ≤ new.next)
+moved_there : (spot : Spot) (heap new : Heap) (next : Option Spot) → EndsAs {E = Trouble} (Ok next) new (stays heap (Ok (moved_on spot))) → (left_from new next < left_from heap (Some spot)) × (heap.next ≤ new.next)
 moved_there spot heap new next e =
     let same : heap.next ≡ new.next = ap (λ (x : Heap). x.next) e.1 in
     let rises : heap.next ≤ new.next = omega arith in

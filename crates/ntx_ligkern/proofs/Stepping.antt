@@ -47,7 +47,7 @@ pub step_full : (spot : Spot) (lig : Lig) (y holder : ℕ) (rest : List ℕ) (ne
     → EndsAs {A = Option Spot} (Err NoMemory) new (ligated spot lig y rest heap)
 step_full spot lig y holder rest next heap new low is h =
     subst (EndsAs {A = Option Spot} (Err NoMemory) new) (goes_on spot lig y rest next heap low is)
-    (ends_later (joined spot.at lig y next heap) holder new new (then_go spot lig y rest) (Err NoMemory) h ([], ([], refl)))
+    (ends_later (joined spot.at lig y next heap) holder new new (then_go spot lig y rest) (Err NoMemory) h ([], [], refl))
 
 pub step_done : (spot : Spot) (lig : Lig) (y holder : ℕ) (rest : List ℕ) (next : Option ℕ) (to : Option Spot) (heap new : Heap) → spot.count < 255 → next ≡ slice_get rest 0 → to ≡ spot_after spot lig holder y rest
     → EndsAs (Ok holder) new (joined spot.at lig y next heap) → EndsAs (Ok to) new (ligated spot lig y rest heap)

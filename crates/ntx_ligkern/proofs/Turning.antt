@@ -61,7 +61,7 @@ no_turn fonts head chores heap rest r new k = k
 
 -- memory runs out before one
 pub memory_out : (fonts : List FontTables) (head : ℕ) (chores : List Chore) (heap : Heap) → RunsTo fonts head chores heap NoMemory heap
-memory_out fonts head chores heap rest = (0, ([], ([], refl)))
+memory_out fonts head chores heap rest = (0, ([], [], refl))
 
 -- nothing is left
 pub all_done : (fonts : List FontTables) (head : ℕ) (heap : Heap) → Runs fonts head [] heap (Ok head) heap

@@ -8,7 +8,7 @@ abbrev pub invariant-loop-at : goal.invariant-loop-at
 invariant-loop-at g l =
     let heap = g.N.Nodes.heap in
     record {
-      runs : (head : ℕ) → RunsOn l.fonts head (OfDisc l.disc l.f ∷ []) (heap l.fn.nodes) head (from_spot InPart (spot_from l.ahead.items l.at)) (heap l.nodes);
+      runs : (head : ℕ) → RunsOn l.fonts head (OfDisc l.disc l.fn.f ∷ []) (heap l.fn.nodes) head (from_spot InPart (spot_from l.ahead.items l.at)) (heap l.nodes);
       later : (heap l.fn.nodes).next ≤ (heap l.nodes).next;
     }
 
