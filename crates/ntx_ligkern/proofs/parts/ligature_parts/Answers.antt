@@ -7,3 +7,6 @@ returns-in_err-ligature_part-2-clause-done g c =
     let h = g.N.Nodes.heap in
     let p = err_from_is_err_and c.from_residual-in_err-ligature_part-2.result c.from_residual-in_err-ligature_part-2.ensures.1 in
     rw (p.1, p.2) (λ head. second_stops c.args.fonts.now head c.args.disc (h c.args.nodes.now) (h c.ligature_part.new.nodes) (h c.ligature_part-2.new.nodes) c.in_err-ligature_part-2.field-0.0 (c.in_ok-ligature_part.ensures.done head) (c.in_err-ligature_part-2.ensures.done head))
+
+pub returns-clause-done : goal.returns-clause-done
+returns-clause-done g c = ?
