@@ -15,7 +15,7 @@ use Rattle.ntx_ligkern.specs.Ligaturing.{Chore, OfDisc, AtDisc, InList, InPart, 
 use Rattle.ntx_ligkern.specs.declared.lig.Lig.{Lig}
 use Rattle.ntx_ligkern.specs.declared.cursor.Cursor.{Cursor}
 use Rattle.ntx_ligkern.specs.inner.Cursors.{spot_of, spot_from}
-use Rattle.ntx_ligkern.specs.inner.Chores.{RunsOn, RunsTo, three_parts, after_absorbing}
+use Rattle.ntx_ligkern.specs.inner.Chores.{RunsOn, RunsTo, Reaches, three_parts, after_absorbing}
 use Rattle.ntx_ligkern.proofs.Turning.{turn_goes, turn_stops, turn_there, spot_goes, spot_stops, on_and_on, on_and_to}
 
 -- ---- a list of a discretionary
@@ -64,6 +64,11 @@ second_stops fonts head disc a b new e one two rest = one (OfDisc disc Post ∷ 
 pub third_stops : (fonts : List FontTables) (head disc : ℕ) (a b c new : Heap) (e : Fail Trouble) → RunsOn fonts head (OfDisc disc Pre ∷ []) a head [] b → RunsOn fonts head (OfDisc disc Post ∷ []) b head [] c → RunsTo fonts head (OfDisc disc Replace ∷ []) c e new
     → RunsTo fonts head (three_parts disc) a e new
 third_stops fonts head disc a b c new e one two three rest = one (OfDisc disc Post ∷ OfDisc disc Replace ∷ rest) (Err e) new (two (OfDisc disc Replace ∷ rest) (Err e) new (three rest))
+
+pub three_reach : (fonts : List FontTables) (disc : ℕ) (a b c d : Heap) (r : Result (Unit {0}) (Fail Trouble)) → ((head : ℕ) → RunsOn fonts head (OfDisc disc Pre ∷ []) a head [] b) → ((head : ℕ) → RunsOn fonts head (OfDisc disc Post ∷ []) b head [] c)
+    → Reaches fonts (OfDisc disc Replace ∷ []) c r (λ _. []) d → Reaches fonts (three_parts disc) a r (λ _. []) d
+three_reach fonts disc a b c d (Ok x) one two three = λ head. three_done fonts head disc a b c d (one head) (two head) (three head)
+three_reach fonts disc a b c d (Err e) one two three = λ head. third_stops fonts head disc a b c d e (one head) (two head) (three head)
 
 -- ---- whether it takes in the next node
 abbrev whole_disc : ℕ → List ℕ → List Chore
