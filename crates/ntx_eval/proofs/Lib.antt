@@ -43,3 +43,5 @@ pub mod Walking
 pub mod InTurn
 pub mod Within
 pub mod Choosing
+pub mod TurnsLeft
+pub mod Beyond
