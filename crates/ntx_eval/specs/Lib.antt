@@ -20,6 +20,10 @@ pub mod Blocks
 pub mod Trees
 pub mod Meaning
 pub mod Calls
+-- the machine that runs code
+pub mod inner
+pub mod Seen
+pub mod Agreement
 -- laws and examples
 pub mod Script
 pub mod Laws

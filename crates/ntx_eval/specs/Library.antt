@@ -1,14 +1,10 @@
 -- The library as the meaning of scripts takes it.
-use Rattle.std.specs.Prelude.{ℕ, List, Result}
+use Rattle.std.specs.Prelude.{List, Result}
 use Rattle.ntx_values.specs.State.{StoreState}
 use Rattle.ntx_values.specs.declared.value.Value.{Value}
 use Rattle.ntx_values.specs.declared.why.LuaWhy.{LuaWhy}
 use Rattle.ntx_values.specs.declared.primitive.LibFn.{LibFn}
-
--- the bytes that wait to be taken, and how many were printed in all
-pub record PrintedState : Type 0 where
-  pub waiting : List ℕ
-  pub total : ℕ
+use Rattle.ntx_lualib.specs.Output.{PrintedState}
 
 -- what a call can change: the store, and what was printed
 abbrev pub LibState : Type 0

@@ -7,7 +7,7 @@ use Rattle.ntx_syntax.specs.declared.tree.FunctionBody.{FunctionBody}
 use Rattle.ntx_values.specs.State.{StoreState}
 use Rattle.ntx_values.specs.declared.value.Value.{Value}
 use Rattle.ntx_values.specs.declared.value.TableId.{TableId}
-use Rattle.ntx_eval.specs.Library.{PrintedState}
+use Rattle.ntx_lualib.specs.Output.{PrintedState}
 
 abbrev pub Scope : Type 0
 Scope = List (List ℕ × ℕ)

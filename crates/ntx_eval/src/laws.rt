@@ -1,5 +1,6 @@
 //! Facts about the meaning of scripts.
 
+ghost use Rattle.ntx_eval.specs.Agreement.{CodeMeansTheTree};
 ghost use Rattle.ntx_eval.specs.Laws.{StepsNeverRise, MoreStepsAreTheSame};
 ghost use Rattle.ntx_eval.specs.Library.{Library};
 ghost use Rattle.ntx_eval.specs.Worked as worked;
@@ -31,4 +32,10 @@ pub fn steps_never_rise<H: Host>()
 /// A script that did not run out of steps does the same with more of them, whichever its host and its library are.
 pub fn more_steps_are_the_same<H: Host>()
     ensures { (library : Library) → MoreStepsAreTheSame (record { library = library; host = record { begin = H.begin_step; resume = H.resume_step } }) }
+{}
+
+/// The code of a script means what its tree means, whichever its host and its library are: from a machine that shows a state of the
+/// script, the chunk, a call from outside and a step of the host end alike over both, and a machine shows the state after them.
+pub fn code_means_the_tree<H: Host>()
+    ensures { (library : Library) → CodeMeansTheTree (record { library = library; host = record { begin = H.begin_step; resume = H.resume_step } }) }
 {}

@@ -2,4 +2,5 @@
 
 mod hosts;
 mod integers;
+mod machine;
 mod values;

@@ -1,6 +1,9 @@
 //! Hosts.
 
-use crate::{Host, HostStep, NoHost, more_steps_are_the_same, steps_never_rise, worked_examples};
+use crate::{
+    Host, HostStep, NoHost, code_means_the_tree, more_steps_are_the_same, steps_never_rise,
+    worked_examples,
+};
 use ntx_values::{LuaWhy, Primitive, Store, Value};
 use std::test;
 
@@ -15,5 +18,6 @@ fn a_host_without_primitives_fails(rt: HostRuntime) -> Result<(), test::Fail> {
     worked_examples();
     steps_never_rise::<NoHost>();
     more_steps_are_the_same::<NoHost>();
+    code_means_the_tree::<NoHost>();
     Ok(())
 }
