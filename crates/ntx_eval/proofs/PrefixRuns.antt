@@ -1,0 +1,136 @@
+-- What a call has run of a prefix of which all values are wanted, and of what stands after a value.
+use Rattle.std.proofs.Common.{◌≡◌, ◌∙◌, ℕ, List, [], ◌∷◌, ◌++◌, map, Result, Ok, Err, refl, sym, ap}
+use Rattle.std.specs.Result.{IsErrAnd}
+use Rattle.ntx_num.specs.declared.answer.Fail.{Fail}
+use Rattle.ntx_resolve.specs.declared.code.Exp.{Exp}
+use Rattle.ntx_resolve.specs.declared.code.Suffix.{Suffix}
+use Rattle.ntx_resolve.specs.declared.code.Prefix.{Prefix}
+use Rattle.ntx_resolve.specs.declared.code.Suffix.TheVariants as suffix
+use Rattle.ntx_values.specs.State.{StoreState}
+use Rattle.ntx_values.specs.declared.value.Value.{Value}
+use Rattle.ntx_eval.specs.State.{State}
+use Rattle.ntx_eval.specs.Ending.{Action, Ending, give, after, ◌>>=◌}
+use Rattle.ntx_eval.specs.Variables.{text, first}
+use Rattle.ntx_eval.specs.Setting.{Setting, call}
+use Rattle.ntx_eval.specs.Fields.{read_field}
+use Rattle.ntx_eval.specs.Expressions.{first_of}
+use Rattle.ntx_eval.specs.inner.Machine.{MachineState, Kept, state_of}
+use Rattle.ntx_eval.specs.inner.Places.{Spot}
+use Rattle.ntx_eval.specs.inner.Code.{ExpCode, SuffixCode}
+use Rattle.ntx_eval.specs.inner.Exps.{exp_code, exps_code, head_code, suffix_code, prefix_code, suffixes}
+use Rattle.ntx_eval.specs.inner.Runs.{Runs}
+use Rattle.ntx_eval.specs.declared.stop.ScriptStop.{ScriptStop}
+use Rattle.ntx_eval.proofs.CodeArms as arms
+use Rattle.ntx_eval.proofs.Running.{after-give, after-then, after-same, goes_on, stops, gives, said, alike}
+use Rattle.ntx_eval.proofs.FirstValues.{goes_on_first, stops_first}
+use Rattle.ntx_eval.proofs.Suffixing as suffixing
+
+-- ---- one part that stands after a value
+
+module _ {S : Type 0} {fits : S → StoreState → Type 0} (run : Setting (Kept S)) (spot : Spot) (v : Value) where
+  -- the part is this one
+  pub of_suffix : {r : Result Value (Fail ScriptStop)} {old new : MachineState} {h h' : S} {x y : Suffix} → x ≡ y → Runs fits r old h new h' (first_of (suffix_code run y v spot))
+      → Runs fits r old h new h' (first_of (suffix_code run x v spot))
+  of_suffix is runs = alike (λ z. first_of (suffix_code run z v spot)) is runs
+
+  -- a field, whose key this part gives
+  abbrev pub read : Action (Kept S) Value → Action (Kept S) Value
+  read key = key >>= λ k. read_field run v k spot.line
+
+  pub index_runs : (key : Exp) {r : Result Value (Fail ScriptStop)} {old new : MachineState} {h h' : S} → Runs fits r old h new h' (read (first_of (exp_code run key spot)))
+      → Runs fits r old h new h' (first_of (suffix_code run (suffix.Index key) v spot))
+  index_runs key {old = old} {h = h} runs = said (read (first_of (exp_code run key spot))) (suffixing.index run spot v (state_of old h) key) runs
+
+  pub named_runs : (name : List ℕ) {r : Result Value (Fail ScriptStop)} {old new : MachineState} {h h' : S} → Runs fits r old h new h' (read (text name spot.line))
+      → Runs fits r old h new h' (first_of (suffix_code run (suffix.Field name) v spot))
+  named_runs name {old = old} {h = h} runs = said (read (text name spot.line)) (suffixing.named run spot v (state_of old h) name) runs
+
+  pub no_key : (key : Action (Kept S) Value) {f : Fail ScriptStop} {r : Result Value (Fail ScriptStop)} {old new : MachineState} {h h' : S} → IsErrAnd r (λ y. y ≡ f)
+      → Runs {A = Value} fits (Err f) old h new h' key → Runs fits r old h new h' (read key)
+  no_key key is part = stops (λ k. read_field run v k spot.line) is part
+
+  pub with_key : (key : Action (Kept S) Value) {k : Value} {r : Result Value (Fail ScriptStop)} {old mid new : MachineState} {h h1 h' : S} → Runs fits (Ok k) old h mid h1 key
+      → Runs fits r mid h1 new h' (read_field run v k spot.line) → Runs fits r old h new h' (read key)
+  with_key key first part = goes_on (λ k. read_field run v k spot.line) first part
+
+  -- the first value of a call
+  abbrev pub first_called : List Exp → Action (Kept S) Value
+  first_called arguments = exps_code run arguments spot >>= λ args. first_of (call run v args spot.line)
+
+  pub called_runs : (arguments : List Exp) {r : Result Value (Fail ScriptStop)} {old new : MachineState} {h h' : S} → Runs fits r old h new h' (first_called arguments)
+      → Runs fits r old h new h' (first_of (suffix_code run (suffix.Call arguments) v spot))
+  called_runs arguments {old = old} {h = h} runs = said (first_called arguments) (suffixing.called run spot v (state_of old h) arguments) runs
+
+  pub no_arguments : (arguments : List Exp) {f : Fail ScriptStop} {r : Result Value (Fail ScriptStop)} {old new : MachineState} {h h' : S} → IsErrAnd r (λ y. y ≡ f)
+      → Runs {A = List Value} fits (Err f) old h new h' (exps_code run arguments spot) → Runs fits r old h new h' (first_called arguments)
+  no_arguments arguments is part = stops (λ args. first_of (call run v args spot.line)) is part
+
+  pub not_called : (arguments : List Exp) {args : List Value} {f : Fail ScriptStop} {r : Result Value (Fail ScriptStop)} {old mid new : MachineState} {h h1 h' : S}
+      → Runs fits (Ok args) old h mid h1 (exps_code run arguments spot) → IsErrAnd r (λ y. y ≡ f) → Runs {A = List Value} fits (Err f) mid h1 new h' (call run v args spot.line)
+      → Runs fits r old h new h' (first_called arguments)
+  not_called arguments first is part = goes_on (λ args. first_of (call run v args spot.line)) first (stops (λ vs. give (first vs)) is part)
+
+  pub was_called : (arguments : List Exp) {args results : List Value} {w : Value} {old mid new : MachineState} {h h1 h' : S}
+      → Runs fits (Ok args) old h mid h1 (exps_code run arguments spot) → w ≡ first results → Runs fits (Ok results) mid h1 new h' (call run v args spot.line)
+      → Runs fits (Ok w) old h new h' (first_called arguments)
+  was_called arguments {results = results} {new = new} {h' = h'} start is part =
+      goes_on (λ args. first_of (call run v args spot.line)) start (goes_on (λ vs. give (first vs)) part (rw is (gives (first results) new h' part.fits)))
+
+-- ---- all values of a prefix
+
+module _ {S : Type 0} (fits : S → StoreState → Type 0) (run : Setting (Kept S)) (spot : Spot) where
+  -- what stands after a prefix's head, and what of it stands before a call
+  abbrev pub after_head : List Suffix → List Value → Action (Kept S) (List Value)
+  after_head ss vs = suffixes (map (suffix_code run) ss) vs spot
+
+  whole : (p : Prefix) (s : State (Kept S)) → prefix_code run p spot s ≡ (head_code run p.head spot >>= λ vs. after_head p.suffixes vs) s
+  whole p s = ap (λ (m : ExpCode S). m spot s) (arms.prefix run p)
+
+  pub failed_head : (p : Prefix) {f : Fail ScriptStop} {r : Result (List Value) (Fail ScriptStop)} {old new : MachineState} {h h' : S} → IsErrAnd r (λ y. y ≡ f)
+      → Runs {A = Value} fits (Err f) old h new h' (first_of (head_code run p.head spot)) → Runs fits r old h new h' (prefix_code run p spot)
+  failed_head p {old = old} {h = h} is part = said (head_code run p.head spot >>= λ vs. after_head p.suffixes vs) (whole p (state_of old h)) (stops_first (head_code run p.head spot) (λ vs. after_head p.suffixes vs) is part)
+
+  -- a call at the end: first what is called, then the arguments, and then the call
+  abbrev pub to_call : List Exp → Value → Action (Kept S) (List Value)
+  to_call arguments f = exps_code run arguments spot >>= λ args. call run f args spot.line
+
+  one_call : (arguments : List Exp) (v : Value) (s : State (Kept S)) → suffix_code run (suffix.Call arguments) v spot s ≡ to_call arguments v s
+  one_call arguments v s = ap (λ (m : SuffixCode S). m v spot s) (arms.call_suffix run arguments)
+
+  split : (others : List Suffix) (arguments : List Exp) (vs : List Value) (s : State (Kept S))
+      → after_head (others ++ suffix.Call arguments ∷ []) vs s ≡ (after_head others vs >>= λ fs. to_call arguments (first fs)) s
+  split [] arguments vs s = after-give (suffix_code run (suffix.Call arguments) (first vs) spot s) ∙ one_call arguments (first vs) s
+  split (o ∷ os) arguments vs s =
+      after-same (suffix_code run o (first vs) spot s) (λ rs. after_head (os ++ suffix.Call arguments ∷ []) rs) (λ rs. after_head os rs >>= λ fs. to_call arguments (first fs)) (λ rs t. split os arguments rs t)
+      ∙ sym (after-then (suffix_code run o (first vs) spot s) (λ rs. after_head os rs) (λ fs. to_call arguments (first fs)))
+
+  -- what is called was found, and this is left
+  call_left : (p : Prefix) (others : List Suffix) (arguments : List Exp) {v : Value} {r : Result (List Value) (Fail ScriptStop)} {old mid new : MachineState} {h h1 h' : S}
+      → p.suffixes ≡ others ++ suffix.Call arguments ∷ [] → Runs fits (Ok v) old h mid h1 (first_of (head_code run p.head spot))
+      → ((vs : List Value) → first vs ≡ v → Runs fits r mid h1 new h' (after_head others vs >>= λ fs. to_call arguments (first fs))) → Runs fits r old h new h' (prefix_code run p spot)
+  call_left p others arguments {old = old} {mid = mid} {h = h} {h1 = h1} is part rest =
+      said (head_code run p.head spot >>= λ vs. after_head p.suffixes vs) (whole p (state_of old h)) (goes_on_first (head_code run p.head spot) (λ vs. after_head p.suffixes vs) part
+      (λ vs same. alike (λ ss. after_head ss vs) is (said (after_head others vs >>= λ fs. to_call arguments (first fs)) (split others arguments vs (state_of mid h1)) (rest vs same))))
+
+  pub failed_callee : (p : Prefix) (others : List Suffix) (arguments : List Exp) {v : Value} {f : Fail ScriptStop} {r : Result (List Value) (Fail ScriptStop)} {old mid new : MachineState} {h h1 h' : S}
+      → p.suffixes ≡ others ++ suffix.Call arguments ∷ [] → Runs fits (Ok v) old h mid h1 (first_of (head_code run p.head spot)) → IsErrAnd r (λ y. y ≡ f)
+      → ((vs : List Value) → first vs ≡ v → Runs {A = Value} fits (Err f) mid h1 new h' (first_of (after_head others vs))) → Runs fits r old h new h' (prefix_code run p spot)
+  failed_callee p others arguments is part fails rest =
+      call_left p others arguments is part (λ vs same. stops_first (after_head others vs) (λ fs. to_call arguments (first fs)) fails (rest vs same))
+
+  pub calls : (p : Prefix) (others : List Suffix) (arguments : List Exp) {v f : Value} {r : Result (List Value) (Fail ScriptStop)} {old mid late new : MachineState} {h h1 h2 h' : S}
+      → p.suffixes ≡ others ++ suffix.Call arguments ∷ [] → Runs fits (Ok v) old h mid h1 (first_of (head_code run p.head spot))
+      → ((vs : List Value) → first vs ≡ v → Runs fits (Ok f) mid h1 late h2 (first_of (after_head others vs))) → Runs fits r late h2 new h' (to_call arguments f)
+      → Runs fits r old h new h' (prefix_code run p spot)
+  calls p others arguments is part callee rest =
+      call_left p others arguments is part (λ vs same. goes_on_first (after_head others vs) (λ fs. to_call arguments (first fs)) (callee vs same)
+      (λ fs found. alike (to_call arguments) found rest))
+
+  -- the arguments of a call, and the call
+  pub failed_arguments : (arguments : List Exp) (v : Value) {f : Fail ScriptStop} {r : Result (List Value) (Fail ScriptStop)} {old new : MachineState} {h h' : S} → IsErrAnd r (λ y. y ≡ f)
+      → Runs {A = List Value} fits (Err f) old h new h' (exps_code run arguments spot) → Runs fits r old h new h' (to_call arguments v)
+  failed_arguments arguments v is part = stops (λ args. call run v args spot.line) is part
+
+  pub ends_in_call : (arguments : List Exp) (v : Value) {args : List Value} {r : Result (List Value) (Fail ScriptStop)} {old mid new : MachineState} {h h1 h' : S}
+      → Runs fits (Ok args) old h mid h1 (exps_code run arguments spot) → Runs fits r mid h1 new h' (call run v args spot.line) → Runs fits r old h new h' (to_call arguments v)
+  ends_in_call arguments v part last = goes_on (λ args. call run v args spot.line) part last
