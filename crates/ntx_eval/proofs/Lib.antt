@@ -34,6 +34,7 @@ pub mod Suffixing
 pub mod Operating
 pub mod Filling
 pub mod OneValued
+pub mod PartLists
 pub mod FieldRuns
 pub mod PrefixRuns
 pub mod Assigning

@@ -1,5 +1,5 @@
 -- Parts that give exactly one value: every expression but a prefix, and every prefix that does not end in a call.
-use Rattle.std.proofs.Common.{◌≡◌, ◌∙◌, ⊥, List, [], ◌∷◌, ◌++◌, map, true, false, Result, Ok, Err, refl, sym, ap, subst}
+use Rattle.std.proofs.Common.{◌≡◌, ◌∙◌, List, [], ◌∷◌, ◌++◌, map, true, false, Result, Ok, Err, refl, sym, ap, subst}
 use Rattle.std.specs.Result.{IsErrAnd}
 use Rattle.ntx_num.specs.declared.answer.Fail.{Fail}
 use Rattle.ntx_values.specs.State.{StoreState}
@@ -54,10 +54,10 @@ single_same : {S : Type 0} (m k : Action (Kept S) (List Value)) → ((s : State 
 single_same {S} m k same is s = ap (λ (e : Ending (Kept S) (List Value)). after (after e (λ vs. give (first vs))) (λ v. give (v ∷ []))) (same s) ∙ is s ∙ sym (same s)
 
 -- a call that has run for the first value of such a part has run for all
-pub single_runs : {S : Type 0} {fits : S → StoreState → Type 0} {v : Value} {old new : MachineState} {h h' : S} (m : Action (Kept S) (List Value)) → IsSingle m
-    → Runs fits (Ok v) old h new h' (first_of m) → Runs fits (Ok (v ∷ [])) old h new h' m
-single_runs {v = v} {old = old} {new = new} {h = h} {h' = h'} m is part =
-    said (one (first_of m)) (sym (is (state_of old h))) (goes_on (λ v. give (v ∷ [])) part (gives (v ∷ []) new h' part.fits))
+pub single_runs : {S : Type 0} {fits : S → StoreState → Type 0} {vs : List Value} {v : Value} {old new : MachineState} {h h' : S} (m : Action (Kept S) (List Value)) → IsSingle m → vs ≡ v ∷ []
+    → Runs fits (Ok v) old h new h' (first_of m) → Runs fits (Ok vs) old h new h' m
+single_runs {v = v} {old = old} {new = new} {h = h} {h' = h'} m single is part =
+    rw is (said (one (first_of m)) (sym (single (state_of old h))) (goes_on (λ v. give (v ∷ [])) part (gives (v ∷ []) new h' part.fits)))
 
 -- and a call that failed at the first value failed at all
 pub failed_values : {S : Type 0} {fits : S → StoreState → Type 0} {f : Fail ScriptStop} {r : Result (List Value) (Fail ScriptStop)} {old new : MachineState} {h h' : S} (m : Action (Kept S) (List Value))

@@ -3,8 +3,10 @@ use Rattle.std.proofs.Common.{◌≡◌, ◌∙◌, ℕ, List, [], ◌∷◌, �
 use Rattle.std.specs.Result.{IsErrAnd}
 use Rattle.ntx_num.specs.declared.answer.Fail.{Fail}
 use Rattle.ntx_resolve.specs.declared.code.Exp.{Exp}
+use Rattle.ntx_resolve.specs.declared.code.Head.{Head}
 use Rattle.ntx_resolve.specs.declared.code.Suffix.{Suffix}
 use Rattle.ntx_resolve.specs.declared.code.Prefix.{Prefix}
+use Rattle.ntx_resolve.specs.declared.code.Exp.TheVariants as exp
 use Rattle.ntx_resolve.specs.declared.code.Suffix.TheVariants as suffix
 use Rattle.ntx_values.specs.State.{StoreState}
 use Rattle.ntx_values.specs.declared.value.Value.{Value}
@@ -25,7 +27,28 @@ use Rattle.ntx_eval.proofs.Running.{after-give, after-then, after-same, goes_on,
 use Rattle.ntx_eval.proofs.FirstValues.{goes_on_first, stops_first}
 use Rattle.ntx_eval.proofs.Suffixing as suffixing
 
+module _ {S : Type 0} {fits : S → StoreState → Type 0} (run : Setting (Kept S)) (spot : Spot) where
+  -- the head is this one
+  pub of_head : {r : Result Value (Fail ScriptStop)} {old new : MachineState} {h h' : S} {x y : Head} → x ≡ y → Runs fits r old h new h' (first_of (head_code run y spot))
+      → Runs fits r old h new h' (first_of (head_code run x spot))
+  of_head is runs = alike (λ z. first_of (head_code run z spot)) is runs
+
+  -- all values of an expression that is a prefix
+  pub prefix_values_runs : {r : Result (List Value) (Fail ScriptStop)} {old new : MachineState} {h h' : S} {e : Exp} (p : Prefix) → e ≡ exp.Prefix p → Runs fits r old h new h' (prefix_code run p spot)
+      → Runs fits r old h new h' (exp_code run e spot)
+  prefix_values_runs {old = old} {h = h} p is runs =
+      alike (λ e. exp_code run e spot) is (said (prefix_code run p spot) (ap (λ (m : ExpCode S). m spot (state_of old h)) (arms.prefix_exp run p)) runs)
+
 -- ---- one part that stands after a value
+
+module _ {S : Type 0} (run : Setting (Kept S)) (spot : Spot) (v : Value) where
+  -- a field, whose key this part gives
+  abbrev pub read : Action (Kept S) Value → Action (Kept S) Value
+  read key = key >>= λ k. read_field run v k spot.line
+
+  -- the first value of a call
+  abbrev pub first_called : List Exp → Action (Kept S) Value
+  first_called arguments = exps_code run arguments spot >>= λ args. first_of (call run v args spot.line)
 
 module _ {S : Type 0} {fits : S → StoreState → Type 0} (run : Setting (Kept S)) (spot : Spot) (v : Value) where
   -- the part is this one
@@ -33,46 +56,38 @@ module _ {S : Type 0} {fits : S → StoreState → Type 0} (run : Setting (Kept 
       → Runs fits r old h new h' (first_of (suffix_code run x v spot))
   of_suffix is runs = alike (λ z. first_of (suffix_code run z v spot)) is runs
 
-  -- a field, whose key this part gives
-  abbrev pub read : Action (Kept S) Value → Action (Kept S) Value
-  read key = key >>= λ k. read_field run v k spot.line
-
-  pub index_runs : (key : Exp) {r : Result Value (Fail ScriptStop)} {old new : MachineState} {h h' : S} → Runs fits r old h new h' (read (first_of (exp_code run key spot)))
+  pub index_runs : (key : Exp) {r : Result Value (Fail ScriptStop)} {old new : MachineState} {h h' : S} → Runs fits r old h new h' (read run spot v (first_of (exp_code run key spot)))
       → Runs fits r old h new h' (first_of (suffix_code run (suffix.Index key) v spot))
-  index_runs key {old = old} {h = h} runs = said (read (first_of (exp_code run key spot))) (suffixing.index run spot v (state_of old h) key) runs
+  index_runs key {old = old} {h = h} runs = said (read run spot v (first_of (exp_code run key spot))) (suffixing.index run spot v (state_of old h) key) runs
 
-  pub named_runs : (name : List ℕ) {r : Result Value (Fail ScriptStop)} {old new : MachineState} {h h' : S} → Runs fits r old h new h' (read (text name spot.line))
+  pub named_runs : (name : List ℕ) {r : Result Value (Fail ScriptStop)} {old new : MachineState} {h h' : S} → Runs fits r old h new h' (read run spot v (text name spot.line))
       → Runs fits r old h new h' (first_of (suffix_code run (suffix.Field name) v spot))
-  named_runs name {old = old} {h = h} runs = said (read (text name spot.line)) (suffixing.named run spot v (state_of old h) name) runs
+  named_runs name {old = old} {h = h} runs = said (read run spot v (text name spot.line)) (suffixing.named run spot v (state_of old h) name) runs
 
   pub no_key : (key : Action (Kept S) Value) {f : Fail ScriptStop} {r : Result Value (Fail ScriptStop)} {old new : MachineState} {h h' : S} → IsErrAnd r (λ y. y ≡ f)
-      → Runs {A = Value} fits (Err f) old h new h' key → Runs fits r old h new h' (read key)
+      → Runs {A = Value} fits (Err f) old h new h' key → Runs fits r old h new h' (read run spot v key)
   no_key key is part = stops (λ k. read_field run v k spot.line) is part
 
   pub with_key : (key : Action (Kept S) Value) {k : Value} {r : Result Value (Fail ScriptStop)} {old mid new : MachineState} {h h1 h' : S} → Runs fits (Ok k) old h mid h1 key
-      → Runs fits r mid h1 new h' (read_field run v k spot.line) → Runs fits r old h new h' (read key)
-  with_key key first part = goes_on (λ k. read_field run v k spot.line) first part
+      → Runs fits r mid h1 new h' (read_field run v k spot.line) → Runs fits r old h new h' (read run spot v key)
+  with_key key start part = goes_on (λ k. read_field run v k spot.line) start part
 
-  -- the first value of a call
-  abbrev pub first_called : List Exp → Action (Kept S) Value
-  first_called arguments = exps_code run arguments spot >>= λ args. first_of (call run v args spot.line)
-
-  pub called_runs : (arguments : List Exp) {r : Result Value (Fail ScriptStop)} {old new : MachineState} {h h' : S} → Runs fits r old h new h' (first_called arguments)
+  pub called_runs : (arguments : List Exp) {r : Result Value (Fail ScriptStop)} {old new : MachineState} {h h' : S} → Runs fits r old h new h' (first_called run spot v arguments)
       → Runs fits r old h new h' (first_of (suffix_code run (suffix.Call arguments) v spot))
-  called_runs arguments {old = old} {h = h} runs = said (first_called arguments) (suffixing.called run spot v (state_of old h) arguments) runs
+  called_runs arguments {old = old} {h = h} runs = said (first_called run spot v arguments) (suffixing.called run spot v (state_of old h) arguments) runs
 
   pub no_arguments : (arguments : List Exp) {f : Fail ScriptStop} {r : Result Value (Fail ScriptStop)} {old new : MachineState} {h h' : S} → IsErrAnd r (λ y. y ≡ f)
-      → Runs {A = List Value} fits (Err f) old h new h' (exps_code run arguments spot) → Runs fits r old h new h' (first_called arguments)
+      → Runs {A = List Value} fits (Err f) old h new h' (exps_code run arguments spot) → Runs fits r old h new h' (first_called run spot v arguments)
   no_arguments arguments is part = stops (λ args. first_of (call run v args spot.line)) is part
 
   pub not_called : (arguments : List Exp) {args : List Value} {f : Fail ScriptStop} {r : Result Value (Fail ScriptStop)} {old mid new : MachineState} {h h1 h' : S}
       → Runs fits (Ok args) old h mid h1 (exps_code run arguments spot) → IsErrAnd r (λ y. y ≡ f) → Runs {A = List Value} fits (Err f) mid h1 new h' (call run v args spot.line)
-      → Runs fits r old h new h' (first_called arguments)
-  not_called arguments first is part = goes_on (λ args. first_of (call run v args spot.line)) first (stops (λ vs. give (first vs)) is part)
+      → Runs fits r old h new h' (first_called run spot v arguments)
+  not_called arguments start is part = goes_on (λ args. first_of (call run v args spot.line)) start (stops (λ vs. give (first vs)) is part)
 
   pub was_called : (arguments : List Exp) {args results : List Value} {w : Value} {old mid new : MachineState} {h h1 h' : S}
       → Runs fits (Ok args) old h mid h1 (exps_code run arguments spot) → w ≡ first results → Runs fits (Ok results) mid h1 new h' (call run v args spot.line)
-      → Runs fits (Ok w) old h new h' (first_called arguments)
+      → Runs fits (Ok w) old h new h' (first_called run spot v arguments)
   was_called arguments {results = results} {new = new} {h' = h'} start is part =
       goes_on (λ args. first_of (call run v args spot.line)) start (goes_on (λ vs. give (first vs)) part (rw is (gives (first results) new h' part.fits)))
 

@@ -136,13 +136,14 @@ impl<
         ensures of { IfOk result (AreOf m.new.store) }
     {
         let v = self.head(m, host, frame, line, &prefix.head)?;
-        match prefix.suffixes.as_slice() {
-            [others @ .., Suffix::Call(arguments)] => {
+        let suffixes = prefix.suffixes.as_slice();
+        match suffixes.split_last() {
+            Some((Suffix::Call(arguments), others)) => {
                 let f = self.suffixes(m, host, frame, line, v, others)?;
                 let values = self.values(m, host, frame, line, arguments.as_slice())?;
                 self.call(m, host, f, values.as_slice(), line)
             }
-            suffixes => {
+            _ => {
                 let v = self.suffixes(m, host, frame, line, v, suffixes)?;
                 Ok(self.single(v)?)
             }
