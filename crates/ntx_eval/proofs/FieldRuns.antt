@@ -106,21 +106,14 @@ module _ {S : Type 0} (run : Setting (Kept S)) (fits : S → StoreState → Type
   abbrev pub Places : List Value → ℕ → List Value → ℕ → MachineState → S → MachineState → S → Type 0
   Places all from left n old h now h1 = Rest fits old h (place_values run t from all line) now h1 (place_values run t n left line)
 
-  at_place : (all : List Value) (from i n : ℕ) (v : Value) (old now : MachineState) (h h1 : S) → v ≡ get_or all i v → i < length all
-      → Places all from (drop i all) n old h now h1 → Places all from (v ∷ drop (i + 1) all) n old h now h1
-  at_place all from i n v old now h h1 is within rest =
-      subst (λ left. Places all from left n old h now h1) (drop_more all i v within ∙ ap (λ z. z ∷ drop (i + 1) all) (sym is)) rest
+  at_place : (all : List Value) (from i n : ℕ) (d : Value) (old now : MachineState) (h h1 : S) → i < length all
+      → Places all from (drop i all) n old h now h1 → Places all from (get_or all i d ∷ drop (i + 1) all) n old h now h1
+  at_place all from i n d old now h h1 within rest = subst (λ left. Places all from left n old h now h1) (drop_more all i d within) rest
 
-  pub placed_one : (all : List Value) (from i n next : ℕ) (v : Value) (old now mid : MachineState) (h h1 h2 : S) → v ≡ get_or all i v → i < length all
-      → Places all from (drop i all) n old h now h1 → Runs fits (Ok next) now h1 mid h2 (place_value run t n v line) → Places all from (drop (i + 1) all) next old h mid h2
-  placed_one all from i n next v old now mid h h1 h2 is within rest part r new h3 runs =
-      at_place all from i n v old now h h1 is within rest r new h3 (goes_on (λ next. place_values run t next (drop (i + 1) all) line) part runs)
-
-  pub not_placed : (all : List Value) (from i n : ℕ) (v : Value) {f : Fail ScriptStop} (r : Result ℕ (Fail ScriptStop)) (old now new : MachineState) (h h1 h2 : S) → v ≡ get_or all i v → i < length all
-      → Places all from (drop i all) n old h now h1 → IsErrAnd r (λ e. e ≡ f) → Runs {A = ℕ} fits (Err f) now h1 new h2 (place_value run t n v line)
-      → Runs fits r old h new h2 (place_values run t from all line)
-  not_placed all from i n v r old now new h h1 h2 is within rest fails part =
-      at_place all from i n v old now h h1 is within rest r new h2 (stops (λ next. place_values run t next (drop (i + 1) all) line) fails part)
+  pub placed_one : (all : List Value) (from i n next : ℕ) (d : Value) (old now mid : MachineState) (h h1 h2 : S) → i < length all
+      → Places all from (drop i all) n old h now h1 → Runs fits (Ok next) now h1 mid h2 (place_value run t n (get_or all i d) line) → Places all from (drop (i + 1) all) next old h mid h2
+  placed_one all from i n next d old now mid h h1 h2 within rest part r new h3 runs =
+      at_place all from i n d old now h h1 within rest r new h3 (goes_on (λ next. place_values run t next (drop (i + 1) all) line) part runs)
 
   pub all_placed : (all : List Value) (from i n : ℕ) (old now : MachineState) (h h1 : S) → length all ≤ i → Places all from (drop i all) n old h now h1 → fits h1 now.store
       → Runs fits (Ok n) old h now h1 (place_values run t from all line)

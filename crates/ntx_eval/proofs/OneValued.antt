@@ -1,5 +1,5 @@
--- Parts that give exactly one value: every expression but a prefix, and every prefix that does not end in a call.
-use Rattle.std.proofs.Common.{◌≡◌, ◌∙◌, List, [], ◌∷◌, ◌++◌, map, true, false, Result, Ok, Err, refl, sym, ap, subst}
+-- Parts that give exactly one value: every expression but a prefix, every head, and what stands after a value but a call.
+use Rattle.std.proofs.Common.{◌≡◌, ◌∙◌, List, [], ◌∷◌, map, true, false, Result, Ok, Err, refl, sym, ap, subst}
 use Rattle.std.specs.Result.{IsErrAnd}
 use Rattle.ntx_num.specs.declared.answer.Fail.{Fail}
 use Rattle.ntx_values.specs.State.{StoreState}
@@ -15,7 +15,6 @@ use Rattle.ntx_resolve.specs.declared.code.Exp.TheVariants as exp
 use Rattle.ntx_resolve.specs.declared.code.Head.TheVariants as head
 use Rattle.ntx_resolve.specs.declared.code.Suffix.TheVariants as suffix
 use Rattle.ntx_resolve.specs.declared.code.Exp.TheOpen.{Exp-F, Head-F, Suffix-F}
-use Rattle.ntx_resolve.specs.declared.code.Exp.TheFolds.{fold-roll-Exp, fold-roll-Head, fold-roll-Suffix}
 use Rattle.ntx_resolve.specs.declared.code.Exp.TheViews.{roll-out-Exp, roll-out-Head, roll-out-Suffix}
 use Rattle.ntx_eval.specs.State.{State}
 use Rattle.ntx_eval.specs.Ending.{Action, Ending, give, after, ◌>>=◌, ◌>>◌}
@@ -27,8 +26,8 @@ use Rattle.ntx_eval.specs.Fields.{read_field}
 use Rattle.ntx_eval.specs.Expressions.{one, first_of, new_table}
 use Rattle.ntx_eval.specs.inner.Machine.{MachineState, Kept, state_of}
 use Rattle.ntx_eval.specs.inner.Places.{Spot, read_variable, new_function}
-use Rattle.ntx_eval.specs.inner.Code.{ExpCode, FieldCode, SuffixCode, OperationCode}
-use Rattle.ntx_eval.specs.inner.Exps.{exp_layer, field_layer, head_layer, suffix_layer, operation_layer, prefix_layer, exp_code, field_code, head_code, suffix_code, operation_code, prefix_code, operations, suffixes, fill}
+use Rattle.ntx_eval.specs.inner.Code.{ExpCode, SuffixCode}
+use Rattle.ntx_eval.specs.inner.Exps.{exp_code, field_code, head_code, suffix_code, operation_code, operations, fill}
 use Rattle.ntx_eval.specs.inner.Runs.{Runs}
 use Rattle.ntx_eval.specs.declared.stop.ScriptStop.{ScriptStop}
 use Rattle.ntx_eval.proofs.CodeArms as arms
@@ -101,7 +100,7 @@ module _ {S : Type 0} (run : Setting (Kept S)) (spot : Spot) where
   by_head (Head-F.Name name v) = head_is (head.rolls-Name name v) (said_by (arms.name_head run name v) (single_one (read_variable name v spot)))
   by_head (Head-F.Parenthesized e) = head_is (head.rolls-Parenthesized e) (said_by (arms.parenthesized run e) (single_one (first_of (exp_code run e spot))))
 
-  head_single : (x : Head) → IsSingle (head_code run x spot)
+  pub head_single : (x : Head) → IsSingle (head_code run x spot)
   head_single x = head_is (sym (roll-out-Head x)) (by_head (out-Head x))
 
   -- ---- what stands after a prefix
@@ -116,24 +115,5 @@ module _ {S : Type 0} (run : Setting (Kept S)) (spot : Spot) where
       (single_then (variables.text name spot.line) (λ k. one (read_field run v k spot.line)) (λ k. single_one (read_field run v k spot.line))))
   by_suffix (Suffix-F.Call arguments) v never = absurd (never arguments (suffix.rolls-Call arguments))
 
-  suffix_single : (x : Suffix) (v : Value) → ((arguments : List Exp) → x ≡ suffix.Call arguments → ⊥) → IsSingle (suffix_code run x v spot)
+  pub suffix_single : (x : Suffix) (v : Value) → ((arguments : List Exp) → x ≡ suffix.Call arguments → ⊥) → IsSingle (suffix_code run x v spot)
   suffix_single x v never = suffix_is v (sym (roll-out-Suffix x)) (by_suffix (out-Suffix x) v (λ arguments is. never arguments (sym (roll-out-Suffix x) ∙ is)))
-
-  -- no call stands last
-  abbrev pub EndsInNoCall : List Suffix → Type 0
-  EndsInNoCall ss = (others : List Suffix) (arguments : List Exp) → ss ≡ others ++ suffix.Call arguments ∷ [] → ⊥
-
-  suffixes_single : (x : Suffix) (ss : List Suffix) (vs : List Value) → EndsInNoCall (x ∷ ss) → IsSingle (suffixes (map (suffix_code run) (x ∷ ss)) vs spot)
-  suffixes_single x [] vs never = single_same (suffixes (map (suffix_code run) (x ∷ [])) vs spot) (suffix_code run x (first vs) spot)
-      (λ s. after-give (suffix_code run x (first vs) spot s)) (suffix_single x (first vs) (λ arguments is. never [] arguments (ap (λ y. y ∷ []) is)))
-  suffixes_single x (y ∷ ss) vs never = single_then (suffix_code run x (first vs) spot) (λ results. suffixes (map (suffix_code run) (y ∷ ss)) results spot)
-      (λ results. suffixes_single y ss results (λ others arguments is. never (x ∷ others) arguments (ap (λ zs. x ∷ zs) is)))
-
-  -- ---- prefixes
-
-  parts_single : (x : Head) (ss : List Suffix) → EndsInNoCall ss → IsSingle (head_code run x spot >>= λ vs. suffixes (map (suffix_code run) ss) vs spot)
-  parts_single x [] never = single_same (head_code run x spot >>= λ vs. give vs) (head_code run x spot) (λ s. after-give (head_code run x spot s)) (head_single x)
-  parts_single x (y ∷ ss) never = single_then (head_code run x spot) (λ vs. suffixes (map (suffix_code run) (y ∷ ss)) vs spot) (λ vs. suffixes_single y ss vs never)
-
-  pub prefix_single : (p : Prefix) → EndsInNoCall p.suffixes → IsSingle (prefix_code run p spot)
-  prefix_single p never = said_by (arms.prefix run p) (parts_single p.head p.suffixes never)

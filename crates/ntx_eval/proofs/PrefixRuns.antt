@@ -1,5 +1,6 @@
 -- What a call has run of a prefix of which all values are wanted, and of what stands after a value.
-use Rattle.std.proofs.Common.{◌≡◌, ◌∙◌, ℕ, List, [], ◌∷◌, ◌++◌, map, Result, Ok, Err, refl, sym, ap}
+use Rattle.std.proofs.Common.{◌≡◌, ◌∙◌, ℕ, length, List, [], ◌∷◌, ◌++◌, map, Result, Ok, Err, refl, sym, ap}
+use Rattle.std.proofs.lemmas.List.{nil_from_length}
 use Rattle.std.specs.Result.{IsErrAnd}
 use Rattle.ntx_num.specs.declared.answer.Fail.{Fail}
 use Rattle.ntx_resolve.specs.declared.code.Exp.{Exp}
@@ -25,6 +26,7 @@ use Rattle.ntx_eval.specs.declared.stop.ScriptStop.{ScriptStop}
 use Rattle.ntx_eval.proofs.CodeArms as arms
 use Rattle.ntx_eval.proofs.Running.{after-give, after-then, after-same, goes_on, stops, gives, said, alike}
 use Rattle.ntx_eval.proofs.FirstValues.{goes_on_first, stops_first}
+use Rattle.ntx_eval.proofs.OneValued.{single_runs, head_single}
 use Rattle.ntx_eval.proofs.Suffixing as suffixing
 
 module _ {S : Type 0} {fits : S → StoreState → Type 0} (run : Setting (Kept S)) (spot : Spot) where
@@ -94,7 +96,7 @@ module _ {S : Type 0} {fits : S → StoreState → Type 0} (run : Setting (Kept 
 -- ---- all values of a prefix
 
 module _ {S : Type 0} (fits : S → StoreState → Type 0) (run : Setting (Kept S)) (spot : Spot) where
-  -- what stands after a prefix's head, and what of it stands before a call
+  -- what stands after a prefix's head
   abbrev pub after_head : List Suffix → List Value → Action (Kept S) (List Value)
   after_head ss vs = suffixes (map (suffix_code run) ss) vs spot
 
@@ -105,47 +107,51 @@ module _ {S : Type 0} (fits : S → StoreState → Type 0) (run : Setting (Kept 
       → Runs {A = Value} fits (Err f) old h new h' (first_of (head_code run p.head spot)) → Runs fits r old h new h' (prefix_code run p spot)
   failed_head p {old = old} {h = h} is part = said (head_code run p.head spot >>= λ vs. after_head p.suffixes vs) (whole p (state_of old h)) (stops_first (head_code run p.head spot) (λ vs. after_head p.suffixes vs) is part)
 
-  -- a call at the end: first what is called, then the arguments, and then the call
+  -- no part stands after the head
+  head_alone : (p : Prefix) (s : State (Kept S)) → length p.suffixes ≡ 0 → prefix_code run p spot s ≡ head_code run p.head spot s
+  head_alone p s none = whole p s ∙ ap (λ ss. (head_code run p.head spot >>= λ vs. after_head ss vs) s) (nil_from_length p.suffixes none) ∙ after-give (head_code run p.head spot s)
+
+  pub of_head_alone : (p : Prefix) {v : Value} {vs : List Value} {old new : MachineState} {h h' : S} → length p.suffixes ≡ 0 → vs ≡ v ∷ []
+      → Runs fits (Ok v) old h new h' (first_of (head_code run p.head spot)) → Runs fits (Ok vs) old h new h' (prefix_code run p spot)
+  of_head_alone p {old = old} {h = h} none is part =
+      said (head_code run p.head spot) (head_alone p (state_of old h) none) (single_runs (head_code run p.head spot) (head_single run spot p.head) is part)
+
+  -- a last part, after the others
+  abbrev pub last_after : List Suffix → Suffix → List Value → Action (Kept S) (List Value)
+  last_after others x vs = after_head others vs >>= λ fs. suffix_code run x (first fs) spot
+
+  split : (others : List Suffix) (x : Suffix) (vs : List Value) (s : State (Kept S)) → after_head (others ++ x ∷ []) vs s ≡ last_after others x vs s
+  split [] x vs s = after-give (suffix_code run x (first vs) spot s)
+  split (o ∷ os) x vs s =
+      after-same (suffix_code run o (first vs) spot s) (λ rs. after_head (os ++ x ∷ []) rs) (λ rs. last_after os x rs) (λ rs t. split os x rs t)
+      ∙ sym (after-then (suffix_code run o (first vs) spot s) (λ rs. after_head os rs) (λ fs. suffix_code run x (first fs) spot))
+
+  -- the head gave a value, and this is left
+  last_left : (p : Prefix) (others : List Suffix) (x : Suffix) {v : Value} {r : Result (List Value) (Fail ScriptStop)} {old mid new : MachineState} {h h1 h' : S}
+      → p.suffixes ≡ others ++ x ∷ [] → Runs fits (Ok v) old h mid h1 (first_of (head_code run p.head spot))
+      → ((vs : List Value) → first vs ≡ v → Runs fits r mid h1 new h' (last_after others x vs)) → Runs fits r old h new h' (prefix_code run p spot)
+  last_left p others x {old = old} {mid = mid} {h = h} {h1 = h1} is part rest =
+      said (head_code run p.head spot >>= λ vs. after_head p.suffixes vs) (whole p (state_of old h)) (goes_on_first (head_code run p.head spot) (λ vs. after_head p.suffixes vs) part
+      (λ vs same. alike (λ ss. after_head ss vs) is (said (last_after others x vs) (split others x vs (state_of mid h1)) (rest vs same))))
+
+  pub failed_before : (p : Prefix) (others : List Suffix) (x : Suffix) {v : Value} {f : Fail ScriptStop} {r : Result (List Value) (Fail ScriptStop)} {old mid new : MachineState} {h h1 h' : S}
+      → p.suffixes ≡ others ++ x ∷ [] → Runs fits (Ok v) old h mid h1 (first_of (head_code run p.head spot)) → IsErrAnd r (λ y. y ≡ f)
+      → ((vs : List Value) → first vs ≡ v → Runs {A = Value} fits (Err f) mid h1 new h' (first_of (after_head others vs))) → Runs fits r old h new h' (prefix_code run p spot)
+  failed_before p others x is part fails rest =
+      last_left p others x is part (λ vs same. stops_first (after_head others vs) (λ fs. suffix_code run x (first fs) spot) fails (rest vs same))
+
+  pub ends_in : (p : Prefix) (others : List Suffix) (x : Suffix) {v w : Value} {r : Result (List Value) (Fail ScriptStop)} {old mid late new : MachineState} {h h1 h2 h' : S}
+      → p.suffixes ≡ others ++ x ∷ [] → Runs fits (Ok v) old h mid h1 (first_of (head_code run p.head spot))
+      → ((vs : List Value) → first vs ≡ v → Runs fits (Ok w) mid h1 late h2 (first_of (after_head others vs))) → Runs fits r late h2 new h' (suffix_code run x w spot)
+      → Runs fits r old h new h' (prefix_code run p spot)
+  ends_in p others x is part before last =
+      last_left p others x is part (λ vs same. goes_on_first (after_head others vs) (λ fs. suffix_code run x (first fs) spot) (before vs same) (λ fs found. alike (λ z. suffix_code run x z spot) found last))
+
+  -- all values of a call after a value
   abbrev pub to_call : List Exp → Value → Action (Kept S) (List Value)
   to_call arguments f = exps_code run arguments spot >>= λ args. call run f args spot.line
 
-  one_call : (arguments : List Exp) (v : Value) (s : State (Kept S)) → suffix_code run (suffix.Call arguments) v spot s ≡ to_call arguments v s
-  one_call arguments v s = ap (λ (m : SuffixCode S). m v spot s) (arms.call_suffix run arguments)
-
-  split : (others : List Suffix) (arguments : List Exp) (vs : List Value) (s : State (Kept S))
-      → after_head (others ++ suffix.Call arguments ∷ []) vs s ≡ (after_head others vs >>= λ fs. to_call arguments (first fs)) s
-  split [] arguments vs s = after-give (suffix_code run (suffix.Call arguments) (first vs) spot s) ∙ one_call arguments (first vs) s
-  split (o ∷ os) arguments vs s =
-      after-same (suffix_code run o (first vs) spot s) (λ rs. after_head (os ++ suffix.Call arguments ∷ []) rs) (λ rs. after_head os rs >>= λ fs. to_call arguments (first fs)) (λ rs t. split os arguments rs t)
-      ∙ sym (after-then (suffix_code run o (first vs) spot s) (λ rs. after_head os rs) (λ fs. to_call arguments (first fs)))
-
-  -- what is called was found, and this is left
-  call_left : (p : Prefix) (others : List Suffix) (arguments : List Exp) {v : Value} {r : Result (List Value) (Fail ScriptStop)} {old mid new : MachineState} {h h1 h' : S}
-      → p.suffixes ≡ others ++ suffix.Call arguments ∷ [] → Runs fits (Ok v) old h mid h1 (first_of (head_code run p.head spot))
-      → ((vs : List Value) → first vs ≡ v → Runs fits r mid h1 new h' (after_head others vs >>= λ fs. to_call arguments (first fs))) → Runs fits r old h new h' (prefix_code run p spot)
-  call_left p others arguments {old = old} {mid = mid} {h = h} {h1 = h1} is part rest =
-      said (head_code run p.head spot >>= λ vs. after_head p.suffixes vs) (whole p (state_of old h)) (goes_on_first (head_code run p.head spot) (λ vs. after_head p.suffixes vs) part
-      (λ vs same. alike (λ ss. after_head ss vs) is (said (after_head others vs >>= λ fs. to_call arguments (first fs)) (split others arguments vs (state_of mid h1)) (rest vs same))))
-
-  pub failed_callee : (p : Prefix) (others : List Suffix) (arguments : List Exp) {v : Value} {f : Fail ScriptStop} {r : Result (List Value) (Fail ScriptStop)} {old mid new : MachineState} {h h1 h' : S}
-      → p.suffixes ≡ others ++ suffix.Call arguments ∷ [] → Runs fits (Ok v) old h mid h1 (first_of (head_code run p.head spot)) → IsErrAnd r (λ y. y ≡ f)
-      → ((vs : List Value) → first vs ≡ v → Runs {A = Value} fits (Err f) mid h1 new h' (first_of (after_head others vs))) → Runs fits r old h new h' (prefix_code run p spot)
-  failed_callee p others arguments is part fails rest =
-      call_left p others arguments is part (λ vs same. stops_first (after_head others vs) (λ fs. to_call arguments (first fs)) fails (rest vs same))
-
-  pub calls : (p : Prefix) (others : List Suffix) (arguments : List Exp) {v f : Value} {r : Result (List Value) (Fail ScriptStop)} {old mid late new : MachineState} {h h1 h2 h' : S}
-      → p.suffixes ≡ others ++ suffix.Call arguments ∷ [] → Runs fits (Ok v) old h mid h1 (first_of (head_code run p.head spot))
-      → ((vs : List Value) → first vs ≡ v → Runs fits (Ok f) mid h1 late h2 (first_of (after_head others vs))) → Runs fits r late h2 new h' (to_call arguments f)
-      → Runs fits r old h new h' (prefix_code run p spot)
-  calls p others arguments is part callee rest =
-      call_left p others arguments is part (λ vs same. goes_on_first (after_head others vs) (λ fs. to_call arguments (first fs)) (callee vs same)
-      (λ fs found. alike (to_call arguments) found rest))
-
-  -- the arguments of a call, and the call
-  pub failed_arguments : (arguments : List Exp) (v : Value) {f : Fail ScriptStop} {r : Result (List Value) (Fail ScriptStop)} {old new : MachineState} {h h' : S} → IsErrAnd r (λ y. y ≡ f)
-      → Runs {A = List Value} fits (Err f) old h new h' (exps_code run arguments spot) → Runs fits r old h new h' (to_call arguments v)
-  failed_arguments arguments v is part = stops (λ args. call run v args spot.line) is part
-
-  pub ends_in_call : (arguments : List Exp) (v : Value) {args : List Value} {r : Result (List Value) (Fail ScriptStop)} {old mid new : MachineState} {h h1 h' : S}
-      → Runs fits (Ok args) old h mid h1 (exps_code run arguments spot) → Runs fits r mid h1 new h' (call run v args spot.line) → Runs fits r old h new h' (to_call arguments v)
-  ends_in_call arguments v part last = goes_on (λ args. call run v args spot.line) part last
+  pub call_runs : (x : Suffix) (arguments : List Exp) (v : Value) {r : Result (List Value) (Fail ScriptStop)} {old new : MachineState} {h h' : S} → x ≡ suffix.Call arguments
+      → Runs fits r old h new h' (to_call arguments v) → Runs fits r old h new h' (suffix_code run x v spot)
+  call_runs x arguments v {old = old} {h = h} is runs =
+      alike (λ z. suffix_code run z v spot) is (said (to_call arguments v) (ap (λ (m : SuffixCode S). m v spot (state_of old h)) (arms.call_suffix run arguments)) runs)

@@ -1,4 +1,4 @@
-use Rattle.std.proofs.Common.{◌≡◌, ◌∙◌, refl, sym, ap, subst, arith}
+use Rattle.std.proofs.Common.{◌≡◌, ◌∙◌, length, refl, sym, ap, subst, arith}
 use Rattle.std.proofs.lemmas.List.{nil_from_length}
 use Rattle.std.proofs.lemmas.List.Elements.{All-append, All-push}
 use denote.Param.Weighed.{most}
@@ -13,16 +13,16 @@ use Rattle.ntx_resolve.specs.declared.code.Field.TheVariants as field
 use Rattle.ntx_resolve.specs.declared.code.Head.TheVariants as head
 use Rattle.ntx_resolve.specs.declared.code.Suffix.TheVariants as suffix
 use Rattle.ntx_eval.specs.Setting.{call}
-use Rattle.ntx_eval.specs.inner.Exps.{exp_code, place_value, place_values}
+use Rattle.ntx_eval.specs.inner.Exps.{exp_code, suffix_code, place_value, place_values}
 use Rattle.ntx_eval.specs.inner.Runs.{run_of, spot_of}
 use Rattle.ntx_eval.proofs.Running.{goes_on, stops, gives, alike, out_of_memory}
-use Rattle.ntx_eval.proofs.OneRuns.{of_exp, text_runs, function_runs, name_runs, parenthesized_runs, binary_runs, unary_runs, prefix_exp_runs, binary_stops, unary_stops, prefix_exp_stops}
-use Rattle.ntx_eval.proofs.OneValued.{single_runs, exp_single}
+use Rattle.ntx_eval.proofs.OneRuns.{of_exp, numeral_runs, text_runs, function_runs, name_runs, parenthesized_runs, binary_runs, unary_runs, prefix_exp_runs, binary_stops, unary_stops, prefix_exp_stops}
+use Rattle.ntx_eval.proofs.OneValued.{single_runs, failed_values, exp_single, suffix_single}
 use Rattle.ntx_eval.proofs.PartLists.{rest_smaller, first_is_of, only_is_of}
 use Rattle.ntx_eval.proofs.FieldRuns as fields
 use Rattle.ntx_eval.proofs.FieldRuns.{of_field, keyed_runs, last_runs, earlier_runs, made, no_table, table_begun}
 use Rattle.ntx_eval.proofs.PrefixRuns as prefixes
-use Rattle.ntx_eval.proofs.PrefixRuns.{of_head, prefix_values_runs, failed_head, of_suffix, index_runs, with_key, called_runs, no_arguments, not_called, was_called}
+use Rattle.ntx_eval.proofs.PrefixRuns.{of_head, prefix_values_runs, failed_head, of_head_alone, failed_before, ends_in, call_runs, of_suffix, index_runs, with_key, called_runs, no_arguments, not_called, was_called}
 use Rattle.ntx_eval.proofs.ManyValues as many-values
 use Rattle.ntx_eval.proofs.Operating as operating
 use Rattle.ntx_eval.proofs.Operating.{Operates}
@@ -144,7 +144,9 @@ one-returns-in_err-v-in-Unary-clause-runs g t c =
 
 pub one-returns-in-Numeral-clause-runs : goal.one-returns-in-Numeral-clause-runs
 one-returns-in-Numeral-clause-runs g t c =
-    let h = c.type_inv in let k = c.in-Numeral in ?
+    let run = run_of g.H.Host.begin_step g.H.Host.resume_step c.args.self.now.functions c.args.self.now.most c.args.self.now.level in
+    let spot = spot_of c.args.frame.now c.args.line in
+    of_exp run spot c.in-Numeral.is (rw c.integer.ensures (numeral_runs run spot c.args.m.now (g.H.Host.state c.args.host.now) c.requires.fits c.in-Numeral.n))
 
 pub one-returns-in-Text-clause-runs : goal.one-returns-in-Text-clause-runs
 one-returns-in-Text-clause-runs g t c =
@@ -239,7 +241,64 @@ operations-returns-clause-runs g t c =
 
 pub prefix_values-returns-in_err-v-clause-runs : goal.prefix_values-returns-in_err-v-clause-runs
 prefix_values-returns-in_err-v-clause-runs g t c =
-    failed_head _ _ _ c.args.prefix.now c.from_residual.ensures.1 c.in_err-v.ensures.runs
+    let run = run_of g.H.Host.begin_step g.H.Host.resume_step c.args.self.now.functions c.args.self.now.most c.args.self.now.level in
+    let spot = spot_of c.args.frame.now c.args.line in
+    failed_head g.H.Host.Fits run spot c.args.prefix.now c.from_residual.ensures.1 c.in_err-v.ensures.runs
+
+pub prefix_values-returns-in_ok-single-in-None-clause-runs : goal.prefix_values-returns-in_ok-single-in-None-clause-runs
+prefix_values-returns-in_ok-single-in-None-clause-runs g t c =
+    let run = run_of g.H.Host.begin_step g.H.Host.resume_step c.args.self.now.functions c.args.self.now.most c.args.self.now.level in
+    let spot = spot_of c.args.frame.now c.args.line in
+    of_head_alone g.H.Host.Fits run spot c.args.prefix.now (ap length (sym c.as_slice.ensures) ∙ c.in-None.ensures.cases) c.in_ok-single-in-None.ensures c.in_ok-v.ensures.runs
+
+pub prefix_values-returns-in_err-single-in-None-clause-runs : goal.prefix_values-returns-in_err-single-in-None-clause-runs
+prefix_values-returns-in_err-single-in-None-clause-runs g t c =
+    let run = run_of g.H.Host.begin_step g.H.Host.resume_step c.args.self.now.functions c.args.self.now.most c.args.self.now.level in
+    let spot = spot_of c.args.frame.now c.args.line in
+    out_of_memory _ c.from_residual-in_err-single-in-None.ensures.1 c.in_ok-v.ensures.runs.falls c.in_ok-v.ensures.runs.grows c.in_ok-v.ensures.runs.fits
+
+pub prefix_values-returns-in_err-v-in-Some-clause-runs : goal.prefix_values-returns-in_err-v-in-Some-clause-runs
+prefix_values-returns-in_err-v-in-Some-clause-runs g t c =
+    let run = run_of g.H.Host.begin_step g.H.Host.resume_step c.args.self.now.functions c.args.self.now.most c.args.self.now.level in
+    let spot = spot_of c.args.frame.now c.args.line in
+    failed_before g.H.Host.Fits run spot c.args.prefix.now c.in-Some.others.now c.in-Some.last.now (sym c.as_slice.ensures ∙ c.in-Some.ensures.cases.0) c.in_ok-v.ensures.runs c.from_residual-in_err-v-in-Some.ensures.1 c.in_err-v-in-Some.ensures.runs
+
+pub prefix_values-returns-in_ok-v-in-Some-clause-runs : goal.prefix_values-returns-in_ok-v-in-Some-clause-runs
+prefix_values-returns-in_ok-v-in-Some-clause-runs g t c =
+    let run = run_of g.H.Host.begin_step g.H.Host.resume_step c.args.self.now.functions c.args.self.now.most c.args.self.now.level in
+    let spot = spot_of c.args.frame.now c.args.line in
+    ends_in g.H.Host.Fits run spot c.args.prefix.now c.in-Some.others.now c.in-Some.last.now (sym c.as_slice.ensures ∙ c.in-Some.ensures.cases.0) c.in_ok-v.ensures.runs c.in_ok-v-in-Some.ensures.runs c.suffix_values.ensures.runs
+
+pub suffix_values-returns-in_err-values-in-Call-clause-runs : goal.suffix_values-returns-in_err-values-in-Call-clause-runs
+suffix_values-returns-in_err-values-in-Call-clause-runs g t c =
+    let run = run_of g.H.Host.begin_step g.H.Host.resume_step c.args.self.now.functions c.args.self.now.most c.args.self.now.level in
+    let spot = spot_of c.args.frame.now c.args.line in
+    call_runs g.H.Host.Fits run spot c.args.suffix.now c.as_slice.result.now c.args.v (c.in-Call.is ∙ ap suffix.Call (sym c.as_slice.ensures)) (stops (λ args. call run c.args.v args c.args.line) c.from_residual.ensures.1 c.in_err-values-in-Call.ensures.runs)
+
+pub suffix_values-returns-in_ok-values-in-Call-clause-runs : goal.suffix_values-returns-in_ok-values-in-Call-clause-runs
+suffix_values-returns-in_ok-values-in-Call-clause-runs g t c =
+    let run = run_of g.H.Host.begin_step g.H.Host.resume_step c.args.self.now.functions c.args.self.now.most c.args.self.now.level in
+    let spot = spot_of c.args.frame.now c.args.line in
+    call_runs g.H.Host.Fits run spot c.args.suffix.now c.as_slice.result.now c.args.v (c.in-Call.is ∙ ap suffix.Call (sym c.as_slice.ensures)) (goes_on (λ args. call run c.args.v args c.args.line) c.in_ok-values-in-Call.ensures.runs
+    (alike (λ args. call run c.args.v args c.args.line) (sym c.as_slice-in-Call.ensures) c.call.ensures.runs))
+
+pub suffix_values-returns-in_err-v-in_default-clause-runs : goal.suffix_values-returns-in_err-v-in_default-clause-runs
+suffix_values-returns-in_err-v-in_default-clause-runs g t c =
+    let run = run_of g.H.Host.begin_step g.H.Host.resume_step c.args.self.now.functions c.args.self.now.most c.args.self.now.level in
+    let spot = spot_of c.args.frame.now c.args.line in
+    failed_values (suffix_code run c.args.suffix.now c.args.v spot) c.from_residual-in_err-v-in_default.ensures.1 c.in_err-v-in_default.ensures.runs
+
+pub suffix_values-returns-in_err-single-in_default-clause-runs : goal.suffix_values-returns-in_err-single-in_default-clause-runs
+suffix_values-returns-in_err-single-in_default-clause-runs g t c =
+    let run = run_of g.H.Host.begin_step g.H.Host.resume_step c.args.self.now.functions c.args.self.now.most c.args.self.now.level in
+    let spot = spot_of c.args.frame.now c.args.line in
+    out_of_memory _ c.from_residual-in_err-single-in_default.ensures.1 c.in_ok-v-in_default.ensures.runs.falls c.in_ok-v-in_default.ensures.runs.grows c.in_ok-v-in_default.ensures.runs.fits
+
+pub suffix_values-returns-in_ok-single-in_default-clause-runs : goal.suffix_values-returns-in_ok-single-in_default-clause-runs
+suffix_values-returns-in_ok-single-in_default-clause-runs g t c =
+    let run = run_of g.H.Host.begin_step g.H.Host.resume_step c.args.self.now.functions c.args.self.now.most c.args.self.now.level in
+    let spot = spot_of c.args.frame.now c.args.line in
+    single_runs (suffix_code run c.args.suffix.now c.args.v spot) (suffix_single run spot c.args.suffix.now c.args.v c.in_default.not-Call) c.in_ok-single-in_default.ensures c.in_ok-v-in_default.ensures.runs
 
 pub suffix-returns-in_err-key-in-Index-clause-runs : goal.suffix-returns-in_err-key-in-Index-clause-runs
 suffix-returns-in_err-key-in-Index-clause-runs g t c =
