@@ -1,4 +1,4 @@
-use Rattle.std.proofs.Common.{◌≡◌, ◌∙◌, length, refl, sym, ap, subst, arith}
+use Rattle.std.proofs.Common.{◌≡◌, ◌<◌, ◌∙◌, [], ◌∷◌, length, rules, refl, sym, ap, subst, arith}
 use Rattle.std.proofs.lemmas.List.{nil_from_length}
 use Rattle.std.proofs.lemmas.List.Elements.{All-append, All-push}
 use denote.Param.Weighed.{most}
@@ -7,6 +7,8 @@ use Rattle.ntx_values.proofs.Growth.{AreOf-grown}
 use Rattle.ntx_resolve.specs.declared.code.Exp.{size-Exp}
 use Rattle.ntx_resolve.specs.declared.code.Field.{size-Field}
 use Rattle.ntx_resolve.specs.declared.code.Suffix.{size-Suffix}
+use Rattle.ntx_resolve.specs.declared.code.Prefix.{size-Prefix}
+use Rattle.ntx_resolve.specs.declared.code.Exp.TheViews.{the_lemmas}
 use Rattle.ntx_resolve.specs.declared.code.Operation.{size-Operation}
 use Rattle.ntx_resolve.specs.declared.code.Exp.TheVariants as exp
 use Rattle.ntx_resolve.specs.declared.code.Field.TheVariants as field
@@ -268,6 +270,12 @@ prefix_values-returns-in_ok-v-in-Some-clause-runs g t c =
     let run = run_of g.H.Host.begin_step g.H.Host.resume_step c.args.self.now.functions c.args.self.now.most c.args.self.now.level in
     let spot = spot_of c.args.frame.now c.args.line in
     ends_in g.H.Host.Fits run spot c.args.prefix.now c.in-Some.others.now c.in-Some.last.now (sym c.as_slice.ensures ∙ c.in-Some.ensures.cases.0) c.in_ok-v.ensures.runs c.in_ok-v-in-Some.ensures.runs c.suffix_values.ensures.runs
+
+pub prefix_values-suffix_values-requires : goal.prefix_values-suffix_values-requires
+prefix_values-suffix_values-requires g t c κs within =
+    let small : size-Suffix c.in-Some.last.now < size-Prefix c.args.prefix.now = search (rules, the_lemmas) in
+    let before = c.in_ok-v-in-Some.ensures.runs (c.in_ok-v.v ∷ []) refl in
+    (omega (arith, c.decreases, small), (within.0, (within.1, (c.requires.enters, (before.fits, (omega (arith, c.requires.most, c.in_ok-v.ensures.runs.falls, before.falls), c.in_ok-v-in-Some.ensures.of))))))
 
 pub suffix_values-returns-in_err-values-in-Call-clause-runs : goal.suffix_values-returns-in_err-values-in-Call-clause-runs
 suffix_values-returns-in_err-values-in-Call-clause-runs g t c =
