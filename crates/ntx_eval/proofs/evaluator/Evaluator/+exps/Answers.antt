@@ -1,4 +1,4 @@
-use Rattle.std.proofs.Common.{◌≡◌, ◌<◌, ◌∙◌, [], ◌∷◌, length, rules, refl, sym, ap, subst, arith}
+use Rattle.std.proofs.Common.{◌≡◌, ◌<◌, ◌∙◌, [], ◌∷◌, length, rules, Ok, refl, sym, ap, subst, arith}
 use Rattle.std.proofs.lemmas.List.{nil_from_length}
 use Rattle.std.proofs.lemmas.List.Elements.{All-append, All-push}
 use denote.Param.Weighed.{most}
@@ -14,7 +14,9 @@ use Rattle.ntx_resolve.specs.declared.code.Exp.TheVariants as exp
 use Rattle.ntx_resolve.specs.declared.code.Field.TheVariants as field
 use Rattle.ntx_resolve.specs.declared.code.Head.TheVariants as head
 use Rattle.ntx_resolve.specs.declared.code.Suffix.TheVariants as suffix
+use Rattle.ntx_eval.specs.Variables.{text}
 use Rattle.ntx_eval.specs.Setting.{call}
+use Rattle.ntx_eval.specs.Expressions.{first_of}
 use Rattle.ntx_eval.specs.inner.Exps.{exp_code, suffix_code, place_value, place_values}
 use Rattle.ntx_eval.specs.inner.Runs.{run_of, spot_of}
 use Rattle.ntx_eval.proofs.Running.{goes_on, stops, gives, alike, out_of_memory}
@@ -37,43 +39,43 @@ pub field-returns-in_err-key-in-Keyed : goal.field-returns-in_err-key-in-Keyed
 field-returns-in_err-key-in-Keyed g t c =
     let run = run_of g.H.Host.begin_step g.H.Host.resume_step c.args.self.now.functions c.args.self.now.most c.args.self.now.level in
     let spot = spot_of c.args.frame.now c.args.line in
-    record { runs = of_field run spot c.args.t c.args.number c.args.last (c.in-Keyed.is ∙ ap (λ z. field.Keyed z c.in-Keyed.v) (sym c.get.ensures)) (keyed_runs run spot c.args.t c.args.number c.args.last c.get.result.now c.in-Keyed.v (fields.no_key run spot c.args.t c.args.number _ c.in-Keyed.v c.from_residual.ensures.1 c.in_err-key-in-Keyed.ensures.runs)) }
+    record { runs = of_field run spot c.args.t c.args.number c.args.last (c.in-Keyed.is ∙ ap (λ z. field.Keyed z c.in-Keyed.v) (sym c.get.ensures)) (keyed_runs run spot c.args.t c.args.number c.args.last c.get.result.now c.in-Keyed.v (fields.no_key run spot c.args.t c.args.number (first_of (exp_code run c.get.result.now spot)) c.in-Keyed.v c.from_residual.ensures.1 c.in_err-key-in-Keyed.ensures.runs)) }
 
 pub field-returns-in_err-v-in-Keyed : goal.field-returns-in_err-v-in-Keyed
 field-returns-in_err-v-in-Keyed g t c =
     let run = run_of g.H.Host.begin_step g.H.Host.resume_step c.args.self.now.functions c.args.self.now.most c.args.self.now.level in
     let spot = spot_of c.args.frame.now c.args.line in
-    record { runs = of_field run spot c.args.t c.args.number c.args.last (c.in-Keyed.is ∙ ap (λ z. field.Keyed z c.in-Keyed.v) (sym c.get.ensures) ∙ ap (field.Keyed c.get.result.now) (sym c.get-in-Keyed.ensures)) (keyed_runs run spot c.args.t c.args.number c.args.last c.get.result.now c.get-in-Keyed.result.now (fields.no_value run spot c.args.t c.args.number _ c.get-in-Keyed.result.now c.in_ok-key-in-Keyed.ensures.runs c.from_residual-in_err-v-in-Keyed.ensures.1 c.in_err-v-in-Keyed.ensures.runs)) }
+    record { runs = of_field run spot c.args.t c.args.number c.args.last (c.in-Keyed.is ∙ ap (λ z. field.Keyed z c.in-Keyed.v) (sym c.get.ensures) ∙ ap (field.Keyed c.get.result.now) (sym c.get-in-Keyed.ensures)) (keyed_runs run spot c.args.t c.args.number c.args.last c.get.result.now c.get-in-Keyed.result.now (fields.no_value run spot c.args.t c.args.number (first_of (exp_code run c.get.result.now spot)) c.get-in-Keyed.result.now c.in_ok-key-in-Keyed.ensures.runs c.from_residual-in_err-v-in-Keyed.ensures.1 c.in_err-v-in-Keyed.ensures.runs)) }
 
 pub field-returns-in_err-write_field-in-Keyed : goal.field-returns-in_err-write_field-in-Keyed
 field-returns-in_err-write_field-in-Keyed g t c =
     let run = run_of g.H.Host.begin_step g.H.Host.resume_step c.args.self.now.functions c.args.self.now.most c.args.self.now.level in
     let spot = spot_of c.args.frame.now c.args.line in
-    record { runs = of_field run spot c.args.t c.args.number c.args.last (c.in-Keyed.is ∙ ap (λ z. field.Keyed z c.in-Keyed.v) (sym c.get.ensures) ∙ ap (field.Keyed c.get.result.now) (sym c.get-in-Keyed.ensures)) (keyed_runs run spot c.args.t c.args.number c.args.last c.get.result.now c.get-in-Keyed.result.now (fields.not_set run spot c.args.t c.args.number _ c.get-in-Keyed.result.now c.in_ok-key-in-Keyed.ensures.runs c.in_ok-v-in-Keyed.ensures.runs c.from_residual-in_err-write_field-in-Keyed.ensures.1 c.in_err-write_field-in-Keyed.ensures.runs)) }
+    record { runs = of_field run spot c.args.t c.args.number c.args.last (c.in-Keyed.is ∙ ap (λ z. field.Keyed z c.in-Keyed.v) (sym c.get.ensures) ∙ ap (field.Keyed c.get.result.now) (sym c.get-in-Keyed.ensures)) (keyed_runs run spot c.args.t c.args.number c.args.last c.get.result.now c.get-in-Keyed.result.now (fields.not_set run spot c.args.t c.args.number (first_of (exp_code run c.get.result.now spot)) c.get-in-Keyed.result.now c.in_ok-key-in-Keyed.ensures.runs c.in_ok-v-in-Keyed.ensures.runs c.from_residual-in_err-write_field-in-Keyed.ensures.1 c.in_err-write_field-in-Keyed.ensures.runs)) }
 
 pub field-returns-in_ok-write_field-in-Keyed : goal.field-returns-in_ok-write_field-in-Keyed
 field-returns-in_ok-write_field-in-Keyed g t c =
     let run = run_of g.H.Host.begin_step g.H.Host.resume_step c.args.self.now.functions c.args.self.now.most c.args.self.now.level in
     let spot = spot_of c.args.frame.now c.args.line in
-    record { runs = of_field run spot c.args.t c.args.number c.args.last (c.in-Keyed.is ∙ ap (λ z. field.Keyed z c.in-Keyed.v) (sym c.get.ensures) ∙ ap (field.Keyed c.get.result.now) (sym c.get-in-Keyed.ensures)) (keyed_runs run spot c.args.t c.args.number c.args.last c.get.result.now c.get-in-Keyed.result.now (fields.was_set run spot c.args.t c.args.number _ c.get-in-Keyed.result.now c.in_ok-key-in-Keyed.ensures.runs c.in_ok-v-in-Keyed.ensures.runs c.in_ok-write_field-in-Keyed.ensures.runs)) }
+    record { runs = of_field run spot c.args.t c.args.number c.args.last (c.in-Keyed.is ∙ ap (λ z. field.Keyed z c.in-Keyed.v) (sym c.get.ensures) ∙ ap (field.Keyed c.get.result.now) (sym c.get-in-Keyed.ensures)) (keyed_runs run spot c.args.t c.args.number c.args.last c.get.result.now c.get-in-Keyed.result.now (fields.was_set run spot c.args.t c.args.number (first_of (exp_code run c.get.result.now spot)) c.get-in-Keyed.result.now c.in_ok-key-in-Keyed.ensures.runs c.in_ok-v-in-Keyed.ensures.runs c.in_ok-write_field-in-Keyed.ensures.runs)) }
 
 pub field-returns-in_err-key-in-Named : goal.field-returns-in_err-key-in-Named
 field-returns-in_err-key-in-Named g t c =
     let run = run_of g.H.Host.begin_step g.H.Host.resume_step c.args.self.now.functions c.args.self.now.most c.args.self.now.level in
     let spot = spot_of c.args.frame.now c.args.line in
-    record { runs = of_field run spot c.args.t c.args.number c.args.last (c.in-Named.is ∙ ap (λ z. field.Named z c.in-Named.v) (sym c.as_slice.ensures)) (fields.named_runs run spot c.args.t c.args.number c.args.last c.as_slice.result.now c.in-Named.v (fields.no_key run spot c.args.t c.args.number _ c.in-Named.v c.from_residual-in_err-key-in-Named.ensures.1 c.in_err-key-in-Named.ensures.runs)) }
+    record { runs = of_field run spot c.args.t c.args.number c.args.last (c.in-Named.is ∙ ap (λ z. field.Named z c.in-Named.v) (sym c.as_slice.ensures)) (fields.named_runs run spot c.args.t c.args.number c.args.last c.as_slice.result.now c.in-Named.v (fields.no_key run spot c.args.t c.args.number (text c.as_slice.result.now c.args.line) c.in-Named.v c.from_residual-in_err-key-in-Named.ensures.1 c.in_err-key-in-Named.ensures.runs)) }
 
 pub field-returns-in_err-v-in-Named : goal.field-returns-in_err-v-in-Named
 field-returns-in_err-v-in-Named g t c =
     let run = run_of g.H.Host.begin_step g.H.Host.resume_step c.args.self.now.functions c.args.self.now.most c.args.self.now.level in
     let spot = spot_of c.args.frame.now c.args.line in
-    record { runs = of_field run spot c.args.t c.args.number c.args.last (c.in-Named.is ∙ ap (λ z. field.Named z c.in-Named.v) (sym c.as_slice.ensures) ∙ ap (field.Named c.as_slice.result.now) (sym c.get-in-Named.ensures)) (fields.named_runs run spot c.args.t c.args.number c.args.last c.as_slice.result.now c.get-in-Named.result.now (fields.no_value run spot c.args.t c.args.number _ c.get-in-Named.result.now c.in_ok-key-in-Named.ensures.runs c.from_residual-in_err-v-in-Named.ensures.1 c.in_err-v-in-Named.ensures.runs)) }
+    record { runs = of_field run spot c.args.t c.args.number c.args.last (c.in-Named.is ∙ ap (λ z. field.Named z c.in-Named.v) (sym c.as_slice.ensures) ∙ ap (field.Named c.as_slice.result.now) (sym c.get-in-Named.ensures)) (fields.named_runs run spot c.args.t c.args.number c.args.last c.as_slice.result.now c.get-in-Named.result.now (fields.no_value run spot c.args.t c.args.number (text c.as_slice.result.now c.args.line) c.get-in-Named.result.now c.in_ok-key-in-Named.ensures.runs c.from_residual-in_err-v-in-Named.ensures.1 c.in_err-v-in-Named.ensures.runs)) }
 
 pub field-returns-in_err-write_field-in-Named : goal.field-returns-in_err-write_field-in-Named
 field-returns-in_err-write_field-in-Named g t c =
     let run = run_of g.H.Host.begin_step g.H.Host.resume_step c.args.self.now.functions c.args.self.now.most c.args.self.now.level in
     let spot = spot_of c.args.frame.now c.args.line in
-    record { runs = of_field run spot c.args.t c.args.number c.args.last (c.in-Named.is ∙ ap (λ z. field.Named z c.in-Named.v) (sym c.as_slice.ensures) ∙ ap (field.Named c.as_slice.result.now) (sym c.get-in-Named.ensures)) (fields.named_runs run spot c.args.t c.args.number c.args.last c.as_slice.result.now c.get-in-Named.result.now (fields.not_set run spot c.args.t c.args.number _ c.get-in-Named.result.now c.in_ok-key-in-Named.ensures.runs c.in_ok-v-in-Named.ensures.runs c.from_residual-in_err-write_field-in-Named.ensures.1 c.in_err-write_field-in-Named.ensures.runs)) }
+    record { runs = of_field run spot c.args.t c.args.number c.args.last (c.in-Named.is ∙ ap (λ z. field.Named z c.in-Named.v) (sym c.as_slice.ensures) ∙ ap (field.Named c.as_slice.result.now) (sym c.get-in-Named.ensures)) (fields.named_runs run spot c.args.t c.args.number c.args.last c.as_slice.result.now c.get-in-Named.result.now (fields.not_set run spot c.args.t c.args.number (text c.as_slice.result.now c.args.line) c.get-in-Named.result.now c.in_ok-key-in-Named.ensures.runs c.in_ok-v-in-Named.ensures.runs c.from_residual-in_err-write_field-in-Named.ensures.1 c.in_err-write_field-in-Named.ensures.runs)) }
 
 pub field-returns-in_err-values-in-Positional : goal.field-returns-in_err-values-in-Positional
 field-returns-in_err-values-in-Positional g t c =
@@ -130,19 +132,19 @@ pub one-returns-in_err-v-in-Prefix-clause-runs : goal.one-returns-in_err-v-in-Pr
 one-returns-in_err-v-in-Prefix-clause-runs g t c =
     let run = run_of g.H.Host.begin_step g.H.Host.resume_step c.args.self.now.functions c.args.self.now.most c.args.self.now.level in
     let spot = spot_of c.args.frame.now c.args.line in
-    of_exp run spot c.in-Prefix.is (prefix_exp_stops run spot _ c.in-Prefix.prefix c.from_residual.ensures.1 c.in_err-v-in-Prefix.ensures.runs)
+    of_exp run spot c.in-Prefix.is (prefix_exp_stops run spot c.from_residual.result c.in-Prefix.prefix c.from_residual.ensures.1 c.in_err-v-in-Prefix.ensures.runs)
 
 pub one-returns-in_err-v-in-Binary-clause-runs : goal.one-returns-in_err-v-in-Binary-clause-runs
 one-returns-in_err-v-in-Binary-clause-runs g t c =
     let run = run_of g.H.Host.begin_step g.H.Host.resume_step c.args.self.now.functions c.args.self.now.most c.args.self.now.level in
     let spot = spot_of c.args.frame.now c.args.line in
-    of_exp run spot (c.in-Binary.is ∙ ap (λ z. exp.Binary z c.in-Binary.others) (sym c.get.ensures)) (binary_stops run spot _ c.get.result.now c.in-Binary.others c.from_residual-in_err-v-in-Binary.ensures.1 c.in_err-v-in-Binary.ensures.runs)
+    of_exp run spot (c.in-Binary.is ∙ ap (λ z. exp.Binary z c.in-Binary.others) (sym c.get.ensures)) (binary_stops run spot c.from_residual-in_err-v-in-Binary.result c.get.result.now c.in-Binary.others c.from_residual-in_err-v-in-Binary.ensures.1 c.in_err-v-in-Binary.ensures.runs)
 
 pub one-returns-in_err-v-in-Unary-clause-runs : goal.one-returns-in_err-v-in-Unary-clause-runs
 one-returns-in_err-v-in-Unary-clause-runs g t c =
     let run = run_of g.H.Host.begin_step g.H.Host.resume_step c.args.self.now.functions c.args.self.now.most c.args.self.now.level in
     let spot = spot_of c.args.frame.now c.args.line in
-    of_exp run spot (c.in-Unary.is ∙ ap (exp.Unary c.in-Unary.op) (sym c.get-in-Unary.ensures)) (unary_stops run spot _ c.in-Unary.op c.get-in-Unary.result.now c.from_residual-in_err-v-in-Unary.ensures.1 c.in_err-v-in-Unary.ensures.runs)
+    of_exp run spot (c.in-Unary.is ∙ ap (exp.Unary c.in-Unary.op) (sym c.get-in-Unary.ensures)) (unary_stops run spot c.from_residual-in_err-v-in-Unary.result c.in-Unary.op c.get-in-Unary.result.now c.from_residual-in_err-v-in-Unary.ensures.1 c.in_err-v-in-Unary.ensures.runs)
 
 pub one-returns-in-Numeral-clause-runs : goal.one-returns-in-Numeral-clause-runs
 one-returns-in-Numeral-clause-runs g t c =
@@ -167,7 +169,7 @@ one-returns-in_ok-v-in-Prefix-clause-runs g t c =
     let run = run_of g.H.Host.begin_step g.H.Host.resume_step c.args.self.now.functions c.args.self.now.most c.args.self.now.level in
     let spot = spot_of c.args.frame.now c.args.line in
     of_exp run spot (c.in-Prefix.is ∙ ap (λ z. exp.Prefix (record { head = c.in-Prefix.prefix.head; suffixes = z })) (sym c.as_slice-in-Prefix.ensures))
-    (prefix_exp_runs run spot _ (record { head = c.in-Prefix.prefix.head; suffixes = c.as_slice-in-Prefix.result.now }) c.in_ok-v-in-Prefix.ensures.runs c.suffixes.ensures.runs)
+    (prefix_exp_runs run spot c.suffixes.result (record { head = c.in-Prefix.prefix.head; suffixes = c.as_slice-in-Prefix.result.now }) c.in_ok-v-in-Prefix.ensures.runs c.suffixes.ensures.runs)
 
 pub one-returns-in-Table-clause-runs : goal.one-returns-in-Table-clause-runs
 one-returns-in-Table-clause-runs g t c =
@@ -180,13 +182,13 @@ one-returns-in_ok-v-in-Binary-clause-runs g t c =
     let run = run_of g.H.Host.begin_step g.H.Host.resume_step c.args.self.now.functions c.args.self.now.most c.args.self.now.level in
     let spot = spot_of c.args.frame.now c.args.line in
     of_exp run spot (c.in-Binary.is ∙ ap (λ z. exp.Binary z c.in-Binary.others) (sym c.get.ensures) ∙ ap (exp.Binary c.get.result.now) (sym c.as_slice-in-Binary.ensures))
-    (binary_runs run spot _ c.get.result.now c.as_slice-in-Binary.result.now c.in_ok-v-in-Binary.ensures.runs c.operations.ensures.runs)
+    (binary_runs run spot c.operations.result c.get.result.now c.as_slice-in-Binary.result.now c.in_ok-v-in-Binary.ensures.runs c.operations.ensures.runs)
 
 pub one-returns-in_ok-v-in-Unary-clause-runs : goal.one-returns-in_ok-v-in-Unary-clause-runs
 one-returns-in_ok-v-in-Unary-clause-runs g t c =
     let run = run_of g.H.Host.begin_step g.H.Host.resume_step c.args.self.now.functions c.args.self.now.most c.args.self.now.level in
     let spot = spot_of c.args.frame.now c.args.line in
-    of_exp run spot (c.in-Unary.is ∙ ap (exp.Unary c.in-Unary.op) (sym c.get-in-Unary.ensures)) (unary_runs run spot _ c.in-Unary.op c.get-in-Unary.result.now c.in_ok-v-in-Unary.ensures.runs c.unary.ensures.runs)
+    of_exp run spot (c.in-Unary.is ∙ ap (exp.Unary c.in-Unary.op) (sym c.get-in-Unary.ensures)) (unary_runs run spot c.unary.result c.in-Unary.op c.get-in-Unary.result.now c.in_ok-v-in-Unary.ensures.runs c.unary.ensures.runs)
 
 pub operations-loop-other-preserved-then-is_decided : goal.operations-loop-other-preserved-then-is_decided
 operations-loop-other-preserved-then-is_decided g t c =
@@ -205,7 +207,7 @@ pub operations-returns-in_err-w-clause-runs : goal.operations-returns-in_err-w-c
 operations-returns-in_err-w-clause-runs g t c =
     let run = run_of g.H.Host.begin_step g.H.Host.resume_step c.args.self.now.functions c.args.self.now.most c.args.self.now.level in
     let spot = spot_of c.args.frame.now c.args.line in
-    operating.failed_operand run g.H.Host.Fits spot c.args.others.now c.in-Some.rest.now c.in-Some.other.now c.args.operand c.loop-other.v _ c.args.m.now c.loop-other.m c.one.new.m (g.H.Host.state c.args.host.now) (g.H.Host.state c.loop-other.host) (g.H.Host.state c.one.new.host)
+    operating.failed_operand run g.H.Host.Fits spot c.args.others.now c.in-Some.rest.now c.in-Some.other.now c.args.operand c.loop-other.v c.from_residual.result c.args.m.now c.loop-other.m c.one.new.m (g.H.Host.state c.args.host.now) (g.H.Host.state c.loop-other.host) (g.H.Host.state c.one.new.host)
     (sym c.is_decided.ensures ∙ c.if-is_decided.false)
     (subst (λ os. Operates run g.H.Host.Fits spot c.args.others.now c.args.operand os c.loop-other.v c.args.m.now (g.H.Host.state c.args.host.now) c.loop-other.m (g.H.Host.state c.loop-other.host)) c.in-Some.ensures.cases.0 c.loop-other.invariant.rest)
     c.from_residual.ensures.1 c.in_err-w.ensures.runs
@@ -214,7 +216,7 @@ pub operations-returns-in_err-v-clause-runs : goal.operations-returns-in_err-v-c
 operations-returns-in_err-v-clause-runs g t c =
     let run = run_of g.H.Host.begin_step g.H.Host.resume_step c.args.self.now.functions c.args.self.now.most c.args.self.now.level in
     let spot = spot_of c.args.frame.now c.args.line in
-    operating.failed_operator run g.H.Host.Fits spot c.args.others.now c.in-Some.rest.now c.in-Some.other.now c.args.operand c.loop-other.v c.in_ok-w.w _ c.args.m.now c.loop-other.m c.one.new.m c.binary.new.m (g.H.Host.state c.args.host.now) (g.H.Host.state c.loop-other.host) (g.H.Host.state c.one.new.host) (g.H.Host.state c.binary.new.host)
+    operating.failed_operator run g.H.Host.Fits spot c.args.others.now c.in-Some.rest.now c.in-Some.other.now c.args.operand c.loop-other.v c.in_ok-w.w c.from_residual-in_err-v.result c.args.m.now c.loop-other.m c.one.new.m c.binary.new.m (g.H.Host.state c.args.host.now) (g.H.Host.state c.loop-other.host) (g.H.Host.state c.one.new.host) (g.H.Host.state c.binary.new.host)
     (sym c.is_decided.ensures ∙ c.if-is_decided.false)
     (subst (λ os. Operates run g.H.Host.Fits spot c.args.others.now c.args.operand os c.loop-other.v c.args.m.now (g.H.Host.state c.args.host.now) c.loop-other.m (g.H.Host.state c.loop-other.host)) c.in-Some.ensures.cases.0 c.loop-other.invariant.rest)
     c.in_ok-w.ensures.runs c.from_residual-in_err-v.ensures.1 c.in_err-v.ensures.runs
@@ -239,7 +241,7 @@ operations-returns-clause-runs g t c =
     let run = run_of g.H.Host.begin_step g.H.Host.resume_step c.args.self.now.functions c.args.self.now.most c.args.self.now.level in
     let spot = spot_of c.args.frame.now c.args.line in
     subst (λ os. Operates run g.H.Host.Fits spot c.args.others.now c.args.operand os c.loop-other.v c.args.m.now (g.H.Host.state c.args.host.now) c.loop-other.m (g.H.Host.state c.loop-other.host))
-    (nil_from_length c.loop-other.others.now c.in_default.ensures.cases) c.loop-other.invariant.rest _ c.loop-other.m (g.H.Host.state c.loop-other.host) (gives c.loop-other.v c.loop-other.m (g.H.Host.state c.loop-other.host) c.loop-other.invariant.fits)
+    (nil_from_length c.loop-other.others.now c.in_default.ensures.cases) c.loop-other.invariant.rest (Ok c.loop-other.v) c.loop-other.m (g.H.Host.state c.loop-other.host) (gives c.loop-other.v c.loop-other.m (g.H.Host.state c.loop-other.host) c.loop-other.invariant.fits)
 
 pub prefix_values-returns-in_err-v-clause-runs : goal.prefix_values-returns-in_err-v-clause-runs
 prefix_values-returns-in_err-v-clause-runs g t c =
@@ -257,7 +259,7 @@ pub prefix_values-returns-in_err-single-in-None-clause-runs : goal.prefix_values
 prefix_values-returns-in_err-single-in-None-clause-runs g t c =
     let run = run_of g.H.Host.begin_step g.H.Host.resume_step c.args.self.now.functions c.args.self.now.most c.args.self.now.level in
     let spot = spot_of c.args.frame.now c.args.line in
-    out_of_memory _ c.from_residual-in_err-single-in-None.ensures.1 c.in_ok-v.ensures.runs.falls c.in_ok-v.ensures.runs.grows c.in_ok-v.ensures.runs.fits
+    out_of_memory c.from_residual-in_err-single-in-None.result c.from_residual-in_err-single-in-None.ensures.1 c.in_ok-v.ensures.runs.falls c.in_ok-v.ensures.runs.grows c.in_ok-v.ensures.runs.fits
 
 pub prefix_values-returns-in_err-v-in-Some-clause-runs : goal.prefix_values-returns-in_err-v-in-Some-clause-runs
 prefix_values-returns-in_err-v-in-Some-clause-runs g t c =
@@ -300,7 +302,7 @@ pub suffix_values-returns-in_err-single-in_default-clause-runs : goal.suffix_val
 suffix_values-returns-in_err-single-in_default-clause-runs g t c =
     let run = run_of g.H.Host.begin_step g.H.Host.resume_step c.args.self.now.functions c.args.self.now.most c.args.self.now.level in
     let spot = spot_of c.args.frame.now c.args.line in
-    out_of_memory _ c.from_residual-in_err-single-in_default.ensures.1 c.in_ok-v-in_default.ensures.runs.falls c.in_ok-v-in_default.ensures.runs.grows c.in_ok-v-in_default.ensures.runs.fits
+    out_of_memory c.from_residual-in_err-single-in_default.result c.from_residual-in_err-single-in_default.ensures.1 c.in_ok-v-in_default.ensures.runs.falls c.in_ok-v-in_default.ensures.runs.grows c.in_ok-v-in_default.ensures.runs.fits
 
 pub suffix_values-returns-in_ok-single-in_default-clause-runs : goal.suffix_values-returns-in_ok-single-in_default-clause-runs
 suffix_values-returns-in_ok-single-in_default-clause-runs g t c =
@@ -312,25 +314,25 @@ pub suffix-returns-in_err-key-in-Index-clause-runs : goal.suffix-returns-in_err-
 suffix-returns-in_err-key-in-Index-clause-runs g t c =
     let run = run_of g.H.Host.begin_step g.H.Host.resume_step c.args.self.now.functions c.args.self.now.most c.args.self.now.level in
     let spot = spot_of c.args.frame.now c.args.line in
-    of_suffix run spot c.args.v (c.in-Index.is ∙ ap suffix.Index (sym c.get.ensures)) (index_runs run spot c.args.v c.get.result.now (prefixes.no_key run spot c.args.v _ c.from_residual.ensures.1 c.in_err-key-in-Index.ensures.runs))
+    of_suffix run spot c.args.v (c.in-Index.is ∙ ap suffix.Index (sym c.get.ensures)) (index_runs run spot c.args.v c.get.result.now (prefixes.no_key run spot c.args.v (first_of (exp_code run c.get.result.now spot)) c.from_residual.ensures.1 c.in_err-key-in-Index.ensures.runs))
 
 pub suffix-returns-in_err-key-in-Field-clause-runs : goal.suffix-returns-in_err-key-in-Field-clause-runs
 suffix-returns-in_err-key-in-Field-clause-runs g t c =
     let run = run_of g.H.Host.begin_step g.H.Host.resume_step c.args.self.now.functions c.args.self.now.most c.args.self.now.level in
     let spot = spot_of c.args.frame.now c.args.line in
-    of_suffix run spot c.args.v (c.in-Field.is ∙ ap suffix.Field (sym c.as_slice.ensures)) (prefixes.named_runs run spot c.args.v c.as_slice.result.now (prefixes.no_key run spot c.args.v _ c.from_residual-in_err-key-in-Field.ensures.1 c.in_err-key-in-Field.ensures.runs))
+    of_suffix run spot c.args.v (c.in-Field.is ∙ ap suffix.Field (sym c.as_slice.ensures)) (prefixes.named_runs run spot c.args.v c.as_slice.result.now (prefixes.no_key run spot c.args.v (text c.as_slice.result.now c.args.line) c.from_residual-in_err-key-in-Field.ensures.1 c.in_err-key-in-Field.ensures.runs))
 
 pub suffix-returns-in_ok-key-in-Index-clause-runs : goal.suffix-returns-in_ok-key-in-Index-clause-runs
 suffix-returns-in_ok-key-in-Index-clause-runs g t c =
     let run = run_of g.H.Host.begin_step g.H.Host.resume_step c.args.self.now.functions c.args.self.now.most c.args.self.now.level in
     let spot = spot_of c.args.frame.now c.args.line in
-    of_suffix run spot c.args.v (c.in-Index.is ∙ ap suffix.Index (sym c.get.ensures)) (index_runs run spot c.args.v c.get.result.now (with_key run spot c.args.v _ c.in_ok-key-in-Index.ensures.runs c.read_field.ensures.runs))
+    of_suffix run spot c.args.v (c.in-Index.is ∙ ap suffix.Index (sym c.get.ensures)) (index_runs run spot c.args.v c.get.result.now (with_key run spot c.args.v (first_of (exp_code run c.get.result.now spot)) c.in_ok-key-in-Index.ensures.runs c.read_field.ensures.runs))
 
 pub suffix-returns-in_ok-key-in-Field-clause-runs : goal.suffix-returns-in_ok-key-in-Field-clause-runs
 suffix-returns-in_ok-key-in-Field-clause-runs g t c =
     let run = run_of g.H.Host.begin_step g.H.Host.resume_step c.args.self.now.functions c.args.self.now.most c.args.self.now.level in
     let spot = spot_of c.args.frame.now c.args.line in
-    of_suffix run spot c.args.v (c.in-Field.is ∙ ap suffix.Field (sym c.as_slice.ensures)) (prefixes.named_runs run spot c.args.v c.as_slice.result.now (with_key run spot c.args.v _ c.in_ok-key-in-Field.ensures.runs c.read_field-in-Field.ensures.runs))
+    of_suffix run spot c.args.v (c.in-Field.is ∙ ap suffix.Field (sym c.as_slice.ensures)) (prefixes.named_runs run spot c.args.v c.as_slice.result.now (with_key run spot c.args.v (text c.as_slice.result.now c.args.line) c.in_ok-key-in-Field.ensures.runs c.read_field-in-Field.ensures.runs))
 
 pub suffix-returns-in_err-values-in-Call-clause-runs : goal.suffix-returns-in_err-values-in-Call-clause-runs
 suffix-returns-in_err-values-in-Call-clause-runs g t c =
@@ -360,7 +362,7 @@ pub suffixes-returns-in_err-v-clause-runs : goal.suffixes-returns-in_err-v-claus
 suffixes-returns-in_err-v-clause-runs g t c =
     let run = run_of g.H.Host.begin_step g.H.Host.resume_step c.args.self.now.functions c.args.self.now.most c.args.self.now.level in
     let spot = spot_of c.args.frame.now c.args.line in
-    suffixing.not_applied run g.H.Host.Fits spot c.args.suffixes.now c.loop-suffix.suffixes.now c.in-Some.others.now c.in-Some.suffix.now c.args.v c.loop-suffix.v _ c.args.m.now c.loop-suffix.m c.suffix.new.m (g.H.Host.state c.args.host.now) (g.H.Host.state c.loop-suffix.host) (g.H.Host.state c.suffix.new.host)
+    suffixing.not_applied run g.H.Host.Fits spot c.args.suffixes.now c.loop-suffix.suffixes.now c.in-Some.others.now c.in-Some.suffix.now c.args.v c.loop-suffix.v c.from_residual.result c.args.m.now c.loop-suffix.m c.suffix.new.m (g.H.Host.state c.args.host.now) (g.H.Host.state c.loop-suffix.host) (g.H.Host.state c.suffix.new.host)
     c.loop-suffix.invariant.rest c.in-Some.ensures.cases.0 c.from_residual.ensures.1 c.in_err-v.ensures.runs
 
 pub suffixes-loop-suffix-preserved : goal.suffixes-loop-suffix-preserved
@@ -404,7 +406,7 @@ pub table-returns-in_err-number-clause-runs : goal.table-returns-in_err-number-c
 table-returns-in_err-number-clause-runs g t c =
     let run = run_of g.H.Host.begin_step g.H.Host.resume_step c.args.self.now.functions c.args.self.now.most c.args.self.now.level in
     let spot = spot_of c.args.frame.now c.args.line in
-    filling.failed_field run g.H.Host.Fits spot (made run g.H.Host.Fits spot c.args.fields.now) c.in-Some.field.now c.in-Some.others.now c.in_ok-t.t c.loop-field.number c.is_empty.result _ c.args.m.now c.loop-field.m c.field.new.m (g.H.Host.state c.args.host.now) (g.H.Host.state c.loop-field.host) (g.H.Host.state c.field.new.host)
+    filling.failed_field run g.H.Host.Fits spot (made run g.H.Host.Fits spot c.args.fields.now) c.in-Some.field.now c.in-Some.others.now c.in_ok-t.t c.loop-field.number c.is_empty.result c.from_residual-in_err-number.result c.args.m.now c.loop-field.m c.field.new.m (g.H.Host.state c.args.host.now) (g.H.Host.state c.loop-field.host) (g.H.Host.state c.field.new.host)
     c.is_empty.ensures
     (subst (λ fs. Fills run g.H.Host.Fits spot (made run g.H.Host.Fits spot c.args.fields.now) fs c.in_ok-t.t c.loop-field.number c.args.m.now (g.H.Host.state c.args.host.now) c.loop-field.m (g.H.Host.state c.loop-field.host)) c.in-Some.ensures.cases.0 c.loop-field.invariant.rest)
     c.from_residual-in_err-number.ensures.1 c.in_err-number.ensures.runs
@@ -436,27 +438,27 @@ pub values-returns-in_err-more-clause-runs : goal.values-returns-in_err-more-cla
 values-returns-in_err-more-clause-runs g t c =
     let run = run_of g.H.Host.begin_step g.H.Host.resume_step c.args.self.now.functions c.args.self.now.most c.args.self.now.level in
     let spot = spot_of c.args.frame.now c.args.line in
-    many-values.not_last run g.H.Host.Fits spot c.args.exps.now c.loop-exp.exps.now c.in-Some.others.now c.in-Some.exp.now c.loop-exp.values c.is_empty.result _ c.args.m.now c.loop-exp.m c.many.new.m (g.H.Host.state c.args.host.now) (g.H.Host.state c.loop-exp.host) (g.H.Host.state c.many.new.host) c.loop-exp.invariant.rest c.in-Some.ensures.cases.0 c.is_empty.ensures c.if-is_empty.true c.from_residual.ensures.1 c.in_err-more.ensures.runs
+    many-values.not_last run g.H.Host.Fits spot c.args.exps.now c.loop-exp.exps.now c.in-Some.others.now c.in-Some.exp.now c.loop-exp.values c.is_empty.result c.from_residual.result c.args.m.now c.loop-exp.m c.many.new.m (g.H.Host.state c.args.host.now) (g.H.Host.state c.loop-exp.host) (g.H.Host.state c.many.new.host) c.loop-exp.invariant.rest c.in-Some.ensures.cases.0 c.is_empty.ensures c.if-is_empty.true c.from_residual.ensures.1 c.in_err-more.ensures.runs
 
 pub values-returns-in_err-v-clause-runs : goal.values-returns-in_err-v-clause-runs
 values-returns-in_err-v-clause-runs g t c =
     let run = run_of g.H.Host.begin_step g.H.Host.resume_step c.args.self.now.functions c.args.self.now.most c.args.self.now.level in
     let spot = spot_of c.args.frame.now c.args.line in
-    many-values.not_more run g.H.Host.Fits spot c.args.exps.now c.loop-exp.exps.now c.in-Some.others.now c.in-Some.exp.now c.loop-exp.values c.is_empty.result _ c.args.m.now c.loop-exp.m c.one.new.m (g.H.Host.state c.args.host.now) (g.H.Host.state c.loop-exp.host) (g.H.Host.state c.one.new.host) c.loop-exp.invariant.rest c.in-Some.ensures.cases.0 c.is_empty.ensures c.if-is_empty.false c.from_residual-in_err-v.ensures.1 c.in_err-v.ensures.runs
+    many-values.not_more run g.H.Host.Fits spot c.args.exps.now c.loop-exp.exps.now c.in-Some.others.now c.in-Some.exp.now c.loop-exp.values c.is_empty.result c.from_residual-in_err-v.result c.args.m.now c.loop-exp.m c.one.new.m (g.H.Host.state c.args.host.now) (g.H.Host.state c.loop-exp.host) (g.H.Host.state c.one.new.host) c.loop-exp.invariant.rest c.in-Some.ensures.cases.0 c.is_empty.ensures c.if-is_empty.false c.from_residual-in_err-v.ensures.1 c.in_err-v.ensures.runs
 
 pub values-returns-in_err-append-clause-runs : goal.values-returns-in_err-append-clause-runs
 values-returns-in_err-append-clause-runs g t c =
     let run = run_of g.H.Host.begin_step g.H.Host.resume_step c.args.self.now.functions c.args.self.now.most c.args.self.now.level in
     let spot = spot_of c.args.frame.now c.args.line in
-    c.loop-exp.invariant.rest _ c.many.new.m (g.H.Host.state c.many.new.host)
-    (out_of_memory _ c.from_residual-in_err-append.ensures.1 c.in_ok-more.ensures.runs.falls c.in_ok-more.ensures.runs.grows c.in_ok-more.ensures.runs.fits)
+    c.loop-exp.invariant.rest c.from_residual-in_err-append.result c.many.new.m (g.H.Host.state c.many.new.host)
+    (out_of_memory c.from_residual-in_err-append.result c.from_residual-in_err-append.ensures.1 c.in_ok-more.ensures.runs.falls c.in_ok-more.ensures.runs.grows c.in_ok-more.ensures.runs.fits)
 
 pub values-returns-in_err-push-clause-runs : goal.values-returns-in_err-push-clause-runs
 values-returns-in_err-push-clause-runs g t c =
     let run = run_of g.H.Host.begin_step g.H.Host.resume_step c.args.self.now.functions c.args.self.now.most c.args.self.now.level in
     let spot = spot_of c.args.frame.now c.args.line in
-    c.loop-exp.invariant.rest _ c.one.new.m (g.H.Host.state c.one.new.host)
-    (out_of_memory _ c.from_residual-in_err-push.ensures.1 c.in_ok-v.ensures.runs.falls c.in_ok-v.ensures.runs.grows c.in_ok-v.ensures.runs.fits)
+    c.loop-exp.invariant.rest c.from_residual-in_err-push.result c.one.new.m (g.H.Host.state c.one.new.host)
+    (out_of_memory c.from_residual-in_err-push.result c.from_residual-in_err-push.ensures.1 c.in_ok-v.ensures.runs.falls c.in_ok-v.ensures.runs.grows c.in_ok-v.ensures.runs.fits)
 
 pub values-loop-exp-preserved-in_ok-append : goal.values-loop-exp-preserved-in_ok-append
 values-loop-exp-preserved-in_ok-append g t c =
