@@ -1,6 +1,7 @@
 -- Each turn leaves less to do: names rise, or nodes ahead go, or steps are counted.
-use Rattle.std.proofs.Common.{◌≡◌, ℕ, ◌+◌, ◌-◌, ◌*◌, ◌/◌, ◌<◌, ◌≤◌, Bool, true, false, if◌then◌else◌, List, [], ◌∷◌, length, slice_get, pos, Some, None, Ok, Err, refl, sym, ◌∙◌, ap, subst, arith}
-use Rattle.std.specs.Prelude.{Option, Result, nat_le}
+use Rattle.std.proofs.Common.{◌≡◌, ℕ, ◌+◌, ◌-◌, ◌*◌, ◌/◌, ◌<◌, ◌≤◌, Bool, true, false, if◌then◌else◌, List, [], ◌∷◌, reverse, length, slice_get, pos, Some, None, Ok, Err, refl, sym, ◌∙◌, ap, subst, arith}
+use Rattle.std.specs.Prelude.{Option, Result, nat_le, IfSome}
+use Rattle.std.proofs.lemmas.List.{length-reverse}
 use Rattle.std.proofs.lemmas.Bool.Decides.{nat_tests}
 use Rattle.ntx_num.specs.Trace.{Trace, stays, on_ending, trace_and_then, EndsAs}
 use Rattle.ntx_num.proofs.Answers.{same_Ok}
@@ -16,6 +17,8 @@ use Rattle.ntx_ligkern.specs.Kerns.{last_of}
 use Rattle.ntx_ligkern.specs.Ligatures.{Spot, spot_in, moved_on, passes_over, keeps_left, keeps_right, set_to, linked, put_in, copied, turned, replaced, placed, inserted, put_lig, let_die, freed, let_go, joined, with_right, with_holder, result_of, spot_after, ligated, lig_between}
 use Rattle.ntx_ligkern.specs.Ligaturing.{part_at, copied_into, linked_from, moved_in, drawn_before, copied_to_post, moved_back, drawn_after, step_in_part, part_turn}
 use Rattle.ntx_ligkern.specs.declared.lig.Lig.{Lig}
+use Rattle.ntx_ligkern.specs.declared.cursor.Cursor.{Cursor}
+use Rattle.ntx_ligkern.specs.inner.Cursors.{spot_of, spot_from}
 use Rattle.ntx_ligkern.specs.inner.Chores.{left_at, left_from}
 use Rattle.ntx_ligkern.proofs.Ahead.{spot_length, passed_length}
 use Rattle.ntx_ligkern.proofs.Rises.{Rises, rises_stays, rises_then, rises_if, rises_set, rises_free, rises_copy}
@@ -181,6 +184,19 @@ move_less before names spot (Some next) heap new e h i =
     let l = spot_length before 0 names next e in
     let long = l.0 in
     subst (λ k. 1 + ((name_limit - new.next) * 1024 + length next.ahead * 256 + (255 - k)) < left_from heap (Some spot)) (sym l.1) (less_moved name_limit heap.next new.next (length spot.ahead) (length next.ahead) spot.count i (omega arith))
+
+-- ---- a discretionary
+less_gone : (limit old new a b c k : ℕ) → old ≤ new → b < a → 1 + ((limit - new) * 1024 + b * 256 + (255 - k)) < 1 + ((limit - old) * 1024 + a * 256 + (255 - c))
+less_gone limit old new a b c k h i = omega arith
+
+-- the cursor comes to a node further on, after whatever number of steps
+pub disc_less : (from : Cursor) (old mid items : List ℕ) (o : Option Cursor) (heap new : Heap) → length mid ≤ length old → IfSome o (λ _. length items < length mid) → heap.next ≤ new.next → left_from new (spot_from items o) < left_from heap (Some (spot_of from old))
+disc_less from old mid items None heap new h i j = nothing_left heap new (spot_of from old)
+disc_less from old mid items (Some cursor) heap new h i j =
+    let less : length items < length mid = i in
+    let before : length (reverse items) ≡ length items = length-reverse items in
+    let after : length (reverse old) ≡ length old = length-reverse old in
+    less_gone name_limit heap.next new.next (length (reverse old)) (length (reverse items)) from.count cursor.count j (omega arith)
 
 -- ---- a turn in a list without discretionaries
 moved_there : (spot : Spot) (heap new : Heap) (next : Option Spot) → EndsAs {E = Trouble} (Ok next) new (stays heap (Ok (moved_on spot))) → (left_from new next < left_from heap (Some spot)) × (heap.next ≤ new.next)

@@ -198,6 +198,24 @@ fn discs_draw_glyphs_in(rt: HostRuntime) -> Result<(), test::Fail> {
     Ok(())
 }
 
+#[test]
+fn kerns_keep_glyphs_apart(rt: HostRuntime) -> Result<(), test::Fail> {
+    let rows: [Row; 6] = [
+        ("f1i", "f1i"),
+        ("f1[||i]x", "f1[||i]x"),
+        ("x[||f]1i", "x[||f]1i"),
+        ("f1[i||f]2i", "f1[i||f]2i"),
+        ("1f[||i]2", "1[f||I']2"),
+        ("f[f1||f1]i", "[F'1||F'1]i"),
+    ];
+    let fonts = [font_with(rt.alloc(), &WORDS)?];
+    for (list, wanted) in &rows {
+        let text = ligatured(rt.alloc(), &fonts, list)?;
+        assert!(rt; text.as_slice() == wanted.as_bytes(), "{list}");
+    }
+    Ok(())
+}
+
 /// How the pass over a list ends, how many nodes are live then, and the first bytes of the list.
 fn ending(
     alloc: Global,

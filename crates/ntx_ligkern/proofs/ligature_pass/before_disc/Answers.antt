@@ -1,10 +1,16 @@
-use Rattle.std.proofs.Common.{ℕ, List, reverse, slice_get, Some, sym, ◌∙◌, ap}
+use Rattle.std.proofs.Common.{◌≡◌, ℕ, ◌≤◌, List, [], ◌∷◌, reverse, slice_get, Some, sym, ◌∙◌, ap, subst, arith}
 use Rattle.std.specs.Prelude.{Option}
+use Rattle.std.proofs.lemmas.Result.{err_from_is_err_and}
 use Rattle.std.specs.Option.{option_and_then, option_or}
 use Rattle.ntx_ligkern.specs.Ligatures.{lig_between}
-use Rattle.ntx_ligkern.specs.Ligaturing.{disc_at, right_of_disc}
+use Rattle.ntx_nodes.specs.declared.contents.DiscFields.{DiscFields}
+use Rattle.ntx_ligkern.specs.Ligaturing.{AtDisc, InList, from_spot, head_after, disc_at, drawn_before, right_of_disc}
 use Rattle.ntx_ligkern.specs.inner.Cursors.{spot_of, spot_from}
-use Rattle.ntx_ligkern.proofs.ListTurns.{moves_no_disc, moves_no_lig}
+use Rattle.ntx_ligkern.specs.inner.Chores.{RunsOn}
+use Rattle.ntx_ligkern.proofs.Ahead.{one_off}
+use Rattle.ntx_ligkern.proofs.Turning.{on_and_on, on_and_to}
+use Rattle.ntx_ligkern.proofs.Measures.{move_less, disc_less, risen, rises_before}
+use Rattle.ntx_ligkern.proofs.ListTurns.{moves_no_disc, moves_no_lig, draw_goes, draw_stops}
 use Rattle.ntx_ligkern.proofs.ligature_pass.before_disc.Goals as goal
 
 pub returns-in_default-clause-done : goal.returns-in_default-clause-done
@@ -22,3 +28,49 @@ returns-in_default-disc_at-clause-done g c =
     let m = c.move_on-in_default-disc_at in
     rw m.ensures.head (moves_no_disc c.args.fonts.now c.args.head (spot_of c.args.cursor items) (spot_from m.new.ahead.items m.result.at) heap (sym c.requires.disc) (sym c.requires.lig)
     (c.in_default-disc_at.ensures ∙ ap (option_and_then (disc_at heap)) (c.in-Some.ensures ∙ ap (λ (xs : List ℕ). slice_get (reverse xs) 0) c.deref.ensures.value)) m.ensures.at)
+
+pub returns-in_default-lig_between-clause-done : goal.returns-in_default-lig_between-clause-done
+returns-in_default-lig_between-clause-done g c =
+    let heap = g.N.Nodes.heap c.args.nodes.now in
+    let items = c.args.ahead.now.items in
+    let spot = spot_of c.args.cursor items in
+    let d = c.in-Some-disc_at.d in
+    let m = c.move_on-in_default-lig_between in
+    rw m.ensures.head (moves_no_lig c.args.fonts.now c.args.head spot (spot_from m.new.ahead.items m.result.at) heap (sym c.requires.disc) (sym c.requires.lig)
+    (c.in_default-lig_between.ensures
+    ∙ ap (λ o. lig_between c.args.fonts.now heap (Some c.args.cursor.at) o)
+    (c.or.ensures ∙ ap (option_or d.replace) (c.second.ensures ∙ ap (λ (xs : List ℕ). slice_get (reverse xs) 1) c.deref-2.ensures.value)
+    ∙ ap (λ (o : Option DiscFields). right_of_disc o (reverse items)) (c.in-Some-disc_at.ensures ∙ ap (option_and_then (disc_at heap)) (c.in-Some.ensures ∙ ap (λ (xs : List ℕ). slice_get (reverse xs) 0) c.deref.ensures.value)))) m.ensures.at)
+
+pub returns-in_default-clause-fewer : goal.returns-in_default-clause-fewer
+returns-in_default-clause-fewer g c =
+    let heap = g.N.Nodes.heap c.args.nodes.now in
+    let items = c.args.ahead.now.items in
+    let m = c.move_on in
+    move_less (Some c.args.cursor.at) (reverse items) (spot_of c.args.cursor items) (spot_from m.new.ahead.items m.result.at) heap heap (sym m.ensures.at) (omega arith) (omega arith)
+
+pub returns-in_default-disc_at-clause-fewer : goal.returns-in_default-disc_at-clause-fewer
+returns-in_default-disc_at-clause-fewer g c =
+    let heap = g.N.Nodes.heap c.args.nodes.now in
+    let items = c.args.ahead.now.items in
+    let m = c.move_on-in_default-disc_at in
+    move_less (Some c.args.cursor.at) (reverse items) (spot_of c.args.cursor items) (spot_from m.new.ahead.items m.result.at) heap heap (sym m.ensures.at) (omega arith) (omega arith)
+
+pub returns-in_default-lig_between-clause-fewer : goal.returns-in_default-lig_between-clause-fewer
+returns-in_default-lig_between-clause-fewer g c =
+    let heap = g.N.Nodes.heap c.args.nodes.now in
+    let items = c.args.ahead.now.items in
+    let m = c.move_on-in_default-lig_between in
+    move_less (Some c.args.cursor.at) (reverse items) (spot_of c.args.cursor items) (spot_from m.new.ahead.items m.result.at) heap heap (sym m.ensures.at) (omega arith) (omega arith)
+
+pub returns-in_err-draw_before-clause-done : goal.returns-in_err-draw_before-clause-done
+returns-in_err-draw_before-clause-done g c =
+    let h = g.N.Nodes.heap in
+    let heap = h c.args.nodes.now in
+    let items = c.args.ahead.now.items in
+    let spot = spot_of c.args.cursor items in
+    let d = c.in-Some-disc_at.d in
+    let disc = c.in-Some.disc in
+    let rest = c.pop.new.self.items in
+    let p = err_from_is_err_and c.from_residual.result c.from_residual.ensures.1 in
+    rw (p.1, p.2) cc

@@ -1,11 +1,12 @@
-use Rattle.std.proofs.Common.{[], ◌∷◌, subst}
+use Rattle.std.proofs.Common.{◌<◌, [], ◌∷◌, reverse, None, Some, sym, ◌∙◌, ap, subst}
 use Rattle.std.specs.Prelude.{Option}
 use Rattle.std.proofs.lemmas.Result.{err_from_is_err_and}
 use Rattle.ntx_ligkern.specs.Ligaturing.{InList, from_spot, first_chores}
+use Rattle.ntx_ligkern.specs.Ligatures.{Spot, spot_in}
 use Rattle.ntx_ligkern.specs.declared.cursor.Cursor.{Cursor}
 use Rattle.ntx_ligkern.specs.inner.Cursors.{spot_of, spot_from}
-use Rattle.ntx_ligkern.specs.inner.Chores.{RunsOn}
-use Rattle.ntx_ligkern.proofs.Turning.{memory_out, on_and_on, on_and_to}
+use Rattle.ntx_ligkern.specs.inner.Chores.{RunsOn, left_from}
+use Rattle.ntx_ligkern.proofs.Turning.{no_turn, memory_out, on_and_on, on_and_to}
 use Rattle.ntx_ligkern.proofs.DiscTurns.{spots_end}
 use Rattle.ntx_ligkern.proofs.WholePass.{runs_stop, runs_end}
 use Rattle.ntx_ligkern.proofs.ligature_pass.ligature_list.Goals as goal
@@ -51,3 +52,19 @@ returns g c =
     let heap = h c.loop-at.nodes in
     let start = first_chores c.args.head first in
     runs_end fonts c.args.head c.loop-at.head start first heap (spots_end fonts c.args.head c.loop-at.head start first heap InList c.loop-at.ahead.items c.loop-at.at c.in_default.not-Some c.loop-at.invariant)
+
+pub loop-at-init : goal.loop-at-init
+loop-at-init g c =
+    let heap = g.N.Nodes.heap c.args.nodes.now in
+    let head = c.args.head in
+    let start = first_chores head heap in
+    subst (λ (s : Option Spot). RunsOn c.args.fonts.now head start heap head (from_spot InList s) heap) (sym (c.take_next-at.ensures ∙ ap (spot_in None 0) c.in_ok-ahead.ensures)) (no_turn c.args.fonts.now head start heap)
+
+pub loop-at-smaller : goal.loop-at-smaller
+loop-at-smaller g c =
+    let h = g.N.Nodes.heap in
+    let heap = h c.loop-at.nodes in
+    let new = h c.list_turn.new.nodes in
+    let items = c.loop-at.ahead.items in
+    let next = spot_from c.list_turn.new.ahead.items c.in_ok-done.done.at in
+    subst (λ (o : Option Cursor). left_from new next < left_from heap (spot_from items o)) (sym c.in-Some.is) c.in_ok-done.ensures.fewer
