@@ -109,11 +109,7 @@ fn copy_into<N: Nodes>(
 }
 
 /// Links the node before a node to it, if there is one.
-fn link_from<N: Nodes>(
-    nodes: &mut N,
-    before: Option<u64>,
-    n: u64,
-) -> Result<(), Fail<Trouble>>
+fn link_from<N: Nodes>(nodes: &mut N, before: Option<u64>, n: u64) -> Result<(), Fail<Trouble>>
     ensures { EndsAs result (N.heap nodes.new) (linked_from before n (N.heap nodes.old)) }
 {
     match before {

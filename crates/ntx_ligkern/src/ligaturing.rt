@@ -65,12 +65,7 @@ fn insert_lig<N: Nodes>(
 }
 
 /// Makes the ligature, and gives the node that holds it: the left glyph, or a new one.
-fn put_lig<N: Nodes>(
-    nodes: &mut N,
-    left: u64,
-    lig: Lig,
-    right: u64,
-) -> Result<u64, Fail<Trouble>>
+fn put_lig<N: Nodes>(nodes: &mut N, left: u64, lig: Lig, right: u64) -> Result<u64, Fail<Trouble>>
     ensures { EndsAs result (N.heap nodes.new) (put_lig left lig right (N.heap nodes.old)) }
 {
     if lig.keeps_left() {

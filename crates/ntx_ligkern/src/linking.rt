@@ -8,12 +8,7 @@ use ntx_nodes::{Field, FieldValue, Nodes, Trouble};
 use ntx_num::Fail;
 
 /// Sets a field of a node. Refuses as `Nodes::set`.
-fn set<N: Nodes>(
-    nodes: &mut N,
-    n: u64,
-    f: Field,
-    v: FieldValue,
-) -> Result<(), Fail<Trouble>>
+fn set<N: Nodes>(nodes: &mut N, n: u64, f: Field, v: FieldValue) -> Result<(), Fail<Trouble>>
     ensures { EndsAs result (N.heap nodes.new) (set_to n f v (N.heap nodes.old)) }
 {
     match nodes.set(n, f, v) {

@@ -58,11 +58,7 @@ static AGAIN: [Rule; 18] = [
 type Row<'a> = (&'a str, &'a str);
 
 /// The list that a text writes, with its ligatures, as text.
-fn ligatured(
-    alloc: Global,
-    fonts: &[Font],
-    text: &str,
-) -> Result<Vec<u8>, Fail<Trouble>> {
+fn ligatured(alloc: Global, fonts: &[Font], text: &str) -> Result<Vec<u8>, Fail<Trouble>> {
     let mut heap = PlainHeap::new(alloc, 1)?;
     make_list(&mut heap, text.as_bytes())?;
     let head = ligature(alloc, &mut heap, fonts, 1)?;
@@ -340,7 +336,10 @@ fn a_copy_goes_before_and_the_glyph_itself_into_replace(rt: HostRuntime) -> Resu
 
 #[test]
 fn a_new_ligature_is_like_the_left_glyph(rt: HostRuntime) -> Result<(), test::Fail> {
-    let fonts = [font_with(rt.alloc(), &WORDS)?, font_with(rt.alloc(), &EIGHT)?];
+    let fonts = [
+        font_with(rt.alloc(), &WORDS)?,
+        font_with(rt.alloc(), &EIGHT)?,
+    ];
     let mut heap = PlainHeap::new(rt.alloc(), 1)?;
     make_list(&mut heap, b"^a^w")?;
     heap.set_attr(1, 7, 10)?;

@@ -36,7 +36,7 @@ loop-more-preserved g c =
     let fewer : length c.absorb.new.ahead.items + (if c.in_ok-more.more then 1 else 0) ≤ length c.loop-more.ahead.items = c.in_ok-more.ensures.fewer in
     record {
       runs = λ head. on_and_on fonts head head head start (AtDisc disc ahead ∷ []) (after_absorbing c.in_ok-more.more disc (reverse c.absorb.new.ahead.items)) first heap new
-      (subst (λ (b : Bool). RunsOn fonts head start first head (after_absorbing b disc ahead) heap) c.loop-more-test.true (c.loop-more.invariant.runs head)) (c.in_ok-more.ensures.done head);
+          (subst (λ (b : Bool). RunsOn fonts head start first head (after_absorbing b disc ahead) heap) c.loop-more-test.true (c.loop-more.invariant.runs head)) (c.in_ok-more.ensures.done head);
       later = omega arith;
       fewer = omega arith;
     }
