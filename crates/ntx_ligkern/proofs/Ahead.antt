@@ -1,6 +1,7 @@
 -- The nodes ahead of a cursor, which are kept with the nearest one last.
 use Rattle.std.proofs.Common.{◌≡◌, ℕ, zero, suc, ◌+◌, ◌-◌, ◌<◌, ◌≤◌, List, [], ◌∷◌, ◌++◌, reverse, length, slice_get, Bool, true, false, Some, None, refl, sym, ◌∙◌, ap, subst, arith}
-use Rattle.std.specs.Prelude.{Option}
+use Rattle.std.specs.Prelude.{Option, MatchOption}
+use Rattle.std.specs.Option.{option_to_list}
 use Rattle.std.proofs.lemmas.List.{reverse-append, length-reverse, get_or-reverse}
 use Rattle.std.proofs.lemmas.Option.{slice_get-get_or, slice_get_past}
 use Rattle.ntx_num.proofs.Answers.{same_Some}
@@ -44,6 +45,24 @@ none_ahead before count xs h = ap (spot_in before count) (sym (none_left xs h))
 
 pub some_ahead : (before : Option ℕ) (count : ℕ) (old new : List ℕ) (x : ℕ) → old ≡ new ++ x ∷ [] → Some (record { before = before; at = x; ahead = reverse new; count = count }) ≡ spot_in before count (reverse old)
 some_ahead before count old new x e = ap (spot_in before count) (sym (one_off old new x e))
+
+-- ---- the first of them
+abbrev pub tail_of : List ℕ → List ℕ
+tail_of [] = []
+tail_of (x ∷ xs) = xs
+
+pub first_of : (xs : List ℕ) (x : ℕ) → Some x ≡ slice_get xs 0 → xs ≡ x ∷ tail_of xs
+first_of [] x e = cc
+first_of (y ∷ xs) x e = ap (λ n. n ∷ xs) (sym (same_Some x y e))
+
+pub popped : (old new : List ℕ) (x : ℕ) (o : Option ℕ) → Some x ≡ slice_get (reverse old) 0 → old ≡ new ++ option_to_list o → MatchOption o ((length old ≡ 0) × (length new ≡ 0)) (λ _. length new + 1 ≡ length old) → reverse old ≡ x ∷ reverse new
+popped old new x None first e c =
+    let short : length old ≡ 0 = c.0 in
+    let gone : Some x ≡ slice_get [] 0 = first ∙ ap (λ (xs : List ℕ). slice_get xs 0) (none_left old (omega arith)) in cc
+popped old new x (Some y) first e c =
+    let all = one_off old new y e in
+    let is : Some x ≡ Some y = first ∙ ap (λ (xs : List ℕ). slice_get xs 0) all in
+    all ∙ ap (λ n. n ∷ reverse new) (sym (same_Some x y is))
 
 -- ---- passed over
 pub pass_none : (left count at : ℕ) (before : Option ℕ) (rest : List ℕ) → 0 < left → None ≡ spot_in (Some at) count rest → None ≡ passed left before count (at ∷ rest)
