@@ -89,11 +89,11 @@ returns-in_err-at-clause-done g c =
     let first = c.in-Some.ensures ∙ ap (λ (xs : List ℕ). slice_get (reverse xs) 0) c.deref.ensures.value in
     let lig = c.in-Some-lig_between.ensures
     ∙ ap (λ o. lig_between c.args.fonts.now heap (Some c.args.cursor.at) o) (c.or.ensures ∙ ap (option_or d.replace) (c.second.ensures ∙ ap (λ (xs : List ℕ). slice_get (reverse xs) 1) c.deref-2.ensures.value)) in
-    let rest = c.pop.new.self.items in
+    let rest = c.pop-disc.new.self.items in
     let mid = h c.draw_before.new.nodes in
     let new = h c.ligature_disc.new.nodes in
     let later = head_after c.args.head c.args.cursor.before disc in
-    let split = popped items rest disc c.pop.result first c.pop.ensures.items c.pop.ensures.cases in
+    let split = popped items rest disc c.pop-disc.result first c.pop-disc.ensures.items c.pop-disc.ensures.cases in
     let goes = draw_goes c.args.fonts.now c.args.head spot d disc (reverse rest) c.in-Some-lig_between._lig heap mid (sym c.requires.disc) (sym c.requires.lig) split c.in-Some-disc_at.ensures lig c.in_ok-draw_before.ensures in
     let p = err_from_is_err_and c.from_residual-in_err-at.result c.from_residual-in_err-at.ensures.1 in
     rw (p.1, p.2) (on_and_to c.args.fonts.now c.args.head later (InList spot ∷ []) (AtDisc disc (reverse rest) ∷ []) heap mid c.in_err-at.field-0.0 new goes (c.in_err-at.ensures.done later))
@@ -109,11 +109,11 @@ returns-clause-done g c =
     let first = c.in-Some.ensures ∙ ap (λ (xs : List ℕ). slice_get (reverse xs) 0) c.deref.ensures.value in
     let lig = c.in-Some-lig_between.ensures
     ∙ ap (λ o. lig_between c.args.fonts.now heap (Some c.args.cursor.at) o) (c.or.ensures ∙ ap (option_or d.replace) (c.second.ensures ∙ ap (λ (xs : List ℕ). slice_get (reverse xs) 1) c.deref-2.ensures.value)) in
-    let rest = c.pop.new.self.items in
+    let rest = c.pop-disc.new.self.items in
     let mid = h c.draw_before.new.nodes in
     let new = h c.ligature_disc.new.nodes in
     let later = head_after c.args.head c.args.cursor.before disc in
-    let split = popped items rest disc c.pop.result first c.pop.ensures.items c.pop.ensures.cases in
+    let split = popped items rest disc c.pop-disc.result first c.pop-disc.ensures.items c.pop-disc.ensures.cases in
     let goes = draw_goes c.args.fonts.now c.args.head spot d disc (reverse rest) c.in-Some-lig_between._lig heap mid (sym c.requires.disc) (sym c.requires.lig) split c.in-Some-disc_at.ensures lig c.in_ok-draw_before.ensures in
     let left = from_spot InList (spot_from c.ligature_disc.new.ahead.items c.in_ok-at.at) in
     subst (λ (n : ℕ). RunsOn c.args.fonts.now c.args.head (InList spot ∷ []) heap n left new) (sym c.head_after.ensures)
@@ -124,11 +124,11 @@ returns-clause-fewer g c =
     let h = g.N.Nodes.heap in
     let heap = h c.args.nodes.now in
     let items = c.args.ahead.now.items in
-    let rest = c.pop.new.self.items in
+    let rest = c.pop-disc.new.self.items in
     let mid = h c.draw_before.new.nodes in
     let new = h c.ligature_disc.new.nodes in
     let drawn = drawn_before c.args.cursor.before c.args.cursor.at c.in-Some.disc c.in-Some-disc_at.d heap in
     let rises : heap.next ≤ mid.next = risen drawn tt heap mid (rises_before c.args.cursor.before c.args.cursor.at c.in-Some.disc c.in-Some-disc_at.d heap) c.in_ok-draw_before.ensures in
     let on : mid.next ≤ new.next = c.in_ok-at.ensures.later in
-    let long : length rest + length (option_to_list c.pop.result) ≡ length items = c.pop.ensures.len in
+    let long : length rest + length (option_to_list c.pop-disc.result) ≡ length items = c.pop-disc.ensures.len in
     disc_less c.args.cursor items rest c.ligature_disc.new.ahead.items c.in_ok-at.at heap new (omega arith) c.in_ok-at.ensures.fewer (omega arith)

@@ -38,7 +38,7 @@ returns-clause-fewer g c =
     (step_less (spot_of c.args.cursor items) c.in-Some.lig c.in-Some-pop.right (reverse rest) (h c.args.nodes.now) (h c.step.new.nodes) (spot_from c.step.new.ahead.items c.in_ok-at.at)
     (one_off items rest c.in-Some-pop.right c.in-Some-pop.ensures.items) c.in_ok-at.ensures c.lawful.ensures.lawful.next).0
 
-pub before_disc-requires-lig : goal.before_disc-requires-lig
-before_disc-requires-lig g c =
+pub before_disc-requires-clause-lig : goal.before_disc-requires-clause-lig
+before_disc-requires-clause-lig g c =
     let heap = g.N.Nodes.heap c.args.nodes.now in
     sym (c.in_default.ensures ∙ ap (λ o. lig_between c.args.fonts.now heap (Some c.args.cursor.at) o) (c.nearest.ensures ∙ ap (λ (xs : List ℕ). slice_get (reverse xs) 0) c.deref.ensures.value))
