@@ -1,12 +1,12 @@
 -- The nodes ahead of a cursor, which are kept with the nearest one last.
 use Rattle.std.proofs.Common.{◌≡◌, ℕ, zero, suc, ◌+◌, ◌-◌, ◌<◌, ◌≤◌, List, [], ◌∷◌, ◌++◌, reverse, length, slice_get, Bool, true, false, Some, None, refl, sym, ◌∙◌, ap, subst, arith}
-use Rattle.std.specs.Prelude.{Option, MatchOption}
-use Rattle.std.specs.Option.{option_to_list}
+use Rattle.std.specs.Prelude.{Option}
 use Rattle.std.proofs.lemmas.List.{reverse-append, length-reverse, get_or-reverse}
 use Rattle.std.proofs.lemmas.Option.{slice_get-get_or, slice_get_past}
 use Rattle.ntx_num.proofs.Answers.{same_Some}
 use Rattle.ntx_ligkern.specs.Ligatures.{Spot, spot_in, passed}
-use Rattle.ntx_ligkern.specs.inner.Cursors.{pushed_if}
+use Rattle.ntx_ligkern.specs.declared.cursor.Cursor.{Cursor}
+use Rattle.ntx_ligkern.specs.inner.Cursors.{spot_of, spot_from, pushed_if}
 
 pub one_more : (xs : List ℕ) (x : ℕ) → reverse (xs ++ x ∷ []) ≡ x ∷ reverse xs
 one_more xs x = reverse-append xs (x ∷ [])
@@ -55,14 +55,24 @@ pub first_of : (xs : List ℕ) (x : ℕ) → Some x ≡ slice_get xs 0 → xs �
 first_of [] x e = cc
 first_of (y ∷ xs) x e = ap (λ n. n ∷ xs) (sym (same_Some x y e))
 
-pub popped : (old new : List ℕ) (x : ℕ) (o : Option ℕ) → Some x ≡ slice_get (reverse old) 0 → old ≡ new ++ option_to_list o → MatchOption o ((length old ≡ 0) × (length new ≡ 0)) (λ _. length new + 1 ≡ length old) → reverse old ≡ x ∷ reverse new
-popped old new x None first e c =
-    let short : length old ≡ 0 = c.0 in
-    let gone : Some x ≡ slice_get [] 0 = first ∙ ap (λ (xs : List ℕ). slice_get xs 0) (none_left old (omega arith)) in cc
-popped old new x (Some y) first e c =
-    let all = one_off old new y e in
-    let is : Some x ≡ Some y = first ∙ ap (λ (xs : List ℕ). slice_get xs 0) all in
-    all ∙ ap (λ n. n ∷ reverse new) (sym (same_Some x y is))
+taken_names : (names new : List ℕ) (x : ℕ) (o : Option Cursor) → Some x ≡ slice_get names 0 → spot_from new o ≡ spot_in None 0 names → names ≡ x ∷ reverse new
+taken_names [] new x o first e = cc
+taken_names (y ∷ rest) new x None first e = cc
+taken_names (y ∷ rest) new x (Some c) first e =
+    let is : spot_of c new ≡ record { before = None; at = y; ahead = rest; count = 0 } = same_Some (spot_of c new) (record { before = None; at = y; ahead = rest; count = 0 }) e in
+    let left : reverse new ≡ rest = ap (λ (s : Spot). s.ahead) is in
+    ap (λ (xs : List ℕ). y ∷ xs) (sym left) ∙ ap (λ (n : ℕ). n ∷ reverse new) (sym (same_Some x y first))
+
+pub taken : (old new : List ℕ) (x : ℕ) (o : Option Cursor) → Some x ≡ slice_get (reverse old) 0 → spot_from new o ≡ spot_in None 0 (reverse old) → reverse old ≡ x ∷ reverse new
+taken old new x o first e = taken_names (reverse old) new x o first e
+
+pub fewer_taken : (old new : List ℕ) (x : ℕ) → reverse old ≡ x ∷ reverse new → length new ≤ length old
+fewer_taken old new x e =
+    let both : length (reverse old) ≡ length (x ∷ reverse new) = ap length e in
+    let before : length (reverse old) ≡ length old = length-reverse old in
+    let after : length (reverse new) ≡ length new = length-reverse new in
+    let one : length (x ∷ reverse new) ≡ length (reverse new) + 1 = omega arith in
+    omega arith
 
 -- ---- passed over
 pub pass_none : (left count at : ℕ) (before : Option ℕ) (rest : List ℕ) → 0 < left → None ≡ spot_in (Some at) count rest → None ≡ passed left before count (at ∷ rest)

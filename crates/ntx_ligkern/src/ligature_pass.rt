@@ -73,7 +73,7 @@ fn before_disc<N: Nodes>(
         return Ok(move_on(head, cursor, ahead));
     };
     draw_before(nodes, cursor.before, cursor.at, disc, d)?;
-    let _disc = ahead.pop();
+    let _disc = take_next(None, 0, ahead);
     let at = ligature_disc(alloc, nodes, fonts, disc, ahead)?;
     Ok(Progress {
         head: head_after(head, cursor.before, disc),

@@ -1,13 +1,13 @@
-use Rattle.std.proofs.Common.{◌≡◌, ℕ, ◌+◌, ◌≤◌, List, [], ◌∷◌, reverse, length, slice_get, Some, sym, ◌∙◌, ap, subst, arith}
+use Rattle.std.proofs.Common.{◌≡◌, ℕ, ◌≤◌, List, [], ◌∷◌, reverse, slice_get, Some, sym, ◌∙◌, ap, subst, arith}
 use Rattle.std.specs.Prelude.{Option}
 use Rattle.std.proofs.lemmas.Result.{err_from_is_err_and}
-use Rattle.std.specs.Option.{option_and_then, option_or, option_to_list}
+use Rattle.std.specs.Option.{option_and_then, option_or}
 use Rattle.ntx_ligkern.specs.Ligatures.{lig_between}
 use Rattle.ntx_nodes.specs.declared.contents.DiscFields.{DiscFields}
 use Rattle.ntx_ligkern.specs.Ligaturing.{AtDisc, InList, from_spot, head_after, disc_at, drawn_before, right_of_disc}
 use Rattle.ntx_ligkern.specs.inner.Cursors.{spot_of, spot_from}
 use Rattle.ntx_ligkern.specs.inner.Chores.{RunsOn}
-use Rattle.ntx_ligkern.proofs.Ahead.{first_of, tail_of, popped}
+use Rattle.ntx_ligkern.proofs.Ahead.{first_of, tail_of, taken, fewer_taken}
 use Rattle.ntx_ligkern.proofs.Turning.{on_and_on, on_and_to}
 use Rattle.ntx_ligkern.proofs.Measures.{move_less, disc_less, risen, rises_before}
 use Rattle.ntx_ligkern.proofs.ListTurns.{moves_no_disc, moves_no_lig, draw_goes, draw_stops}
@@ -89,11 +89,11 @@ returns-in_err-at-clause-done g c =
     let first = c.in-Some.ensures ∙ ap (λ (xs : List ℕ). slice_get (reverse xs) 0) c.deref.ensures.value in
     let lig = c.in-Some-lig_between.ensures
     ∙ ap (λ o. lig_between c.args.fonts.now heap (Some c.args.cursor.at) o) (c.or.ensures ∙ ap (option_or d.replace) (c.second.ensures ∙ ap (λ (xs : List ℕ). slice_get (reverse xs) 1) c.deref-2.ensures.value)) in
-    let rest = c.pop-disc.new.self.items in
+    let rest = c.take_next-disc.new.ahead.items in
     let mid = h c.draw_before.new.nodes in
     let new = h c.ligature_disc.new.nodes in
     let later = head_after c.args.head c.args.cursor.before disc in
-    let split = popped items rest disc c.pop-disc.result first c.pop-disc.ensures.items c.pop-disc.ensures.cases in
+    let split = taken items rest disc c.take_next-disc.result first c.take_next-disc.ensures in
     let goes = draw_goes c.args.fonts.now c.args.head spot d disc (reverse rest) c.in-Some-lig_between._lig heap mid (sym c.requires.disc) (sym c.requires.lig) split c.in-Some-disc_at.ensures lig c.in_ok-draw_before.ensures in
     let p = err_from_is_err_and c.from_residual-in_err-at.result c.from_residual-in_err-at.ensures.1 in
     rw (p.1, p.2) (on_and_to c.args.fonts.now c.args.head later (InList spot ∷ []) (AtDisc disc (reverse rest) ∷ []) heap mid c.in_err-at.field-0.0 new goes (c.in_err-at.ensures.done later))
@@ -109,11 +109,11 @@ returns-clause-done g c =
     let first = c.in-Some.ensures ∙ ap (λ (xs : List ℕ). slice_get (reverse xs) 0) c.deref.ensures.value in
     let lig = c.in-Some-lig_between.ensures
     ∙ ap (λ o. lig_between c.args.fonts.now heap (Some c.args.cursor.at) o) (c.or.ensures ∙ ap (option_or d.replace) (c.second.ensures ∙ ap (λ (xs : List ℕ). slice_get (reverse xs) 1) c.deref-2.ensures.value)) in
-    let rest = c.pop-disc.new.self.items in
+    let rest = c.take_next-disc.new.ahead.items in
     let mid = h c.draw_before.new.nodes in
     let new = h c.ligature_disc.new.nodes in
     let later = head_after c.args.head c.args.cursor.before disc in
-    let split = popped items rest disc c.pop-disc.result first c.pop-disc.ensures.items c.pop-disc.ensures.cases in
+    let split = taken items rest disc c.take_next-disc.result first c.take_next-disc.ensures in
     let goes = draw_goes c.args.fonts.now c.args.head spot d disc (reverse rest) c.in-Some-lig_between._lig heap mid (sym c.requires.disc) (sym c.requires.lig) split c.in-Some-disc_at.ensures lig c.in_ok-draw_before.ensures in
     let left = from_spot InList (spot_from c.ligature_disc.new.ahead.items c.in_ok-at.at) in
     subst (λ (n : ℕ). RunsOn c.args.fonts.now c.args.head (InList spot ∷ []) heap n left new) (sym c.head_after.ensures)
@@ -124,11 +124,12 @@ returns-clause-fewer g c =
     let h = g.N.Nodes.heap in
     let heap = h c.args.nodes.now in
     let items = c.args.ahead.now.items in
-    let rest = c.pop-disc.new.self.items in
+    let rest = c.take_next-disc.new.ahead.items in
     let mid = h c.draw_before.new.nodes in
     let new = h c.ligature_disc.new.nodes in
     let drawn = drawn_before c.args.cursor.before c.args.cursor.at c.in-Some.disc c.in-Some-disc_at.d heap in
     let rises : heap.next ≤ mid.next = risen drawn tt heap mid (rises_before c.args.cursor.before c.args.cursor.at c.in-Some.disc c.in-Some-disc_at.d heap) c.in_ok-draw_before.ensures in
     let on : mid.next ≤ new.next = c.in_ok-at.ensures.later in
-    let long : length rest + length (option_to_list c.pop-disc.result) ≡ length items = c.pop-disc.ensures.len in
-    disc_less c.args.cursor items rest c.ligature_disc.new.ahead.items c.in_ok-at.at heap new (omega arith) c.in_ok-at.ensures.fewer (omega arith)
+    let first = c.in-Some.ensures ∙ ap (λ (xs : List ℕ). slice_get (reverse xs) 0) c.deref.ensures.value in
+    let split = taken items rest c.in-Some.disc c.take_next-disc.result first c.take_next-disc.ensures in
+    disc_less c.args.cursor items rest c.ligature_disc.new.ahead.items c.in_ok-at.at heap new (fewer_taken items rest c.in-Some.disc split) c.in_ok-at.ensures.fewer (omega arith)
