@@ -1,12 +1,12 @@
 -- The nodes ahead of a cursor, which are kept with the nearest one last.
-use Rattle.std.proofs.Common.{◌≡◌, ℕ, zero, suc, ◌+◌, ◌-◌, ◌<◌, ◌≤◌, List, [], ◌∷◌, ◌++◌, reverse, length, slice_get, Bool, true, false, Some, None, refl, sym, ◌∙◌, ap, subst, arith}
+use Rattle.std.proofs.Common.{◌≡◌, ℕ, zero, suc, ◌+◌, ◌-◌, ◌<◌, ◌≤◌, List, [], ◌∷◌, ◌++◌, reverse, length, slice_get, Some, None, refl, sym, ◌∙◌, ap, subst, arith}
 use Rattle.std.specs.Prelude.{Option}
 use Rattle.std.proofs.lemmas.List.{reverse-append, length-reverse, get_or-reverse}
 use Rattle.std.proofs.lemmas.Option.{slice_get-get_or, slice_get_past}
 use Rattle.ntx_num.proofs.Answers.{same_Some}
 use Rattle.ntx_ligkern.specs.Ligatures.{Spot, spot_in, passed}
 use Rattle.ntx_ligkern.specs.declared.cursor.Cursor.{Cursor}
-use Rattle.ntx_ligkern.specs.inner.Cursors.{spot_of, spot_from, pushed_if}
+use Rattle.ntx_ligkern.specs.inner.Cursors.{spot_of, spot_from}
 
 pub one_more : (xs : List ℕ) (x : ℕ) → reverse (xs ++ x ∷ []) ≡ x ∷ reverse xs
 one_more xs x = reverse-append xs (x ∷ [])

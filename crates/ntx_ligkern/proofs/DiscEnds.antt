@@ -1,7 +1,7 @@
 -- How the traces of nodes that come into a discretionary end, one part after another.
-use Rattle.std.proofs.Common.{◌≡◌, ℕ, Some, None, Ok, Err}
+use Rattle.std.proofs.Common.{ℕ, Some, None, Ok, Err}
 use Rattle.std.specs.Prelude.{Option, Result}
-use Rattle.ntx_num.specs.Trace.{Trace, stays, trace_and_then, EndsAs}
+use Rattle.ntx_num.specs.Trace.{Trace, trace_and_then, EndsAs}
 use Rattle.ntx_num.specs.declared.answer.Fail.{Fail}
 use Rattle.ntx_num.proofs.Traces.{Begins, begins_stays, begins_then, ends_later, ends_there}
 use Rattle.ntx_nodes.specs.Heap.{Heap}

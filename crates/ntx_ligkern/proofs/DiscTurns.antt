@@ -1,5 +1,5 @@
 -- Discretionaries: chores in the order in which the code does them.
-use Rattle.std.proofs.Common.{◌≡◌, ℕ, zero, suc, Bool, true, false, List, [], ◌∷◌, ◌++◌, slice_get, Some, None, Ok, Err, refl, sym, ◌∙◌, ap, subst}
+use Rattle.std.proofs.Common.{◌≡◌, ℕ, false, List, [], ◌∷◌, slice_get, Some, None, Ok, Err, refl, sym, ◌∙◌, ap, subst}
 use Rattle.std.specs.Prelude.{Option, Result}
 use Rattle.ntx_num.specs.Trace.{Trace, stays, trace_and_then, EndsAs}
 use Rattle.ntx_num.specs.declared.answer.Fail.{Fail}

@@ -1,8 +1,7 @@
 -- Turns in a list with discretionaries.
-use Rattle.std.proofs.Common.{◌≡◌, ℕ, Bool, true, false, List, [], ◌∷◌, ◌++◌, slice_get, Some, None, Ok, Err, refl, sym, ◌∙◌, ap, subst}
-use Rattle.std.specs.Prelude.{Option, Result}
+use Rattle.std.proofs.Common.{◌≡◌, ℕ, List, [], ◌∷◌, slice_get, Some, None, Ok, Err, refl, sym, ◌∙◌, ap, subst}
+use Rattle.std.specs.Prelude.{Option}
 use Rattle.std.specs.Option.{option_or}
-use Rattle.ntx_num.specs.Answer.{result_map}
 use Rattle.ntx_num.specs.Trace.{Trace, stays, trace_and_then, EndsAs}
 use Rattle.ntx_num.specs.declared.answer.Fail.{Fail}
 use Rattle.ntx_num.proofs.Traces.{begins_stays, ends_later, ends_there}
@@ -10,11 +9,11 @@ use Rattle.ntx_nodes.specs.Heap.{Heap}
 use Rattle.ntx_nodes.specs.declared.contents.DiscFields.{DiscFields}
 use Rattle.ntx_nodes.specs.declared.trouble.Trouble.{Trouble}
 use Rattle.ntx_tfm.specs.Font.{FontTables}
-use Rattle.ntx_ligkern.specs.Ligatures.{Spot, spot_in, moved_on, lig_between, ligated}
-use Rattle.ntx_ligkern.specs.Ligaturing.{Chore, AtDisc, InList, from_spot, disc_at, drawn_before, goes_to, with_chores, head_after, draw_or_move, right_of_disc, next_disc, before_disc, step_in_list, glyph_turn, list_turn, turn}
+use Rattle.ntx_ligkern.specs.Ligatures.{Spot, moved_on, lig_between, ligated}
+use Rattle.ntx_ligkern.specs.Ligaturing.{Chore, AtDisc, InList, from_spot, disc_at, drawn_before, goes_to, with_chores, head_after, draw_or_move, right_of_disc, next_disc, before_disc, step_in_list, list_turn, turn}
 use Rattle.ntx_ligkern.specs.declared.lig.Lig.{Lig}
 use Rattle.ntx_ligkern.specs.inner.Chores.{RunsOn, RunsTo}
-use Rattle.ntx_ligkern.proofs.Turning.{turn_goes, turn_stops, turn_there, spot_goes, spot_stops, on_and_on, on_and_to}
+use Rattle.ntx_ligkern.proofs.Turning.{turn_goes, turn_stops, turn_there, spot_goes, spot_stops}
 
 -- ---- at a discretionary
 pub at_disc_goes : (fonts : List FontTables) (head : ℕ) (spot : Spot) (d : DiscFields) (heap : Heap) → Some d ≡ disc_at heap spot.at → RunsOn fonts head (InList spot ∷ []) heap head (AtDisc spot.at spot.ahead ∷ []) heap

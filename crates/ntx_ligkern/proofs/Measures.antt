@@ -1,5 +1,5 @@
 -- Each turn leaves less to do: names rise, or nodes ahead go, or steps are counted.
-use Rattle.std.proofs.Common.{◌≡◌, ℕ, ◌+◌, ◌-◌, ◌*◌, ◌/◌, ◌<◌, ◌≤◌, Bool, true, false, if◌then◌else◌, List, [], ◌∷◌, reverse, length, slice_get, pos, Some, None, Ok, Err, refl, sym, ◌∙◌, ap, subst, arith}
+use Rattle.std.proofs.Common.{◌≡◌, ℕ, ◌+◌, ◌-◌, ◌*◌, ◌<◌, ◌≤◌, Bool, true, false, if◌then◌else◌, List, [], ◌∷◌, reverse, length, slice_get, pos, Some, None, Ok, Err, refl, sym, ◌∙◌, ap, subst, arith}
 use Rattle.std.specs.Prelude.{Option, Result, nat_le, IfSome}
 use Rattle.std.proofs.lemmas.List.{length-reverse}
 use Rattle.std.proofs.lemmas.Bool.Decides.{nat_tests}
@@ -14,12 +14,12 @@ use Rattle.ntx_nodes.specs.declared.trouble.Trouble.{Trouble}
 use Rattle.ntx_nodes.specs.declared.trouble.Trouble.TheVariants.{LigLoop}
 use Rattle.ntx_tfm.specs.Font.{FontTables}
 use Rattle.ntx_ligkern.specs.Kerns.{last_of}
-use Rattle.ntx_ligkern.specs.Ligatures.{Spot, spot_in, moved_on, passes_over, keeps_left, keeps_right, set_to, linked, put_in, copied, turned, replaced, placed, inserted, put_lig, let_die, freed, let_go, joined, with_right, with_holder, result_of, spot_after, ligated, lig_between}
+use Rattle.ntx_ligkern.specs.Ligatures.{Spot, spot_in, moved_on, passes_over, keeps_left, keeps_right, set_to, linked, put_in, copied, turned, replaced, placed, inserted, put_lig, let_die, freed, let_go, joined, result_of, spot_after, ligated, lig_between}
 use Rattle.ntx_ligkern.specs.Ligaturing.{part_at, copied_into, linked_from, moved_in, drawn_before, copied_to_post, moved_back, drawn_after, step_in_part, part_turn}
 use Rattle.ntx_ligkern.specs.declared.lig.Lig.{Lig}
 use Rattle.ntx_ligkern.specs.declared.cursor.Cursor.{Cursor}
 use Rattle.ntx_ligkern.specs.inner.Cursors.{spot_of, spot_from}
-use Rattle.ntx_ligkern.specs.inner.Chores.{left_at, left_from}
+use Rattle.ntx_ligkern.specs.inner.Chores.{left_from}
 use Rattle.ntx_ligkern.proofs.Ahead.{spot_length, passed_length}
 use Rattle.ntx_ligkern.proofs.Rises.{Rises, rises_stays, rises_then, rises_if, rises_set, rises_free, rises_copy}
 

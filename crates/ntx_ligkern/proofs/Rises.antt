@@ -1,18 +1,15 @@
 -- The next name never falls, and rises where a node is made.
-use Rattle.std.proofs.Common.{◌≡◌, ℕ, ◌+◌, ◌≤◌, ◌<◌, Bool, true, false, if◌then◌else◌, List, [], ◌∷◌, Some, None, Ok, Err, refl, sym, ◌∙◌, ap, subst, arith}
+use Rattle.std.proofs.Common.{◌≡◌, ℕ, ◌+◌, ◌≤◌, Bool, true, false, if◌then◌else◌, List, Some, None, Ok, Err, refl, ap, arith}
 use Rattle.std.specs.Prelude.{Option, Result, nat_le}
 use Rattle.std.specs.FinMap as map
 use Rattle.ntx_num.specs.Dimension.{max_nodes}
 use Rattle.ntx_num.specs.Answer.{result_map}
-use Rattle.ntx_num.specs.Trace.{Trace, stays, stepped, on_ending, trace_and_then, EndsAs}
+use Rattle.ntx_num.specs.Trace.{Trace, stays, stepped, on_ending, trace_and_then}
 use Rattle.ntx_num.proofs.Answers.{same_Ok, mapped_Ok, not_taken}
 use Rattle.ntx_nodes.specs.Heap.{Heap, name_limit}
 use Rattle.ntx_nodes.specs.Steps.{of_found, put_fields, changed, next_name, making, copy_of, copy_one_step, free_one_step, set_step}
-use Rattle.ntx_nodes.specs.declared.contents.DiscFields.{DiscFields}
 use Rattle.ntx_nodes.specs.declared.field.Field.{Field}
 use Rattle.ntx_nodes.specs.declared.field.FieldValue.{FieldValue}
-use Rattle.ntx_nodes.specs.declared.field.Field.TheVariants.{Subtype, Next, Char, Pre, Post, Replace}
-use Rattle.ntx_nodes.specs.declared.field.FieldValue.TheVariants.{Number, Link}
 use Rattle.ntx_nodes.specs.declared.fields.Fields.{Fields}
 use Rattle.ntx_nodes.specs.declared.node.Node.{Node}
 use Rattle.ntx_nodes.specs.declared.trouble.Trouble.{Trouble}

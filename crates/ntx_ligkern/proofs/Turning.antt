@@ -1,11 +1,11 @@
 -- Turns that follow one another, and turns that end the pass.
-use Rattle.std.proofs.Common.{◌≡◌, ℕ, zero, suc, List, [], ◌∷◌, ◌++◌, slice_get, Some, None, Ok, Err, refl, sym, ◌∙◌, ap, subst, append_assoc}
-use Rattle.std.specs.Prelude.{Option, Result}
+use Rattle.std.proofs.Common.{◌≡◌, ℕ, suc, List, [], ◌∷◌, ◌++◌, Ok, Err, refl, sym, ap, subst, append_assoc}
+use Rattle.std.specs.Prelude.{Option}
 use Rattle.ntx_num.specs.Answer.{result_map}
-use Rattle.ntx_num.specs.Trace.{Trace, states, stays, trace_and_then, EndsAs, Passes}
+use Rattle.ntx_num.specs.Trace.{Trace, stays, EndsAs}
 use Rattle.ntx_num.specs.declared.answer.Fail.{Fail}
-use Rattle.ntx_num.specs.declared.answer.Fail.TheVariants.{NoMemory, Is}
-use Rattle.ntx_num.proofs.Traces.{Begins, begins_stays, ends_later, ends_there}
+use Rattle.ntx_num.specs.declared.answer.Fail.TheVariants.{NoMemory}
+use Rattle.ntx_num.proofs.Traces.{begins_stays, ends_later, ends_there}
 use Rattle.ntx_nodes.specs.Heap.{Heap}
 use Rattle.ntx_nodes.specs.declared.trouble.Trouble.{Trouble}
 use Rattle.ntx_tfm.specs.Font.{FontTables}

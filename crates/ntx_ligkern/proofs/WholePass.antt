@@ -2,7 +2,7 @@
 use Rattle.std.proofs.Common.{◌≡◌, ℕ, List, [], Some, Ok, Err, refl, sym, ◌∙◌, ap, subst, append-nil}
 use Rattle.std.specs.Prelude.{Result}
 use Rattle.ntx_num.specs.Answer.{Traces, result_map}
-use Rattle.ntx_num.specs.Trace.{Trace, states, EndsAs}
+use Rattle.ntx_num.specs.Trace.{states, EndsAs}
 use Rattle.ntx_num.specs.declared.answer.Fail.{Fail}
 use Rattle.ntx_num.specs.declared.answer.Fail.TheVariants.{Is}
 use Rattle.ntx_num.proofs.Traces.{traces}

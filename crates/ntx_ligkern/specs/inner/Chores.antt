@@ -2,7 +2,7 @@
 --     Runs         turns that do all these chores, and how they end
 --     RunsOn       what turns from one state on do, those from an earlier state do too
 --     Reaches      a call that does the first chores and leaves others in their place
-use Rattle.std.specs.Prelude.{◌≡◌, ◌+◌, ◌*◌, ◌-◌, ℕ, zero, suc, Bool, if◌then◌else◌, List, [], ◌∷◌, ◌++◌, length, Option, Some, None, Result, Ok, Err}
+use Rattle.std.specs.Prelude.{◌+◌, ◌*◌, ◌-◌, ℕ, Bool, if◌then◌else◌, List, [], ◌∷◌, ◌++◌, length, Option, Some, None, Result, Ok, Err}
 use Rattle.ntx_num.specs.Answer.{result_map}
 use Rattle.ntx_num.specs.Trace.{EndsAs}
 use Rattle.ntx_num.specs.declared.answer.Fail.{Fail}

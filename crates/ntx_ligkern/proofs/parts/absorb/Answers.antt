@@ -1,4 +1,4 @@
-use Rattle.std.proofs.Common.{◌≡◌, ℕ, List, [], ◌∷◌, reverse, slice_get, Some, None, sym, ◌∙◌, ap}
+use Rattle.std.proofs.Common.{ℕ, List, [], ◌∷◌, reverse, slice_get, Some, sym, ◌∙◌, ap}
 use Rattle.std.proofs.lemmas.Result.{err_from_is_err_and}
 use Rattle.ntx_ligkern.specs.Ligatures.{lig_between}
 use Rattle.ntx_ligkern.specs.Ligaturing.{AtDisc}
