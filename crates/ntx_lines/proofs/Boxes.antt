@@ -1,5 +1,5 @@
 -- What is found at a name, and how a line is packed.
-use Rattle.std.proofs.Common.{ℕ, pos, List, Option, Ok, Err}
+use Rattle.std.proofs.Common.{◌≡◌, ℕ, pos, List, Option, Ok, Err, subst}
 use Rattle.std.specs.Prelude.{ℤ, Result}
 use Rattle.ntx_num.specs.Answer.{Steps, result_map}
 use Rattle.ntx_num.specs.Trace.{stepped, EndsAs}
@@ -12,6 +12,7 @@ use Rattle.ntx_nodes.specs.declared.field.FieldValue.TheVariants.{Number}
 use Rattle.ntx_nodes.specs.declared.trouble.Trouble.{Trouble}
 use Rattle.ntx_tfm.specs.Font.{FontTables}
 use Rattle.ntx_item.specs.Settings.{Settings}
+use Rattle.ntx_item.specs.declared.pack_to.PackTo.{PackTo}
 use Rattle.ntx_item.specs.declared.pack_to.PackTo.TheVariants.{Exactly}
 use Rattle.ntx_pack.specs.Pack.{hpack_step}
 use Rattle.ntx_lines.specs.Making.{set}
@@ -27,6 +28,10 @@ boxing_step fonts s head heap = result_map (λ made. (made.0.0, made.1)) (packin
 
 abbrev IsPacked : Result (ℕ × ℤ) (Fail Trouble) → List FontTables → Settings → Option ℕ → Heap → Heap → Type 0
 IsPacked r fonts s head old new = Steps r old new (packing_step fonts s head old)
+
+-- a box that is packed to what a line is packed to
+pub packed_so : (r : Result (ℕ × ℤ) (Fail Trouble)) (fonts : List FontTables) (s : Settings) (head : Option ℕ) (to : PackTo) (old new : Heap) → to ≡ Exactly s.hsize → Steps r old new (hpack_step fonts head to old) → IsPacked r fonts s head old new
+packed_so r fonts s head to old new e m = subst (λ (w : PackTo). Steps r old new (hpack_step fonts head w old)) e m
 
 pub pack_stops : (fonts : List FontTables) (s : Settings) (head : Option ℕ) (old new : Heap) (e : Fail Trouble) → IsPacked (Err e) fonts s head old new → EndsAs {A = ℕ} (Err e) new (line_box fonts s head old)
 pack_stops fonts s head old new e m =

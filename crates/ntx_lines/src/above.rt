@@ -1,6 +1,6 @@
 //! The vertical list of a paragraph.
 
-ghost use Rattle.std.specs.Prelude.{◌≡◌, ◌-ℤ◌, int_lt, IfOk};
+ghost use Rattle.std.specs.Prelude.{◌≡◌, ◌^◌, ◌-ℤ◌, int_lt, IfOk};
 ghost use Rattle.ntx_num.specs.Dimension.{IsDimension, IsWithin, max_penalty};
 ghost use Rattle.ntx_num.specs.Answer.{Answers};
 ghost use Rattle.ntx_nodes.specs.Heap.{Heap};
@@ -149,7 +149,8 @@ fn make_interline_after<N: Nodes>(
 
 /// A number, or 0.
 fn only_if(test: bool, p: i64) -> i64
-    ensures { result ≡ only_if test p }
+    ensures value { result ≡ only_if test p }
+    ensures in_range { IsWithin (10 ^ 8) p → IsWithin (10 ^ 8) result }
 {
     if test { p } else { 0 }
 }

@@ -1,8 +1,9 @@
 //! The box of a line.
 
-ghost use Rattle.std.specs.Prelude.{IfOk};
+ghost use Rattle.std.specs.Prelude.{◌≡◌, IfOk};
 ghost use Rattle.ntx_num.specs.Answer.{Answers};
 ghost use Rattle.ntx_num.specs.Dimension.{IsDimension};
+ghost use Rattle.ntx_item.specs.declared.pack_to.PackTo.TheVariants.{Exactly};
 ghost use Rattle.ntx_lines.specs.LineBox.{box_fields_at, fields_of_box, line_box};
 ghost use Rattle.ntx_num.specs.Trace.{EndsAs};
 
@@ -39,6 +40,13 @@ pub(crate) fn box_fields<N: Nodes>(nodes: &N, n: u64) -> Result<BoxFields, Fail<
     }
 }
 
+/// What a line is packed to.
+fn line_width(params: &Params) -> PackTo
+    ensures { result ≡ Exactly params.now.hsize }
+{
+    PackTo::Exactly(params.get(Param::Hsize))
+}
+
 /// Packs the list at a head to `hsize`, as a line with the current attributes. Refuses as `hpack`.
 pub(crate) fn pack_line<N: Nodes>(
     alloc: Global,
@@ -49,8 +57,7 @@ pub(crate) fn pack_line<N: Nodes>(
 ) -> Result<u64, Fail<Trouble>>
     ensures { EndsAs result (N.heap nodes.new) (line_box fonts.now params.now head (N.heap nodes.old)) }
 {
-    let to = PackTo::Exactly(params.get(Param::Hsize));
-    let (n, _badness) = hpack(alloc, nodes, fonts, head, to)?;
+    let (n, _badness) = hpack(alloc, nodes, fonts, head, line_width(params))?;
     set(
         nodes,
         n,

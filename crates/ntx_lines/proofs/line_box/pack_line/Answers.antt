@@ -1,11 +1,7 @@
-use Rattle.std.proofs.Common.{ℕ, Ok, Err, subst}
+use Rattle.std.proofs.Common.{ℕ, Ok, Err}
 use Rattle.std.specs.Prelude.{ℤ}
 use Rattle.std.proofs.lemmas.Result.{err_from_is_err_and}
-use Rattle.ntx_num.specs.Answer.{Steps}
-use Rattle.ntx_nodes.specs.declared.trouble.Trouble.{Trouble}
-use Rattle.ntx_item.specs.declared.pack_to.PackTo.TheVariants.{Exactly}
-use Rattle.ntx_pack.specs.Pack.{hpack_step}
-use Rattle.ntx_lines.proofs.Boxes.{pack_stops, name_stops, wear_ends}
+use Rattle.ntx_lines.proofs.Boxes.{packed_so, pack_stops, name_stops, wear_ends}
 use Rattle.ntx_lines.proofs.line_box.pack_line.Goals as goal
 
 pub returns-in_err-n : goal.returns-in_err-n
@@ -15,7 +11,7 @@ returns-in_err-n g c =
     let e = c.in_err-n.field-0.0 in
     let p = err_from_is_err_and c.from_residual.result c.from_residual.ensures.1 in
     rw (p.1, p.2) (pack_stops a.fonts.now a.params.now a.head (h a.nodes.now) (h c.hpack.new.nodes) e
-    (subst (λ w. Steps {A = ℕ × ℤ} {E = Trouble} (Err e) (h a.nodes.now) (h c.hpack.new.nodes) (hpack_step a.fonts.now a.head (Exactly w) (h a.nodes.now))) c.get.ensures.value c.in_err-n.ensures))
+    (packed_so (Err e) a.fonts.now a.params.now a.head c.line_width.result (h a.nodes.now) (h c.hpack.new.nodes) c.line_width.ensures c.in_err-n.ensures))
 
 pub returns-in_err-set : goal.returns-in_err-set
 returns-in_err-set g c =
@@ -25,7 +21,7 @@ returns-in_err-set g c =
     let e = c.in_err-set.field-0.0 in
     let p = err_from_is_err_and c.from_residual-in_err-set.result c.from_residual-in_err-set.ensures.1 in
     rw (p.1, p.2) (name_stops a.fonts.now a.params.now a.head (h a.nodes.now) (h c.hpack.new.nodes) (h c.set.new.nodes) box e
-    (subst (λ w. Steps {A = ℕ × ℤ} {E = Trouble} (Ok box) (h a.nodes.now) (h c.hpack.new.nodes) (hpack_step a.fonts.now a.head (Exactly w) (h a.nodes.now))) c.get.ensures.value c.in_ok-n.ensures) c.in_err-set.ensures)
+    (packed_so (Ok box) a.fonts.now a.params.now a.head c.line_width.result (h a.nodes.now) (h c.hpack.new.nodes) c.line_width.ensures c.in_ok-n.ensures) c.in_err-set.ensures)
 
 pub returns-in_err-wear_current : goal.returns-in_err-wear_current
 returns-in_err-wear_current g c =
@@ -35,7 +31,7 @@ returns-in_err-wear_current g c =
     let e = c.in_err-wear_current.field-0.0 in
     let p = err_from_is_err_and c.from_residual-in_err-wear_current.result c.from_residual-in_err-wear_current.ensures.1 in
     rw (p.1, p.2) (wear_ends a.fonts.now a.params.now a.head (h a.nodes.now) (h c.hpack.new.nodes) (h c.set.new.nodes) (h c.wear_current.new.self) box _ (Err e)
-    (subst (λ w. Steps {A = ℕ × ℤ} {E = Trouble} (Ok box) (h a.nodes.now) (h c.hpack.new.nodes) (hpack_step a.fonts.now a.head (Exactly w) (h a.nodes.now))) c.get.ensures.value c.in_ok-n.ensures) c.in_ok-set.ensures c.in_err-wear_current.ensures.step)
+    (packed_so (Ok box) a.fonts.now a.params.now a.head c.line_width.result (h a.nodes.now) (h c.hpack.new.nodes) c.line_width.ensures c.in_ok-n.ensures) c.in_ok-set.ensures c.in_err-wear_current.ensures.step)
 
 pub returns : goal.returns
 returns g c =
@@ -43,4 +39,4 @@ returns g c =
     let a = c.args in
     let box : ℕ × ℤ = (c.in_ok-n.n, c.in_ok-n._badness) in
     wear_ends a.fonts.now a.params.now a.head (h a.nodes.now) (h c.hpack.new.nodes) (h c.set.new.nodes) (h c.wear_current.new.self) box _ (Ok _)
-    (subst (λ w. Steps {A = ℕ × ℤ} {E = Trouble} (Ok box) (h a.nodes.now) (h c.hpack.new.nodes) (hpack_step a.fonts.now a.head (Exactly w) (h a.nodes.now))) c.get.ensures.value c.in_ok-n.ensures) c.in_ok-set.ensures c.in_ok-wear_current.ensures.step
+    (packed_so (Ok box) a.fonts.now a.params.now a.head c.line_width.result (h a.nodes.now) (h c.hpack.new.nodes) c.line_width.ensures c.in_ok-n.ensures) c.in_ok-set.ensures c.in_ok-wear_current.ensures.step
