@@ -39,6 +39,11 @@ Going fonts s items names places old above front from i now =
     (r : Result Above (Fail Trouble)) (new : Heap) → EndsAs r new (lines_made fonts s above front (parts_of items names from (drop i places)) now)
     → EndsAs r new (lines_made fonts s nothing_above no_nodes (parts_of items names 0 places) old)
 
+pub going_begun : (fonts : List FontTables) (s : Settings) (items : List Item) (names places : List ℕ) (old : Heap) (above : Above) (front : Ends) → above ≡ nothing_above → front ≡ no_nodes → Going fonts s items names places old above front 0 0 old
+going_begun fonts s items names places old above front p q r new e =
+    subst (λ (f : Ends). EndsAs r new (lines_made fonts s nothing_above f (parts_of items names 0 places) old)) q
+    (subst (λ (a : Above). EndsAs r new (lines_made fonts s a front (parts_of items names 0 places) old)) p e)
+
 -- the line at a place
 abbrev pub Lined : Result (Above × Ends) (Fail Trouble) → List FontTables → Settings → List Item → List ℕ → List ℕ → Above → Ends → ℕ → ℕ → ℕ → Heap → Heap → Type 0
 Lined r fonts s items names places above front from i to now new =

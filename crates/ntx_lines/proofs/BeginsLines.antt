@@ -1,6 +1,6 @@
 -- The first state of each pass of a whole line, which is the one before any step.
 use Rattle.std.proofs.Common.{ℕ, zero, suc, ℤ, pos, List, [], ◌∷◌, Option, None, Some, Ok, Err, true, false}
-use Rattle.std.specs.Prelude.{Bool, Result, nat_eq, length, is_none, unwrap_or}
+use Rattle.std.specs.Prelude.{Bool, if◌then◌else◌, Result, nat_eq, length, is_none, unwrap_or}
 use Rattle.std.specs.Ordering.{int_eq}
 use Rattle.ntx_num.specs.Answer.{result_map}
 use Rattle.ntx_num.specs.Trace.{Trace, stays, stepped, trace_and_then}

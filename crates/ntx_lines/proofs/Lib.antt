@@ -8,3 +8,4 @@ pub mod Boxes
 pub mod Stacking
 pub mod OneLine
 pub mod AllLines
+pub mod Whole

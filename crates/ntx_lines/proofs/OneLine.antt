@@ -1,6 +1,6 @@
 -- How a line ends that is made in five steps: its end, its rightskip, what its break discards, its box, and the penalty after it.
-use Rattle.std.proofs.Common.{ℕ, List, Ok, Err, refl}
-use Rattle.std.specs.Prelude.{Result, is_none}
+use Rattle.std.proofs.Common.{◌≡◌, ℕ, List, true, false, None, Some, Ok, Err, refl, subst}
+use Rattle.std.specs.Prelude.{Bool, not, Option, Result, is_some, is_none}
 use Rattle.ntx_num.specs.Trace.{EndsAs}
 use Rattle.ntx_num.specs.declared.answer.Fail.{Fail}
 use Rattle.ntx_num.proofs.Traces.{ends_later, ends_there}
@@ -57,6 +57,15 @@ box_stops fonts s above later line whole u m new e four = ends_there (boxed font
 pub after_box : (fonts : List FontTables) (s : Settings) (above longer : Above) (later : ℕ) (line : Ended) (whole : Ends) (u : Unit {0}) (m o new : Heap) (r : Result (Above × Ends) (Fail Trouble)) → EndsAs (Ok longer) o (boxed fonts s above whole.first m)
     → EndsAs r new (penalizing s above line later longer o) → EndsAs r new (boxing fonts s above line whole later u m)
 after_box fonts s above longer later line whole u m o new r four rest = ends_later (boxed fonts s above whole.first m) longer o new (penalizing s above line later) r four rest
+
+pub none_so : (o : Option ℕ) (r : Bool) → is_some o ≡ not r → r ≡ is_none o
+none_so None true e = refl
+none_so None false e = cc
+none_so (Some n) true e = cc
+none_so (Some n) false e = refl
+
+pub penalty_so : (r : Result Above (Fail Trouble)) (s : Settings) (a b is_hyphenated : Bool) (later : ℕ) (longer : Above) (old new : Heap) → a ≡ b → EndsAs r new (penalized s a is_hyphenated later longer old) → EndsAs r new (penalized s b is_hyphenated later longer old)
+penalty_so r s a b is_hyphenated later longer old new p e = subst (λ (x : Bool). EndsAs r new (penalized s x is_hyphenated later longer old)) p e
 
 pub penalty_stops : (s : Settings) (above longer : Above) (later : ℕ) (line : Ended) (o new : Heap) (e : Fail Trouble) → EndsAs {A = Above} (Err e) new (penalized s (is_none above.first) line.is_hyphenated later longer o)
     → EndsAs {A = Above × Ends} (Err e) new (penalizing s above line later longer o)

@@ -1,6 +1,6 @@
 -- How the steps of the vertical list end.
-use Rattle.std.proofs.Common.{ℕ, List, Option, Some, Ok, Err, refl}
-use Rattle.std.specs.Prelude.{ℤ, Bool, Result, is_none}
+use Rattle.std.proofs.Common.{◌≡◌, ℕ, List, Option, Some, Ok, Err, refl, subst}
+use Rattle.std.specs.Prelude.{ℤ, ◌+ℤ◌, Bool, Result, is_none}
 use Rattle.ntx_num.specs.Answer.{Answers}
 use Rattle.ntx_num.specs.Trace.{stays, EndsAs}
 use Rattle.ntx_num.specs.declared.answer.Fail.{Fail}
@@ -25,6 +25,18 @@ use Rattle.ntx_lines.specs.Lines.{with_right, boxed, penalized, line_made}
 use Rattle.ntx_lines.proofs.Begins.{begins_given, begins_follows}
 use Rattle.ntx_lines.proofs.Endings.{found_ends}
 use Rattle.ntx_lines.proofs.BeginsLines.{gluing, spaced, begins_spaced, stacked, spacing, linking, begins_spacing, begins_linking, putting, packing, begins_packing, begins_with_box, closing, penalizing, boxing, discarding, righting, begins_penalizing, begins_boxing, begins_discarding, begins_righting}
+
+-- ---- numbers that are the same
+pub summed : (a b c d w x y z : ℤ) → a ≡ w → b ≡ x → c ≡ y → d ≡ z → ((a +ℤ b) +ℤ c) +ℤ d ≡ ((w +ℤ x) +ℤ y) +ℤ z
+summed a b c d w x y z p q r s = cc
+
+pub fields_so : (r : Result Fields (Fail Trouble)) (s : Settings) (x y depth height : ℤ) → x ≡ depth → y ≡ height → Answers r (interline_fields s x y) → Answers r (interline_fields s depth height)
+fields_so r s x y depth height p q a = subst (λ (d : ℤ). Answers r (interline_fields s d height)) p (subst (λ (h : ℤ). Answers r (interline_fields s x h)) q a)
+
+pub after_so : (r : Result (Unit {0}) (Fail Trouble)) (s : Settings) (x y depth height : ℤ) (last : Option ℕ) (n : ℕ) (old new : Heap) → x ≡ depth → y ≡ height → EndsAs r new (interline_after s x y last n old)
+    → EndsAs r new (interline_after s depth height last n old)
+after_so r s x y depth height last n old new p q e =
+    subst (λ (d : ℤ). EndsAs r new (interline_after s d height last n old)) p (subst (λ (h : ℤ). EndsAs r new (interline_after s x h last n old)) q e)
 
 -- ---- interline glue
 pub glue_refused : (s : Settings) (depth height : ℤ) (last n : ℕ) (old : Heap) (e : Fail Trouble) → Answers {A = Fields} (Err e) (interline_fields s depth height) → EndsAs {A = Unit {0}} (Err e) old (interline s depth height last n old)

@@ -1,6 +1,6 @@
 //! The vertical list of a paragraph.
 
-ghost use Rattle.std.specs.Prelude.{◌≡◌, ◌^◌, ◌-ℤ◌, int_lt, IfOk};
+ghost use Rattle.std.specs.Prelude.{◌≡◌, ◌≤◌, ◌^◌, ◌+ℤ◌, ◌-ℤ◌, int_lt, IfOk};
 ghost use Rattle.ntx_num.specs.Dimension.{IsDimension, IsWithin, max_penalty};
 ghost use Rattle.ntx_num.specs.Answer.{Answers};
 ghost use Rattle.ntx_nodes.specs.Heap.{Heap};
@@ -42,13 +42,24 @@ pub(crate) struct Place {
     pub is_hyphenated: bool,
 }
 
+/// What a width leaves between a box of this depth and one of this height below it.
+fn left_between(width: i64, depth: i64, height: i64) -> i64
+    requires width { IsDimension width }
+    requires depth { IsDimension depth }
+    requires height { IsDimension height }
+    ensures { result ≡ (width -ℤ depth) -ℤ height }
+{
+    width - depth - height
+}
+
 /// What baselineskip leaves between a box of this depth and one of this height below it, in scaled points.
 fn gap(params: &Params, depth: i64, height: i64) -> i64
     requires depth { IsDimension depth }
     requires height { IsDimension height }
     ensures { result ≡ (params.now.baselineskip.width -ℤ depth) -ℤ height }
 {
-    params.get_glue(GlueParam::Baselineskip).width - depth - height
+    let baselineskip = params.get_glue(GlueParam::Baselineskip);
+    left_between(baselineskip.width, depth, height)
 }
 
 /// Whether boxes with this gap between them would be too close.
@@ -62,7 +73,8 @@ fn is_close(params: &Params, gap: i64) -> bool
 fn interline_subtype(params: &Params, depth: i64, height: i64) -> u8
     requires depth { IsDimension depth }
     requires height { IsDimension height }
-    ensures { result ≡ interline_subtype params.now depth height }
+    ensures value { result ≡ interline_subtype params.now depth height }
+    ensures byte { result ≤ 255 }
 {
     if is_close(params, gap(params, depth, height)) {
         return LINESKIP;
@@ -155,15 +167,31 @@ fn only_if(test: bool, p: i64) -> i64
     if test { p } else { 0 }
 }
 
+/// The sum of four penalties that parameters may be set to.
+fn sum(a: i64, b: i64, c: i64, d: i64) -> i64
+    requires a { IsWithin (10 ^ 8) a }
+    requires b { IsWithin (10 ^ 8) b }
+    requires c { IsWithin (10 ^ 8) c }
+    requires d { IsWithin (10 ^ 8) d }
+    ensures value { result ≡ ((a +ℤ b) +ℤ c) +ℤ d }
+    ensures in_range { IsWithin max_penalty result }
+{
+    a + b + c + d
+}
+
 /// The penalty after a line.
 pub(crate) fn line_penalty(params: &Params, place: Place) -> i64
     ensures value { result ≡ line_penalty params.now place.is_first place.is_before_last place.is_hyphenated }
     ensures in_range { IsWithin max_penalty result }
 {
-    params.get(Param::Interlinepenalty)
-        + only_if(place.is_first, params.get(Param::Clubpenalty))
-        + only_if(place.is_before_last, params.get(Param::Widowpenalty))
-        + only_if(place.is_hyphenated, params.get(Param::Brokenpenalty))
+    let each = params.get(Param::Interlinepenalty);
+    let club = params.get(Param::Clubpenalty);
+    let widow = params.get(Param::Widowpenalty);
+    let broken = params.get(Param::Brokenpenalty);
+    let at_first = only_if(place.is_first, club);
+    let at_last = only_if(place.is_before_last, widow);
+    let at_hyphen = only_if(place.is_hyphenated, broken);
+    sum(each, at_first, at_last, at_hyphen)
 }
 
 impl Above {

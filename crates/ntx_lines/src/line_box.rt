@@ -1,10 +1,13 @@
 //! The box of a line.
 
-ghost use Rattle.std.specs.Prelude.{◌≡◌, IfOk};
+ghost use Rattle.std.specs.Prelude.{◌≡◌, pos, IfOk};
 ghost use Rattle.ntx_num.specs.Answer.{Answers};
 ghost use Rattle.ntx_num.specs.Dimension.{IsDimension};
 ghost use Rattle.ntx_item.specs.declared.pack_to.PackTo.TheVariants.{Exactly};
-ghost use Rattle.ntx_lines.specs.LineBox.{box_fields_at, fields_of_box, line_box};
+ghost use Rattle.ntx_nodes.specs.declared.field.Field.TheVariants.{Subtype};
+ghost use Rattle.ntx_nodes.specs.declared.field.FieldValue.TheVariants.{Number};
+ghost use Rattle.ntx_lines.specs.LineBox.{box_fields_at, fields_of_box, line_subtype, line_box};
+ghost use Rattle.ntx_lines.specs.Making as made;
 ghost use Rattle.ntx_num.specs.Trace.{EndsAs};
 
 use crate::making::set;
@@ -40,6 +43,20 @@ pub(crate) fn box_fields<N: Nodes>(nodes: &N, n: u64) -> Result<BoxFields, Fail<
     }
 }
 
+/// What names a box a line.
+fn line_mark() -> FieldValue
+    ensures { result ≡ Number (pos line_subtype) }
+{
+    FieldValue::Number(i64::from(LINE))
+}
+
+/// Makes a box a line. Refuses as `Nodes::set`.
+fn name_line<N: Nodes>(nodes: &mut N, n: u64) -> Result<(), Fail<Trouble>>
+    ensures { EndsAs result (N.heap nodes.new) (made.set n (Subtype, Number (pos line_subtype)) (N.heap nodes.old)) }
+{
+    set(nodes, n, Field::Subtype, line_mark())
+}
+
 /// What a line is packed to.
 fn line_width(params: &Params) -> PackTo
     ensures { result ≡ Exactly params.now.hsize }
@@ -58,12 +75,7 @@ pub(crate) fn pack_line<N: Nodes>(
     ensures { EndsAs result (N.heap nodes.new) (line_box fonts.now params.now head (N.heap nodes.old)) }
 {
     let (n, _badness) = hpack(alloc, nodes, fonts, head, line_width(params))?;
-    set(
-        nodes,
-        n,
-        Field::Subtype,
-        FieldValue::Number(i64::from(LINE)),
-    )?;
+    name_line(nodes, n)?;
     nodes.wear_current(n)?;
     Ok(n)
 }

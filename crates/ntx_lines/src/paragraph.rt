@@ -1,6 +1,6 @@
 //! All lines of a paragraph.
 
-ghost use Rattle.std.specs.Prelude.{◌≡◌, length, IfOk};
+ghost use Rattle.std.specs.Prelude.{◌≡◌, length, slice_get, IfOk};
 ghost use Rattle.ntx_num.specs.Answer.{Traces};
 ghost use Rattle.ntx_num.specs.Dimension.{IsDimension};
 ghost use Rattle.ntx_num.specs.Trace.{states, EndsAs};
@@ -107,6 +107,13 @@ fn make_line<N: Nodes>(
     Ok((longest, line.front))
 }
 
+/// The place after so many, if there is one.
+fn place_after(places: &[u64], count: usize) -> Option<u64>
+    ensures { result ≡ slice_get places.now count }
+{
+    places.get(count).copied()
+}
+
 /// Makes the lines that end at these places.
 fn make_lines<N: Nodes>(
     alloc: Global,
@@ -124,7 +131,7 @@ fn make_lines<N: Nodes>(
     let mut from = 0;
     for i in 0..places.len() {
         let to = places[i] as usize;
-        let part = Part::new(items, names, from, to, places.get(i + 1).copied());
+        let part = Part::new(items, names, from, to, place_after(places, i + 1));
         let (longer, next) = make_line(
             alloc,
             nodes,

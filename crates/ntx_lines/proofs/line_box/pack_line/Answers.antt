@@ -13,15 +13,15 @@ returns-in_err-n g c =
     rw (p.1, p.2) (pack_stops a.fonts.now a.params.now a.head (h a.nodes.now) (h c.hpack.new.nodes) e
     (packed_so (Err e) a.fonts.now a.params.now a.head c.line_width.result (h a.nodes.now) (h c.hpack.new.nodes) c.line_width.ensures c.in_err-n.ensures))
 
-pub returns-in_err-set : goal.returns-in_err-set
-returns-in_err-set g c =
+pub returns-in_err-name_line : goal.returns-in_err-name_line
+returns-in_err-name_line g c =
     let h = g.N.Nodes.heap in
     let a = c.args in
     let box : ℕ × ℤ = (c.in_ok-n.n, c.in_ok-n._badness) in
-    let e = c.in_err-set.field-0.0 in
-    let p = err_from_is_err_and c.from_residual-in_err-set.result c.from_residual-in_err-set.ensures.1 in
-    rw (p.1, p.2) (name_stops a.fonts.now a.params.now a.head (h a.nodes.now) (h c.hpack.new.nodes) (h c.set.new.nodes) box e
-    (packed_so (Ok box) a.fonts.now a.params.now a.head c.line_width.result (h a.nodes.now) (h c.hpack.new.nodes) c.line_width.ensures c.in_ok-n.ensures) c.in_err-set.ensures)
+    let e = c.in_err-name_line.field-0.0 in
+    let p = err_from_is_err_and c.from_residual-in_err-name_line.result c.from_residual-in_err-name_line.ensures.1 in
+    rw (p.1, p.2) (name_stops a.fonts.now a.params.now a.head (h a.nodes.now) (h c.hpack.new.nodes) (h c.name_line.new.nodes) box e
+    (packed_so (Ok box) a.fonts.now a.params.now a.head c.line_width.result (h a.nodes.now) (h c.hpack.new.nodes) c.line_width.ensures c.in_ok-n.ensures) c.in_err-name_line.ensures)
 
 pub returns-in_err-wear_current : goal.returns-in_err-wear_current
 returns-in_err-wear_current g c =
@@ -30,13 +30,13 @@ returns-in_err-wear_current g c =
     let box : ℕ × ℤ = (c.in_ok-n.n, c.in_ok-n._badness) in
     let e = c.in_err-wear_current.field-0.0 in
     let p = err_from_is_err_and c.from_residual-in_err-wear_current.result c.from_residual-in_err-wear_current.ensures.1 in
-    rw (p.1, p.2) (wear_ends a.fonts.now a.params.now a.head (h a.nodes.now) (h c.hpack.new.nodes) (h c.set.new.nodes) (h c.wear_current.new.self) box _ (Err e)
-    (packed_so (Ok box) a.fonts.now a.params.now a.head c.line_width.result (h a.nodes.now) (h c.hpack.new.nodes) c.line_width.ensures c.in_ok-n.ensures) c.in_ok-set.ensures c.in_err-wear_current.ensures.step)
+    rw (p.1, p.2) (wear_ends a.fonts.now a.params.now a.head (h a.nodes.now) (h c.hpack.new.nodes) (h c.name_line.new.nodes) (h c.wear_current.new.self) box _ (Err e)
+    (packed_so (Ok box) a.fonts.now a.params.now a.head c.line_width.result (h a.nodes.now) (h c.hpack.new.nodes) c.line_width.ensures c.in_ok-n.ensures) c.in_ok-name_line.ensures c.in_err-wear_current.ensures.step)
 
 pub returns : goal.returns
 returns g c =
     let h = g.N.Nodes.heap in
     let a = c.args in
     let box : ℕ × ℤ = (c.in_ok-n.n, c.in_ok-n._badness) in
-    wear_ends a.fonts.now a.params.now a.head (h a.nodes.now) (h c.hpack.new.nodes) (h c.set.new.nodes) (h c.wear_current.new.self) box _ (Ok _)
-    (packed_so (Ok box) a.fonts.now a.params.now a.head c.line_width.result (h a.nodes.now) (h c.hpack.new.nodes) c.line_width.ensures c.in_ok-n.ensures) c.in_ok-set.ensures c.in_ok-wear_current.ensures.step
+    wear_ends a.fonts.now a.params.now a.head (h a.nodes.now) (h c.hpack.new.nodes) (h c.name_line.new.nodes) (h c.wear_current.new.self) box _ (Ok _)
+    (packed_so (Ok box) a.fonts.now a.params.now a.head c.line_width.result (h a.nodes.now) (h c.hpack.new.nodes) c.line_width.ensures c.in_ok-n.ensures) c.in_ok-name_line.ensures c.in_ok-wear_current.ensures.step

@@ -1,5 +1,5 @@
 use Rattle.std.proofs.Common.{ℕ, Ok, Err, ◌∙◌, ap, subst}
-use Rattle.std.specs.Prelude.{Result}
+use Rattle.std.specs.Prelude.{Result, is_none}
 use Rattle.std.proofs.lemmas.Result.{err_from_is_err_and}
 use Rattle.ntx_num.specs.Trace.{EndsAs}
 use Rattle.ntx_nodes.specs.declared.trouble.Trouble.{Trouble}
@@ -9,7 +9,7 @@ use Rattle.ntx_lines.specs.Ends.{joined, ends_of}
 use Rattle.ntx_lines.specs.LineEnd.{ended}
 use Rattle.ntx_lines.specs.Parts.{Part}
 use Rattle.ntx_lines.specs.inner.Seen.{part_seen}
-use Rattle.ntx_lines.proofs.OneLine.{end_stops, after_end, right_stops, after_right, discard_stops, after_discard, box_stops, after_box, penalty_stops, penalty_done}
+use Rattle.ntx_lines.proofs.OneLine.{end_stops, after_end, right_stops, after_right, discard_stops, after_discard, box_stops, after_box, none_so, penalty_so, penalty_stops, penalty_done}
 use Rattle.ntx_lines.proofs.paragraph.make_line.Goals as goal
 
 pub returns-in_err-line-clause-traced : goal.returns-in_err-line-clause-traced
@@ -75,7 +75,7 @@ returns-in_err-longest-clause-traced g c =
     (after_right a.fonts.now a.params.now a.above part a.later c.in_ok-line.line (h c.end_line.new.nodes) (h c.with_right.new.nodes) (h c.push_penalty.new.nodes) c.in_ok-whole.whole (Err e) c.in_ok-whole.ensures
     (after_discard a.fonts.now a.params.now a.above part a.later c.in_ok-line.line c.in_ok-whole.whole (h c.with_right.new.nodes) (h c.discard.new.nodes) (h c.push_penalty.new.nodes) _ (Err e) c.in_ok-discard.ensures
     (after_box a.fonts.now a.params.now a.above c.in_ok-longer.longer a.later c.in_ok-line.line c.in_ok-whole.whole _ (h c.discard.new.nodes) (h c.push_line.new.nodes) (h c.push_penalty.new.nodes) (Err e) c.in_ok-longer.ensures.traced
-    (penalty_stops a.params.now a.above c.in_ok-longer.longer a.later c.in_ok-line.line (h c.push_line.new.nodes) (h c.push_penalty.new.nodes) e c.in_err-longest.ensures.traced)))))
+    (penalty_stops a.params.now a.above c.in_ok-longer.longer a.later c.in_ok-line.line (h c.push_line.new.nodes) (h c.push_penalty.new.nodes) e (penalty_so (Err e) a.params.now c.is_none-is_first.result (is_none a.above.first) c.in_ok-line.line.is_hyphenated a.later c.in_ok-longer.longer (h c.push_line.new.nodes) (h c.push_penalty.new.nodes) (none_so a.above.first c.is_none-is_first.result c.is_none-is_first.ensures) c.in_err-longest.ensures.traced))))))
 
 pub returns-clause-traced : goal.returns-clause-traced
 returns-clause-traced g c =
@@ -88,4 +88,4 @@ returns-clause-traced g c =
     (after_right a.fonts.now a.params.now a.above part a.later c.in_ok-line.line (h c.end_line.new.nodes) (h c.with_right.new.nodes) (h c.push_penalty.new.nodes) c.in_ok-whole.whole (Ok (c.in_ok-longest.longest, c.in_ok-line.line.front)) c.in_ok-whole.ensures
     (after_discard a.fonts.now a.params.now a.above part a.later c.in_ok-line.line c.in_ok-whole.whole (h c.with_right.new.nodes) (h c.discard.new.nodes) (h c.push_penalty.new.nodes) _ (Ok (c.in_ok-longest.longest, c.in_ok-line.line.front)) c.in_ok-discard.ensures
     (after_box a.fonts.now a.params.now a.above c.in_ok-longer.longer a.later c.in_ok-line.line c.in_ok-whole.whole _ (h c.discard.new.nodes) (h c.push_line.new.nodes) (h c.push_penalty.new.nodes) (Ok (c.in_ok-longest.longest, c.in_ok-line.line.front)) c.in_ok-longer.ensures.traced
-    (penalty_done a.params.now a.above c.in_ok-longer.longer c.in_ok-longest.longest a.later c.in_ok-line.line (h c.push_line.new.nodes) (h c.push_penalty.new.nodes) c.in_ok-longest.ensures.traced)))))
+    (penalty_done a.params.now a.above c.in_ok-longer.longer c.in_ok-longest.longest a.later c.in_ok-line.line (h c.push_line.new.nodes) (h c.push_penalty.new.nodes) (penalty_so (Ok c.in_ok-longest.longest) a.params.now c.is_none-is_first.result (is_none a.above.first) c.in_ok-line.line.is_hyphenated a.later c.in_ok-longer.longer (h c.push_line.new.nodes) (h c.push_penalty.new.nodes) (none_so a.above.first c.is_none-is_first.result c.is_none-is_first.ensures) c.in_ok-longest.ensures.traced))))))
