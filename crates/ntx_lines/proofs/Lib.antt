@@ -9,3 +9,4 @@ pub mod Stacking
 pub mod OneLine
 pub mod AllLines
 pub mod Whole
+pub mod Words

@@ -1,6 +1,6 @@
 -- How the steps of the vertical list end.
 use Rattle.std.proofs.Common.{◌≡◌, ℕ, List, Option, Some, Ok, Err, refl, subst}
-use Rattle.std.specs.Prelude.{ℤ, ◌+ℤ◌, Bool, Result, is_none}
+use Rattle.std.specs.Prelude.{ℤ, Bool, Result, is_none}
 use Rattle.ntx_num.specs.Answer.{Answers}
 use Rattle.ntx_num.specs.Trace.{stays, EndsAs}
 use Rattle.ntx_num.specs.declared.answer.Fail.{Fail}
@@ -27,9 +27,6 @@ use Rattle.ntx_lines.proofs.Endings.{found_ends}
 use Rattle.ntx_lines.proofs.BeginsLines.{gluing, spaced, begins_spaced, stacked, spacing, linking, begins_spacing, begins_linking, putting, packing, begins_packing, begins_with_box, closing, penalizing, boxing, discarding, righting, begins_penalizing, begins_boxing, begins_discarding, begins_righting}
 
 -- ---- numbers that are the same
-pub summed : (a b c d w x y z : ℤ) → a ≡ w → b ≡ x → c ≡ y → d ≡ z → ((a +ℤ b) +ℤ c) +ℤ d ≡ ((w +ℤ x) +ℤ y) +ℤ z
-summed a b c d w x y z p q r s = cc
-
 pub fields_so : (r : Result Fields (Fail Trouble)) (s : Settings) (x y depth height : ℤ) → x ≡ depth → y ≡ height → Answers r (interline_fields s x y) → Answers r (interline_fields s depth height)
 fields_so r s x y depth height p q a = subst (λ (d : ℤ). Answers r (interline_fields s d height)) p (subst (λ (h : ℤ). Answers r (interline_fields s x h)) q a)
 
