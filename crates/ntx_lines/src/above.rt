@@ -18,6 +18,7 @@ use ntx_num::{Fail, is_dimension};
 
 /// The subtypes of glue between two lines.
 const LINESKIP: u8 = 1;
+
 const BASELINESKIP: u8 = 2;
 
 /// The vertical list so far.

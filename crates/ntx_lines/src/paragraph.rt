@@ -27,11 +27,7 @@ use ntx_view::items;
 use std::alloc::Global;
 
 /// The ends of a line with rightskip at its end.
-fn with_right<N: Nodes>(
-    nodes: &mut N,
-    params: &Params,
-    line: Ended,
-) -> Result<Ends, Fail<Trouble>>
+fn with_right<N: Nodes>(nodes: &mut N, params: &Params, line: Ended) -> Result<Ends, Fail<Trouble>>
     ensures { EndsAs result (N.heap nodes.new) (with_right params.now line (N.heap nodes.old)) }
 {
     if line.has_rightskip {

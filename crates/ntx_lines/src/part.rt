@@ -111,12 +111,7 @@ fn body<'a>(items: &[Item], names: &'a [u64], from: usize, to: usize) -> &'a [u6
 }
 
 /// What the break at a place discards, up to the next one. The last one discards nothing.
-fn discarded_at<'a>(
-    items: &[Item],
-    names: &'a [u64],
-    to: usize,
-    next: Option<u64>,
-) -> &'a [u64]
+fn discarded_at<'a>(items: &[Item], names: &'a [u64], to: usize, next: Option<u64>) -> &'a [u64]
     ensures { result.now ≡ discarded_at items.now names.now to next }
 {
     match next {

@@ -210,7 +210,12 @@ fn close_lines_have_lineskip(rt: HostRuntime) -> Result<(), test::Fail> {
         let head = list_of(&mut heap, "r r")?;
         let (head, _count) = broken(rt.alloc(), &mut heap, &[], head, &params)?;
         let between = Wanted::Glue(subtype, GlueSpec { width, ..ZERO });
-        let at = nodes_are(&rt, &heap, Some(head), &[Wanted::Other, between, Wanted::Other])?;
+        let at = nodes_are(
+            &rt,
+            &heap,
+            Some(head),
+            &[Wanted::Other, between, Wanted::Other],
+        )?;
         assert!(rt; at.is_none());
     }
     Ok(())

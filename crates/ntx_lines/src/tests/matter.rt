@@ -55,11 +55,7 @@ fn node(
 
 /// Makes a rule of this width, 7 high and 2 deep.
 fn rule(heap: &mut PlainHeap, width: i64) -> Result<u64, Fail<Trouble>> {
-    let size = [
-        (Field::Width, width),
-        (Field::Height, 7),
-        (Field::Depth, 2),
-    ];
+    let size = [(Field::Width, width), (Field::Height, 7), (Field::Depth, 2)];
     node(heap, Kind::Rule, 0, &size)
 }
 

@@ -41,7 +41,7 @@ loop-i-preserved g c =
     let done : Above × Ends = (c.in_ok-longer.longer, c.in_ok-longer.next) in
     record {
       going = next_line a.fonts.now a.params.now a.items.now a.names.now a.places.now (h a.nodes.now) l.above l.front l.from l.i 0 (h l.nodes) new done c.loop-i-test.true l.invariant.going
-        (subst (λ (x : Part). EndsAs {A = Above × Ends} {E = Trouble} (Ok done) new (line_made a.fonts.now a.params.now l.above l.front x ((length a.places.now - l.i) - 1) (h l.nodes))) (c.new-part.ensures ∙ ap (part_of a.items.now a.names.now c.loop-i.from (get_or a.places.now c.loop-i.i 0)) c.place_after.ensures) c.in_ok-longer.ensures.traced);
+          (subst (λ (x : Part). EndsAs {A = Above × Ends} {E = Trouble} (Ok done) new (line_made a.fonts.now a.params.now l.above l.front x ((length a.places.now - l.i) - 1) (h l.nodes))) (c.new-part.ensures ∙ ap (part_of a.items.now a.names.now c.loop-i.from (get_or a.places.now c.loop-i.i 0)) c.place_after.ensures) c.in_ok-longer.ensures.traced);
       depth = c.in_ok-longer.ensures.depth;
     }
 
