@@ -1,5 +1,5 @@
 -- How the lines of a paragraph end, one after another.
-use Rattle.std.proofs.Common.{◌≡◌, ℕ, zero, suc, ◌+◌, ◌-◌, ◌<◌, List, [], ◌∷◌, length, drop, get_or, Ok, Err, refl, sym, ◌∙◌, ap, subst, arith}
+use Rattle.std.proofs.Common.{◌≡◌, ℕ, Option, zero, suc, ◌+◌, ◌-◌, ◌<◌, List, [], ◌∷◌, length, drop, get_or, Ok, Err, refl, sym, ◌∙◌, ap, subst, arith}
 use Rattle.std.specs.Prelude.{Result, slice_get}
 use Rattle.std.proofs.lemmas.List.{length-drop}
 use Rattle.ntx_num.specs.Trace.{EndsAs}
@@ -43,6 +43,10 @@ pub going_begun : (fonts : List FontTables) (s : Settings) (items : List Item) (
 going_begun fonts s items names places old above front p q r new e =
     subst (λ (f : Ends). EndsAs r new (lines_made fonts s nothing_above f (parts_of items names 0 places) old)) q
     (subst (λ (a : Above). EndsAs r new (lines_made fonts s a front (parts_of items names 0 places) old)) p e)
+
+-- a part before a place that is known
+pub part_so : (items : List Item) (names : List ℕ) (from to : ℕ) (o next : Option ℕ) (part : Part) → part ≡ part_of items names from to o → o ≡ next → part ≡ part_of items names from to next
+part_so items names from to o next part e same = e ∙ ap (part_of items names from to) same
 
 -- the line at a place
 abbrev pub Lined : Result (Above × Ends) (Fail Trouble) → List FontTables → Settings → List Item → List ℕ → List ℕ → Above → Ends → ℕ → ℕ → ℕ → Heap → Heap → Type 0

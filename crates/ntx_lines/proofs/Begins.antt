@@ -1,8 +1,7 @@
 -- The first state of each pass, which is the one before any step.
-use Rattle.std.proofs.Common.{ℕ, List, [], ◌∷◌, Option, None, Some, Ok, Err, true, false, refl}
+use Rattle.std.proofs.Common.{ℕ, List, [], ◌∷◌, Option, None, Some, Ok, true, false, refl}
 use Rattle.std.specs.Prelude.{Bool, Result}
-use Rattle.ntx_num.specs.Answer.{result_map}
-use Rattle.ntx_num.specs.Trace.{Trace, stays, stepped, trace_and_then, each_in_turn}
+use Rattle.ntx_num.specs.Trace.{Trace, stays, stepped, trace_and_then}
 use Rattle.ntx_num.proofs.Traces.{Begins, begins_stays, begins_step, begins_then, begins_each}
 use Rattle.ntx_nodes.specs.Heap.{Heap}
 use Rattle.ntx_nodes.specs.Steps.{at, set_step, free_one_step}

@@ -1,6 +1,6 @@
 -- The first state of each pass of a whole line, which is the one before any step.
-use Rattle.std.proofs.Common.{ℕ, zero, suc, ℤ, pos, List, [], ◌∷◌, Option, None, Some, Ok, Err, true, false}
-use Rattle.std.specs.Prelude.{Bool, if◌then◌else◌, Result, nat_eq, length, is_none, unwrap_or}
+use Rattle.std.proofs.Common.{ℕ, zero, suc, ℤ, pos, List, [], ◌∷◌, Option, None, Some, Ok, true, false}
+use Rattle.std.specs.Prelude.{Bool, if◌then◌else◌, Result, nat_eq, length, is_none}
 use Rattle.std.specs.Ordering.{int_eq}
 use Rattle.ntx_num.specs.Answer.{result_map}
 use Rattle.ntx_num.specs.Trace.{Trace, stays, stepped, trace_and_then}
@@ -14,7 +14,6 @@ use Rattle.ntx_nodes.specs.declared.trouble.Trouble.{Trouble}
 use Rattle.ntx_tfm.specs.Font.{FontTables}
 use Rattle.ntx_item.specs.Settings.{Settings}
 use Rattle.ntx_nodes.specs.declared.fields.Fields.{Fields}
-use Rattle.ntx_item.specs.declared.item.Item.{Item}
 use Rattle.ntx_item.specs.declared.pack_to.PackTo.TheVariants.{Exactly}
 use Rattle.ntx_pack.specs.Pack.{hpack_step}
 use Rattle.ntx_lines.specs.declared.above.Above.{Above}
@@ -26,7 +25,7 @@ use Rattle.ntx_lines.specs.LineEnd.{ended, discards}
 use Rattle.ntx_lines.specs.Skips.{leftskip_subtype, rightskip_subtype, finite, is_zero_glue, with_rightskip, with_leftskip}
 use Rattle.ntx_lines.specs.LineBox.{line_subtype, box_fields_at, line_box}
 use Rattle.ntx_lines.specs.Above.{interline_fields, interline_after, above_with, with_box, line_penalty, with_penalty}
-use Rattle.ntx_lines.specs.Parts.{Part, parts_of}
+use Rattle.ntx_lines.specs.Parts.{Part}
 use Rattle.ntx_lines.specs.Lines.{with_right, boxed, penalized, line_made, lines_made}
 use Rattle.ntx_lines.proofs.Begins.{begins_given, begins_set, begins_follows, begins_before, begins_at_end, begins_ended, begins_discards}
 

@@ -1,15 +1,14 @@
 -- How a call of one step ends, and a call that makes a node with the current attributes.
-use Rattle.std.proofs.Common.{◌≡◌, ℕ, ◌+◌, ◌<◌, List, length, drop, get_or, Some, Result, Ok, Err, refl, sym, ◌∙◌, ap, subst, inl, inr}
+use Rattle.std.proofs.Common.{◌≡◌, ℕ, ◌+◌, ◌<◌, List, length, drop, get_or, Some, Result, Ok, Err, sym, ◌∙◌, ap, subst, inl, inr}
 use Rattle.ntx_num.specs.Answer.{Answers, Steps, StepsAtOnce, result_map}
 use Rattle.ntx_num.specs.declared.answer.Fail.{Fail}
 use Rattle.ntx_num.specs.declared.answer.Fail.TheVariants.{NoMemory, Is}
-use Rattle.ntx_num.specs.Trace.{Trace, stays, stepped, trace_and_then, each_in_turn, EndsAs}
-use Rattle.ntx_num.proofs.Answers.{same_Ok}
+use Rattle.ntx_num.specs.Trace.{Trace, stays, stepped, each_in_turn, EndsAs}
 use Rattle.ntx_num.proofs.Traces.{Begins, begins_stays, begins_step, begins_then, passes_first, ends_later, ends_there, ends_stepped, ends_refused, Goes, goes_on, goes_stopped}
 use Rattle.std.specs.Ordering.{nat_cmp}
 use Rattle.std.specs.FinMap as map
 use Rattle.ntx_nodes.specs.Heap.{Attributes, Heap}
-use Rattle.ntx_nodes.specs.Steps.{of_found, put, making, put_attributes, wear_current_step}
+use Rattle.ntx_nodes.specs.Steps.{of_found, put, put_attributes, wear_current_step}
 use Rattle.ntx_nodes.specs.Writing.{make_filled_step, make_current_step, StepsInTwo}
 use Rattle.ntx_nodes.specs.declared.fields.Fields.{Fields}
 use Rattle.ntx_nodes.specs.declared.node.Node.{Node}

@@ -1,5 +1,5 @@
 -- How nodes are made in their places.
-use Rattle.std.proofs.Common.{◌≡◌, ℕ, Option, Some, Ok, Err, refl, arith}
+use Rattle.std.proofs.Common.{ℕ, Option, Some, Ok, Err, refl, arith}
 use Rattle.std.specs.Prelude.{Result}
 use Rattle.ntx_num.specs.Trace.{stays, EndsAs}
 use Rattle.ntx_num.specs.declared.answer.Fail.{Fail}

@@ -1,6 +1,6 @@
 -- How the steps of the vertical list end.
 use Rattle.std.proofs.Common.{◌≡◌, ℕ, List, Option, Some, Ok, Err, refl, subst}
-use Rattle.std.specs.Prelude.{ℤ, Bool, Result, is_none}
+use Rattle.std.specs.Prelude.{ℤ, Result}
 use Rattle.ntx_num.specs.Answer.{Answers}
 use Rattle.ntx_num.specs.Trace.{stays, EndsAs}
 use Rattle.ntx_num.specs.declared.answer.Fail.{Fail}
@@ -12,19 +12,14 @@ use Rattle.ntx_nodes.specs.declared.trouble.Trouble.{Trouble}
 use Rattle.ntx_tfm.specs.Font.{FontTables}
 use Rattle.ntx_item.specs.Settings.{Settings}
 use Rattle.ntx_lines.specs.declared.above.Above.{Above}
-use Rattle.ntx_lines.specs.declared.ends.Ends.{Ends}
-use Rattle.ntx_lines.specs.declared.line_end.Ended.{Ended}
-use Rattle.ntx_lines.specs.Ends.{ends_of, joined}
 use Rattle.ntx_lines.specs.Making.{follows, made_before}
-use Rattle.ntx_lines.specs.LineEnd.{ended, discards}
 use Rattle.ntx_lines.specs.Skips.{with_leftskip}
 use Rattle.ntx_lines.specs.LineBox.{box_fields_at, line_box}
 use Rattle.ntx_lines.specs.Above.{interline_fields, interline, interline_after, above_with, with_box}
-use Rattle.ntx_lines.specs.Parts.{Part}
-use Rattle.ntx_lines.specs.Lines.{with_right, boxed, penalized, line_made}
+use Rattle.ntx_lines.specs.Lines.{boxed}
 use Rattle.ntx_lines.proofs.Begins.{begins_given, begins_follows}
 use Rattle.ntx_lines.proofs.Endings.{found_ends}
-use Rattle.ntx_lines.proofs.BeginsLines.{gluing, spaced, begins_spaced, stacked, spacing, linking, begins_spacing, begins_linking, putting, packing, begins_packing, begins_with_box, closing, penalizing, boxing, discarding, righting, begins_penalizing, begins_boxing, begins_discarding, begins_righting}
+use Rattle.ntx_lines.proofs.BeginsLines.{gluing, spaced, begins_spaced, stacked, spacing, linking, begins_spacing, begins_linking, putting, packing, begins_packing, begins_with_box}
 
 -- ---- numbers that are the same
 pub fields_so : (r : Result Fields (Fail Trouble)) (s : Settings) (x y depth height : ℤ) → x ≡ depth → y ≡ height → Answers r (interline_fields s x y) → Answers r (interline_fields s depth height)

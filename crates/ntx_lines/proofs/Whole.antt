@@ -1,5 +1,5 @@
 -- How the whole pass ends: its list is read, and then its lines are made.
-use Rattle.std.proofs.Common.{◌≡◌, ℕ, List, length, Some, Ok, Err, refl, sym, ◌∙◌, ap, subst}
+use Rattle.std.proofs.Common.{◌≡◌, ℕ, List, length, Some, Ok, Err, refl, ◌∙◌, ap, subst}
 use Rattle.std.specs.Prelude.{Result, unwrap_or}
 use Rattle.ntx_num.specs.Answer.{Answers, result_map, result_and_then}
 use Rattle.ntx_num.specs.Trace.{Trace, stays, trace_and_then, EndsAs}

@@ -16,7 +16,7 @@ use Rattle.ntx_tfm.specs.Font.{FontTables}
 use Rattle.ntx_item.specs.Settings.{Settings}
 use Rattle.ntx_item.specs.declared.pack_to.PackTo.TheVariants.{Exactly}
 use Rattle.ntx_pack.specs.Pack.{hpack_step}
-use Rattle.ntx_num.specs.Trace.{Trace, stays, stepped, trace_and_then}
+use Rattle.ntx_num.specs.Trace.{Trace, stepped, trace_and_then}
 use Rattle.ntx_lines.specs.Making.{set}
 
 -- the subtype of an hlist that is a line

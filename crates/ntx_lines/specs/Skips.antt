@@ -2,7 +2,7 @@
 --     finite spec                 this glue with finite shrink
 --     with_rightskip s line       the ends of a line with rightskip at its end
 --     with_leftskip s head        the head of a line with leftskip in front, unless all five numbers of leftskip are 0
-use Rattle.std.specs.Prelude.{ℕ, ℤ, pos, nat_eq, Bool, ◌&&◌, if◌then◌else◌, Option, Some, Ok}
+use Rattle.std.specs.Prelude.{ℕ, pos, nat_eq, Bool, ◌&&◌, if◌then◌else◌, Option, Some, Ok}
 use Rattle.std.specs.Ordering.{int_eq}
 use Rattle.ntx_nodes.specs.Heap.{Heap}
 use Rattle.ntx_nodes.specs.declared.trouble.Trouble.{Trouble}

@@ -1,5 +1,8 @@
 //! Paragraphs written as letters, one for each node, and how they are broken.
 
+ghost use Rattle.std.specs.Prelude.{◌≤◌};
+ghost use Rattle.ntx_nodes.specs.Fields.{last_subtype};
+
 use crate::lines;
 use ntx_breaks::break_items;
 use ntx_item::{GlueParam, GlueSpec, Param, Params};
@@ -45,7 +48,9 @@ fn node(
     kind: Kind,
     subtype: u8,
     values: &[(Field, i64)],
-) -> Result<u64, Fail<Trouble>> {
+) -> Result<u64, Fail<Trouble>>
+    requires { subtype ≤ last_subtype kind }
+{
     let n = heap.make(kind, subtype)?;
     for (f, v) in values {
         set(heap, n, *f, FieldValue::Number(*v))?;

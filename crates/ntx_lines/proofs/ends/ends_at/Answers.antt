@@ -1,6 +1,5 @@
-use Rattle.std.proofs.Common.{Err, sym, subst}
+use Rattle.std.proofs.Common.{Err}
 use Rattle.std.proofs.lemmas.Result.{err_from_is_err_and}
-use Rattle.ntx_num.specs.Trace.{EndsAs}
 use Rattle.ntx_nodes.specs.Walk.{flat_walk}
 use Rattle.ntx_lines.specs.Ends.{ends_of}
 use Rattle.ntx_lines.proofs.Endings.{answered}

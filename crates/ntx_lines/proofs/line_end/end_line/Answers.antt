@@ -1,4 +1,4 @@
-use Rattle.std.proofs.Common.{Some, Ok, Err, refl, sym, subst}
+use Rattle.std.proofs.Common.{Ok, Err, refl, sym, subst}
 use Rattle.std.proofs.lemmas.Result.{err_from_is_err_and}
 use Rattle.ntx_num.specs.Trace.{stays, EndsAs}
 use Rattle.ntx_num.proofs.Traces.{ends_there}

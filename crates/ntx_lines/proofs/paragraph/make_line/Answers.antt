@@ -1,5 +1,5 @@
-use Rattle.std.proofs.Common.{ℕ, Ok, Err, ◌∙◌, ap, subst}
-use Rattle.std.specs.Prelude.{Result, is_none}
+use Rattle.std.proofs.Common.{Ok, Err, ◌∙◌, ap, subst}
+use Rattle.std.specs.Prelude.{is_none}
 use Rattle.std.proofs.lemmas.Result.{err_from_is_err_and}
 use Rattle.ntx_num.specs.Trace.{EndsAs}
 use Rattle.ntx_nodes.specs.declared.trouble.Trouble.{Trouble}

@@ -1,9 +1,5 @@
-use Rattle.std.proofs.Common.{ℕ, Ok, Err, sym, subst}
 use Rattle.std.proofs.lemmas.Result.{err_from_is_err_and}
-use Rattle.ntx_num.specs.Trace.{EndsAs}
-use Rattle.ntx_nodes.specs.declared.trouble.Trouble.{Trouble}
-use Rattle.ntx_lines.specs.Lines as pass
-use Rattle.ntx_lines.proofs.Whole.{items_stop, names_stop, list_read, making_stops, all_made}
+use Rattle.ntx_lines.proofs.Whole.{items_stop, names_stop}
 use Rattle.ntx_lines.proofs.paragraph.make_paragraph.Goals as goal
 
 pub returns-in_err-items : goal.returns-in_err-items

@@ -1,5 +1,4 @@
-use Rattle.std.proofs.Common.{sym, ◌∙◌, ap, subst, arith}
-use Rattle.std.proofs.lemmas.Result.{err_from_is_err_and}
+use Rattle.std.proofs.Common.{sym, subst, arith}
 use Rattle.ntx_nodes.specs.Writing.{AreMakable}
 use Rattle.ntx_lines.proofs.Makings.{glue_makable}
 use Rattle.ntx_lines.proofs.skips.make_rightskip.Goals as goal
