@@ -4,6 +4,8 @@
 #[cfg(test)]
 mod expressions;
 #[cfg(test)]
+mod full;
+#[cfg(test)]
 mod functions;
 #[cfg(test)]
 mod library;

@@ -15,11 +15,11 @@ use std::test;
 
 /// What comes of a script.
 #[derive(Drop)]
-struct Came {
+pub struct Came {
     /// What was printed.
-    printed: Vec<u8>,
+    pub printed: Vec<u8>,
     /// Why it stopped.
-    stop: Option<ScriptStop>,
+    pub stop: Option<ScriptStop>,
 }
 
 /// The code of a script, which has to be one.
@@ -37,7 +37,7 @@ fn code_of(rt: &(impl Abort + AllocGlobal), script: &[u8]) -> Code {
 }
 
 /// Runs a script with so many steps.
-fn run(rt: &(impl Abort + AllocGlobal), script: &[u8], steps: u64) -> Came {
+pub fn run(rt: &(impl Abort + AllocGlobal), script: &[u8], steps: u64) -> Came {
     let Ok(mut vm) = Vm::new(rt.alloc(), code_of(rt, script), steps) else {
         panic!(rt; "no machine");
     };
