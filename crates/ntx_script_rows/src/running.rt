@@ -23,7 +23,7 @@ pub struct Came {
 }
 
 /// The code of a script, which has to be one.
-fn code_of(rt: &(impl Abort + AllocGlobal), script: &[u8]) -> Code {
+pub fn code_of(rt: &(impl Abort + AllocGlobal), script: &[u8]) -> Code {
     let Ok(words) = tokens(rt.alloc(), script) else {
         panic!(rt; "no tokens");
     };
