@@ -45,3 +45,5 @@ pub mod Within
 pub mod Choosing
 pub mod TurnsLeft
 pub mod Beyond
+pub mod Stepping
+pub mod Followed
