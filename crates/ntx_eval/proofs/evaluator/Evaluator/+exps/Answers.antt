@@ -39,73 +39,93 @@ pub field-returns-in_err-key-in-Keyed : goal.field-returns-in_err-key-in-Keyed
 field-returns-in_err-key-in-Keyed g t c =
     let run = run_of g.H.Host.begin_step g.H.Host.resume_step c.args.self.now.functions c.args.self.now.most c.args.self.now.level in
     let spot = spot_of c.args.frame.now c.args.line in
-    record { runs = of_field run spot c.args.t c.args.number c.args.last (c.in-Keyed.is ∙ ap (λ z. field.Keyed z c.in-Keyed.v) (sym c.get.ensures)) (keyed_runs run spot c.args.t c.args.number c.args.last c.get.result.now c.in-Keyed.v (fields.no_key run spot c.args.t c.args.number (first_of (exp_code run c.get.result.now spot)) c.in-Keyed.v c.from_residual.ensures.1 c.in_err-key-in-Keyed.ensures.runs)) }
+    record { runs = of_field run spot c.args.t c.args.number c.args.last (c.in-Keyed.is ∙ ap (λ z. field.Keyed z c.in-Keyed.v) (sym c.get.ensures))
+    (keyed_runs run spot c.args.t c.args.number c.args.last c.get.result.now c.in-Keyed.v (fields.no_key run spot c.args.t c.args.number
+    (first_of (exp_code run c.get.result.now spot)) c.in-Keyed.v c.from_residual.ensures.1 c.in_err-key-in-Keyed.ensures.runs)) }
 
 pub field-returns-in_err-v-in-Keyed : goal.field-returns-in_err-v-in-Keyed
 field-returns-in_err-v-in-Keyed g t c =
     let run = run_of g.H.Host.begin_step g.H.Host.resume_step c.args.self.now.functions c.args.self.now.most c.args.self.now.level in
     let spot = spot_of c.args.frame.now c.args.line in
-    record { runs = of_field run spot c.args.t c.args.number c.args.last (c.in-Keyed.is ∙ ap (λ z. field.Keyed z c.in-Keyed.v) (sym c.get.ensures) ∙ ap (field.Keyed c.get.result.now) (sym c.get-in-Keyed.ensures)) (keyed_runs run spot c.args.t c.args.number c.args.last c.get.result.now c.get-in-Keyed.result.now (fields.no_value run spot c.args.t c.args.number (first_of (exp_code run c.get.result.now spot)) c.get-in-Keyed.result.now c.in_ok-key-in-Keyed.ensures.runs c.from_residual-in_err-v-in-Keyed.ensures.1 c.in_err-v-in-Keyed.ensures.runs)) }
+    record { runs = of_field run spot c.args.t c.args.number c.args.last (c.in-Keyed.is ∙ ap (λ z. field.Keyed z c.in-Keyed.v) (sym c.get.ensures) ∙ ap (field.Keyed c.get.result.now)
+    (sym c.get-in-Keyed.ensures)) (keyed_runs run spot c.args.t c.args.number c.args.last c.get.result.now c.get-in-Keyed.result.now (fields.no_value run spot c.args.t c.args.number
+    (first_of (exp_code run c.get.result.now spot)) c.get-in-Keyed.result.now c.in_ok-key-in-Keyed.ensures.runs c.from_residual-in_err-v-in-Keyed.ensures.1 c.in_err-v-in-Keyed.ensures.runs)) }
 
 pub field-returns-in_err-write_field-in-Keyed : goal.field-returns-in_err-write_field-in-Keyed
 field-returns-in_err-write_field-in-Keyed g t c =
     let run = run_of g.H.Host.begin_step g.H.Host.resume_step c.args.self.now.functions c.args.self.now.most c.args.self.now.level in
     let spot = spot_of c.args.frame.now c.args.line in
-    record { runs = of_field run spot c.args.t c.args.number c.args.last (c.in-Keyed.is ∙ ap (λ z. field.Keyed z c.in-Keyed.v) (sym c.get.ensures) ∙ ap (field.Keyed c.get.result.now) (sym c.get-in-Keyed.ensures)) (keyed_runs run spot c.args.t c.args.number c.args.last c.get.result.now c.get-in-Keyed.result.now (fields.not_set run spot c.args.t c.args.number (first_of (exp_code run c.get.result.now spot)) c.get-in-Keyed.result.now c.in_ok-key-in-Keyed.ensures.runs c.in_ok-v-in-Keyed.ensures.runs c.from_residual-in_err-write_field-in-Keyed.ensures.1 c.in_err-write_field-in-Keyed.ensures.runs)) }
+    record { runs = of_field run spot c.args.t c.args.number c.args.last (c.in-Keyed.is ∙ ap (λ z. field.Keyed z c.in-Keyed.v) (sym c.get.ensures) ∙ ap (field.Keyed c.get.result.now)
+    (sym c.get-in-Keyed.ensures)) (keyed_runs run spot c.args.t c.args.number c.args.last c.get.result.now c.get-in-Keyed.result.now (fields.not_set run spot c.args.t c.args.number
+    (first_of (exp_code run c.get.result.now spot)) c.get-in-Keyed.result.now c.in_ok-key-in-Keyed.ensures.runs c.in_ok-v-in-Keyed.ensures.runs c.from_residual-in_err-write_field-in-Keyed.ensures.1 c.in_err-write_field-in-Keyed.ensures.runs)) }
 
 pub field-returns-in_ok-write_field-in-Keyed : goal.field-returns-in_ok-write_field-in-Keyed
 field-returns-in_ok-write_field-in-Keyed g t c =
     let run = run_of g.H.Host.begin_step g.H.Host.resume_step c.args.self.now.functions c.args.self.now.most c.args.self.now.level in
     let spot = spot_of c.args.frame.now c.args.line in
-    record { runs = of_field run spot c.args.t c.args.number c.args.last (c.in-Keyed.is ∙ ap (λ z. field.Keyed z c.in-Keyed.v) (sym c.get.ensures) ∙ ap (field.Keyed c.get.result.now) (sym c.get-in-Keyed.ensures)) (keyed_runs run spot c.args.t c.args.number c.args.last c.get.result.now c.get-in-Keyed.result.now (fields.was_set run spot c.args.t c.args.number (first_of (exp_code run c.get.result.now spot)) c.get-in-Keyed.result.now c.in_ok-key-in-Keyed.ensures.runs c.in_ok-v-in-Keyed.ensures.runs c.in_ok-write_field-in-Keyed.ensures.runs)) }
+    record { runs = of_field run spot c.args.t c.args.number c.args.last (c.in-Keyed.is ∙ ap (λ z. field.Keyed z c.in-Keyed.v) (sym c.get.ensures) ∙ ap (field.Keyed c.get.result.now)
+    (sym c.get-in-Keyed.ensures)) (keyed_runs run spot c.args.t c.args.number c.args.last c.get.result.now c.get-in-Keyed.result.now (fields.was_set run spot c.args.t c.args.number
+    (first_of (exp_code run c.get.result.now spot)) c.get-in-Keyed.result.now c.in_ok-key-in-Keyed.ensures.runs c.in_ok-v-in-Keyed.ensures.runs c.in_ok-write_field-in-Keyed.ensures.runs)) }
 
 pub field-returns-in_err-key-in-Named : goal.field-returns-in_err-key-in-Named
 field-returns-in_err-key-in-Named g t c =
     let run = run_of g.H.Host.begin_step g.H.Host.resume_step c.args.self.now.functions c.args.self.now.most c.args.self.now.level in
     let spot = spot_of c.args.frame.now c.args.line in
-    record { runs = of_field run spot c.args.t c.args.number c.args.last (c.in-Named.is ∙ ap (λ z. field.Named z c.in-Named.v) (sym c.as_slice.ensures)) (fields.named_runs run spot c.args.t c.args.number c.args.last c.as_slice.result.now c.in-Named.v (fields.no_key run spot c.args.t c.args.number (text c.as_slice.result.now c.args.line) c.in-Named.v c.from_residual-in_err-key-in-Named.ensures.1 c.in_err-key-in-Named.ensures.runs)) }
+    record { runs = of_field run spot c.args.t c.args.number c.args.last (c.in-Named.is ∙ ap (λ z. field.Named z c.in-Named.v) (sym c.as_slice.ensures))
+    (fields.named_runs run spot c.args.t c.args.number c.args.last c.as_slice.result.now c.in-Named.v (fields.no_key run spot c.args.t c.args.number
+    (text c.as_slice.result.now c.args.line) c.in-Named.v c.from_residual-in_err-key-in-Named.ensures.1 c.in_err-key-in-Named.ensures.runs)) }
 
 pub field-returns-in_err-v-in-Named : goal.field-returns-in_err-v-in-Named
 field-returns-in_err-v-in-Named g t c =
     let run = run_of g.H.Host.begin_step g.H.Host.resume_step c.args.self.now.functions c.args.self.now.most c.args.self.now.level in
     let spot = spot_of c.args.frame.now c.args.line in
-    record { runs = of_field run spot c.args.t c.args.number c.args.last (c.in-Named.is ∙ ap (λ z. field.Named z c.in-Named.v) (sym c.as_slice.ensures) ∙ ap (field.Named c.as_slice.result.now) (sym c.get-in-Named.ensures)) (fields.named_runs run spot c.args.t c.args.number c.args.last c.as_slice.result.now c.get-in-Named.result.now (fields.no_value run spot c.args.t c.args.number (text c.as_slice.result.now c.args.line) c.get-in-Named.result.now c.in_ok-key-in-Named.ensures.runs c.from_residual-in_err-v-in-Named.ensures.1 c.in_err-v-in-Named.ensures.runs)) }
+    record { runs = of_field run spot c.args.t c.args.number c.args.last (c.in-Named.is ∙ ap (λ z. field.Named z c.in-Named.v) (sym c.as_slice.ensures) ∙ ap
+    (field.Named c.as_slice.result.now) (sym c.get-in-Named.ensures)) (fields.named_runs run spot c.args.t c.args.number c.args.last c.as_slice.result.now c.get-in-Named.result.now
+    (fields.no_value run spot c.args.t c.args.number (text c.as_slice.result.now c.args.line) c.get-in-Named.result.now c.in_ok-key-in-Named.ensures.runs c.from_residual-in_err-v-in-Named.ensures.1 c.in_err-v-in-Named.ensures.runs)) }
 
 pub field-returns-in_err-write_field-in-Named : goal.field-returns-in_err-write_field-in-Named
 field-returns-in_err-write_field-in-Named g t c =
     let run = run_of g.H.Host.begin_step g.H.Host.resume_step c.args.self.now.functions c.args.self.now.most c.args.self.now.level in
     let spot = spot_of c.args.frame.now c.args.line in
-    record { runs = of_field run spot c.args.t c.args.number c.args.last (c.in-Named.is ∙ ap (λ z. field.Named z c.in-Named.v) (sym c.as_slice.ensures) ∙ ap (field.Named c.as_slice.result.now) (sym c.get-in-Named.ensures)) (fields.named_runs run spot c.args.t c.args.number c.args.last c.as_slice.result.now c.get-in-Named.result.now (fields.not_set run spot c.args.t c.args.number (text c.as_slice.result.now c.args.line) c.get-in-Named.result.now c.in_ok-key-in-Named.ensures.runs c.in_ok-v-in-Named.ensures.runs c.from_residual-in_err-write_field-in-Named.ensures.1 c.in_err-write_field-in-Named.ensures.runs)) }
+    record { runs = of_field run spot c.args.t c.args.number c.args.last (c.in-Named.is ∙ ap (λ z. field.Named z c.in-Named.v) (sym c.as_slice.ensures) ∙ ap
+    (field.Named c.as_slice.result.now) (sym c.get-in-Named.ensures)) (fields.named_runs run spot c.args.t c.args.number c.args.last c.as_slice.result.now c.get-in-Named.result.now
+    (fields.not_set run spot c.args.t c.args.number (text c.as_slice.result.now c.args.line) c.get-in-Named.result.now c.in_ok-key-in-Named.ensures.runs c.in_ok-v-in-Named.ensures.runs c.from_residual-in_err-write_field-in-Named.ensures.1 c.in_err-write_field-in-Named.ensures.runs)) }
 
 pub field-returns-in_err-values-in-Positional : goal.field-returns-in_err-values-in-Positional
 field-returns-in_err-values-in-Positional g t c =
     let run = run_of g.H.Host.begin_step g.H.Host.resume_step c.args.self.now.functions c.args.self.now.most c.args.self.now.level in
     let spot = spot_of c.args.frame.now c.args.line in
-    record { runs = of_field run spot c.args.t c.args.number c.args.last (c.in-Positional.is) (last_runs run spot c.args.t c.args.number c.args.last c.in-Positional.exp c.if-last.true (stops (λ vs. place_values run c.args.t c.args.number vs c.args.line) c.from_residual-in_err-values-in-Positional.ensures.1 c.in_err-values-in-Positional.ensures.runs)) }
+    record { runs = of_field run spot c.args.t c.args.number c.args.last (c.in-Positional.is) (last_runs run spot c.args.t c.args.number c.args.last c.in-Positional.exp c.if-last.true
+    (stops (λ vs. place_values run c.args.t c.args.number vs c.args.line) c.from_residual-in_err-values-in-Positional.ensures.1 c.in_err-values-in-Positional.ensures.runs)) }
 
 pub field-returns-in_err-v-in-Positional : goal.field-returns-in_err-v-in-Positional
 field-returns-in_err-v-in-Positional g t c =
     let run = run_of g.H.Host.begin_step g.H.Host.resume_step c.args.self.now.functions c.args.self.now.most c.args.self.now.level in
     let spot = spot_of c.args.frame.now c.args.line in
-    record { runs = of_field run spot c.args.t c.args.number c.args.last (c.in-Positional.is) (earlier_runs run spot c.args.t c.args.number c.args.last c.in-Positional.exp c.if-last.false (stops (λ v. place_value run c.args.t c.args.number v c.args.line) c.from_residual-in_err-v-in-Positional.ensures.1 c.in_err-v-in-Positional.ensures.runs)) }
+    record { runs = of_field run spot c.args.t c.args.number c.args.last (c.in-Positional.is) (earlier_runs run spot c.args.t c.args.number c.args.last c.in-Positional.exp c.if-last.false
+    (stops (λ v. place_value run c.args.t c.args.number v c.args.line) c.from_residual-in_err-v-in-Positional.ensures.1 c.in_err-v-in-Positional.ensures.runs)) }
 
 pub field-returns-in_ok-values-in-Positional : goal.field-returns-in_ok-values-in-Positional
 field-returns-in_ok-values-in-Positional g t c =
     let run = run_of g.H.Host.begin_step g.H.Host.resume_step c.args.self.now.functions c.args.self.now.most c.args.self.now.level in
     let spot = spot_of c.args.frame.now c.args.line in
-    record { runs = of_field run spot c.args.t c.args.number c.args.last (c.in-Positional.is) (last_runs run spot c.args.t c.args.number c.args.last c.in-Positional.exp c.if-last.true (goes_on (λ vs. place_values run c.args.t c.args.number vs c.args.line) c.in_ok-values-in-Positional.ensures.runs (alike (λ vs. place_values run c.args.t c.args.number vs c.args.line) (sym c.as_slice-then-last.ensures) c.place_values.ensures.runs))) }
+    record { runs = of_field run spot c.args.t c.args.number c.args.last (c.in-Positional.is) (last_runs run spot c.args.t c.args.number c.args.last c.in-Positional.exp c.if-last.true
+    (goes_on (λ vs. place_values run c.args.t c.args.number vs c.args.line) c.in_ok-values-in-Positional.ensures.runs (alike (λ vs. place_values run c.args.t c.args.number vs c.args.line)
+    (sym c.as_slice-then-last.ensures) c.place_values.ensures.runs))) }
 
 pub field-returns-in_ok-v-in-Positional : goal.field-returns-in_ok-v-in-Positional
 field-returns-in_ok-v-in-Positional g t c =
     let run = run_of g.H.Host.begin_step g.H.Host.resume_step c.args.self.now.functions c.args.self.now.most c.args.self.now.level in
     let spot = spot_of c.args.frame.now c.args.line in
-    record { runs = of_field run spot c.args.t c.args.number c.args.last (c.in-Positional.is) (earlier_runs run spot c.args.t c.args.number c.args.last c.in-Positional.exp c.if-last.false (goes_on (λ v. place_value run c.args.t c.args.number v c.args.line) c.in_ok-v-in-Positional.ensures.runs c.place_value.ensures.runs)) }
+    record { runs = of_field run spot c.args.t c.args.number c.args.last (c.in-Positional.is) (earlier_runs run spot c.args.t c.args.number c.args.last c.in-Positional.exp c.if-last.false
+    (goes_on (λ v. place_value run c.args.t c.args.number v c.args.line) c.in_ok-v-in-Positional.ensures.runs c.place_value.ensures.runs)) }
 
 pub head-returns-in-Name-clause-runs : goal.head-returns-in-Name-clause-runs
 head-returns-in-Name-clause-runs g t c =
     let run = run_of g.H.Host.begin_step g.H.Host.resume_step c.args.self.now.functions c.args.self.now.most c.args.self.now.level in
     let spot = spot_of c.args.frame.now c.args.line in
-    of_head run spot (c.in-Name.is ∙ ap (λ z. head.Name z c.in-Name.variable) (sym c.as_slice.ensures)) (name_runs run spot c.as_slice.result.now c.in-Name.variable c.read_variable.ensures.runs)
+    of_head run spot (c.in-Name.is ∙ ap (λ z. head.Name z c.in-Name.variable) (sym c.as_slice.ensures))
+    (name_runs run spot c.as_slice.result.now c.in-Name.variable c.read_variable.ensures.runs)
 
 pub head-returns-in-Parenthesized-clause-runs : goal.head-returns-in-Parenthesized-clause-runs
 head-returns-in-Parenthesized-clause-runs g t c =
@@ -138,13 +158,15 @@ pub one-returns-in_err-v-in-Binary-clause-runs : goal.one-returns-in_err-v-in-Bi
 one-returns-in_err-v-in-Binary-clause-runs g t c =
     let run = run_of g.H.Host.begin_step g.H.Host.resume_step c.args.self.now.functions c.args.self.now.most c.args.self.now.level in
     let spot = spot_of c.args.frame.now c.args.line in
-    of_exp run spot (c.in-Binary.is ∙ ap (λ z. exp.Binary z c.in-Binary.others) (sym c.get.ensures)) (binary_stops run spot c.from_residual-in_err-v-in-Binary.result c.get.result.now c.in-Binary.others c.from_residual-in_err-v-in-Binary.ensures.1 c.in_err-v-in-Binary.ensures.runs)
+    of_exp run spot (c.in-Binary.is ∙ ap (λ z. exp.Binary z c.in-Binary.others) (sym c.get.ensures))
+    (binary_stops run spot c.from_residual-in_err-v-in-Binary.result c.get.result.now c.in-Binary.others c.from_residual-in_err-v-in-Binary.ensures.1 c.in_err-v-in-Binary.ensures.runs)
 
 pub one-returns-in_err-v-in-Unary-clause-runs : goal.one-returns-in_err-v-in-Unary-clause-runs
 one-returns-in_err-v-in-Unary-clause-runs g t c =
     let run = run_of g.H.Host.begin_step g.H.Host.resume_step c.args.self.now.functions c.args.self.now.most c.args.self.now.level in
     let spot = spot_of c.args.frame.now c.args.line in
-    of_exp run spot (c.in-Unary.is ∙ ap (exp.Unary c.in-Unary.op) (sym c.get-in-Unary.ensures)) (unary_stops run spot c.from_residual-in_err-v-in-Unary.result c.in-Unary.op c.get-in-Unary.result.now c.from_residual-in_err-v-in-Unary.ensures.1 c.in_err-v-in-Unary.ensures.runs)
+    of_exp run spot (c.in-Unary.is ∙ ap (exp.Unary c.in-Unary.op) (sym c.get-in-Unary.ensures))
+    (unary_stops run spot c.from_residual-in_err-v-in-Unary.result c.in-Unary.op c.get-in-Unary.result.now c.from_residual-in_err-v-in-Unary.ensures.1 c.in_err-v-in-Unary.ensures.runs)
 
 pub one-returns-in-Numeral-clause-runs : goal.one-returns-in-Numeral-clause-runs
 one-returns-in-Numeral-clause-runs g t c =
@@ -188,19 +210,23 @@ pub one-returns-in_ok-v-in-Unary-clause-runs : goal.one-returns-in_ok-v-in-Unary
 one-returns-in_ok-v-in-Unary-clause-runs g t c =
     let run = run_of g.H.Host.begin_step g.H.Host.resume_step c.args.self.now.functions c.args.self.now.most c.args.self.now.level in
     let spot = spot_of c.args.frame.now c.args.line in
-    of_exp run spot (c.in-Unary.is ∙ ap (exp.Unary c.in-Unary.op) (sym c.get-in-Unary.ensures)) (unary_runs run spot c.unary.result c.in-Unary.op c.get-in-Unary.result.now c.in_ok-v-in-Unary.ensures.runs c.unary.ensures.runs)
+    of_exp run spot (c.in-Unary.is ∙ ap (exp.Unary c.in-Unary.op) (sym c.get-in-Unary.ensures))
+    (unary_runs run spot c.unary.result c.in-Unary.op c.get-in-Unary.result.now c.in_ok-v-in-Unary.ensures.runs c.unary.ensures.runs)
 
 pub operations-loop-other-preserved-then-is_decided : goal.operations-loop-other-preserved-then-is_decided
 operations-loop-other-preserved-then-is_decided g t c =
     let run = run_of g.H.Host.begin_step g.H.Host.resume_step c.args.self.now.functions c.args.self.now.most c.args.self.now.level in
     let spot = spot_of c.args.frame.now c.args.line in
     record {
-      rest = operating.passed run g.H.Host.Fits spot c.args.others.now c.in-Some.rest.now c.in-Some.other.now c.args.operand c.loop-other.v c.args.m.now c.loop-other.m (g.H.Host.state c.args.host.now) (g.H.Host.state c.loop-other.host) (sym c.is_decided.ensures ∙ c.if-is_decided.true)
-          (subst (λ os. Operates run g.H.Host.Fits spot c.args.others.now c.args.operand os c.loop-other.v c.args.m.now (g.H.Host.state c.args.host.now) c.loop-other.m (g.H.Host.state c.loop-other.host)) c.in-Some.ensures.cases.0 c.loop-other.invariant.rest);
+      rest = operating.passed run g.H.Host.Fits spot c.args.others.now c.in-Some.rest.now c.in-Some.other.now c.args.operand c.loop-other.v c.args.m.now c.loop-other.m
+      (g.H.Host.state c.args.host.now) (g.H.Host.state c.loop-other.host) (sym c.is_decided.ensures ∙ c.if-is_decided.true)
+          (subst (λ os. Operates run g.H.Host.Fits spot c.args.others.now c.args.operand os c.loop-other.v c.args.m.now (g.H.Host.state c.args.host.now) c.loop-other.m
+          (g.H.Host.state c.loop-other.host)) c.in-Some.ensures.cases.0 c.loop-other.invariant.rest);
       falls = c.loop-other.invariant.falls;
       fits = c.loop-other.invariant.fits;
       of = c.loop-other.invariant.of;
-      smaller = rest_smaller size-Operation c.loop-other.others.now c.in-Some.rest.now c.in-Some.other.now (most size-Operation c.args.others.now) c.in-Some.ensures.cases.0 c.loop-other.invariant.smaller;
+      smaller = rest_smaller size-Operation c.loop-other.others.now c.in-Some.rest.now c.in-Some.other.now
+      (most size-Operation c.args.others.now) c.in-Some.ensures.cases.0 c.loop-other.invariant.smaller;
     }
 
 pub operations-returns-in_err-w-clause-runs : goal.operations-returns-in_err-w-clause-runs
@@ -209,7 +235,8 @@ operations-returns-in_err-w-clause-runs g t c =
     let spot = spot_of c.args.frame.now c.args.line in
     operating.failed_operand run g.H.Host.Fits spot c.args.others.now c.in-Some.rest.now c.in-Some.other.now c.args.operand c.loop-other.v c.from_residual.result c.args.m.now c.loop-other.m c.one.new.m (g.H.Host.state c.args.host.now) (g.H.Host.state c.loop-other.host) (g.H.Host.state c.one.new.host)
     (sym c.is_decided.ensures ∙ c.if-is_decided.false)
-    (subst (λ os. Operates run g.H.Host.Fits spot c.args.others.now c.args.operand os c.loop-other.v c.args.m.now (g.H.Host.state c.args.host.now) c.loop-other.m (g.H.Host.state c.loop-other.host)) c.in-Some.ensures.cases.0 c.loop-other.invariant.rest)
+    (subst (λ os. Operates run g.H.Host.Fits spot c.args.others.now c.args.operand os c.loop-other.v c.args.m.now (g.H.Host.state c.args.host.now) c.loop-other.m
+    (g.H.Host.state c.loop-other.host)) c.in-Some.ensures.cases.0 c.loop-other.invariant.rest)
     c.from_residual.ensures.1 c.in_err-w.ensures.runs
 
 pub operations-returns-in_err-v-clause-runs : goal.operations-returns-in_err-v-clause-runs
@@ -218,7 +245,8 @@ operations-returns-in_err-v-clause-runs g t c =
     let spot = spot_of c.args.frame.now c.args.line in
     operating.failed_operator run g.H.Host.Fits spot c.args.others.now c.in-Some.rest.now c.in-Some.other.now c.args.operand c.loop-other.v c.in_ok-w.w c.from_residual-in_err-v.result c.args.m.now c.loop-other.m c.one.new.m c.binary.new.m (g.H.Host.state c.args.host.now) (g.H.Host.state c.loop-other.host) (g.H.Host.state c.one.new.host) (g.H.Host.state c.binary.new.host)
     (sym c.is_decided.ensures ∙ c.if-is_decided.false)
-    (subst (λ os. Operates run g.H.Host.Fits spot c.args.others.now c.args.operand os c.loop-other.v c.args.m.now (g.H.Host.state c.args.host.now) c.loop-other.m (g.H.Host.state c.loop-other.host)) c.in-Some.ensures.cases.0 c.loop-other.invariant.rest)
+    (subst (λ os. Operates run g.H.Host.Fits spot c.args.others.now c.args.operand os c.loop-other.v c.args.m.now (g.H.Host.state c.args.host.now) c.loop-other.m
+    (g.H.Host.state c.loop-other.host)) c.in-Some.ensures.cases.0 c.loop-other.invariant.rest)
     c.in_ok-w.ensures.runs c.from_residual-in_err-v.ensures.1 c.in_err-v.ensures.runs
 
 pub operations-loop-other-preserved : goal.operations-loop-other-preserved
@@ -228,20 +256,24 @@ operations-loop-other-preserved g t c =
     record {
       rest = operating.operated run g.H.Host.Fits spot c.args.others.now c.in-Some.rest.now c.in-Some.other.now c.args.operand c.loop-other.v c.in_ok-w.w c.in_ok-v.v c.args.m.now c.loop-other.m c.one.new.m c.binary.new.m (g.H.Host.state c.args.host.now) (g.H.Host.state c.loop-other.host) (g.H.Host.state c.one.new.host) (g.H.Host.state c.binary.new.host)
           (sym c.is_decided.ensures ∙ c.if-is_decided.false)
-          (subst (λ os. Operates run g.H.Host.Fits spot c.args.others.now c.args.operand os c.loop-other.v c.args.m.now (g.H.Host.state c.args.host.now) c.loop-other.m (g.H.Host.state c.loop-other.host)) c.in-Some.ensures.cases.0 c.loop-other.invariant.rest)
+          (subst (λ os. Operates run g.H.Host.Fits spot c.args.others.now c.args.operand os c.loop-other.v c.args.m.now (g.H.Host.state c.args.host.now) c.loop-other.m
+          (g.H.Host.state c.loop-other.host)) c.in-Some.ensures.cases.0 c.loop-other.invariant.rest)
           c.in_ok-w.ensures.runs c.in_ok-v.ensures.runs;
       falls = omega (arith, c.in_ok-w.ensures.runs.falls, c.in_ok-v.ensures.runs.falls, c.loop-other.invariant.falls);
       fits = c.in_ok-v.ensures.runs.fits;
       of = c.in_ok-v.ensures.of;
-      smaller = rest_smaller size-Operation c.loop-other.others.now c.in-Some.rest.now c.in-Some.other.now (most size-Operation c.args.others.now) c.in-Some.ensures.cases.0 c.loop-other.invariant.smaller;
+      smaller = rest_smaller size-Operation c.loop-other.others.now c.in-Some.rest.now c.in-Some.other.now
+      (most size-Operation c.args.others.now) c.in-Some.ensures.cases.0 c.loop-other.invariant.smaller;
     }
 
 pub operations-returns-clause-runs : goal.operations-returns-clause-runs
 operations-returns-clause-runs g t c =
     let run = run_of g.H.Host.begin_step g.H.Host.resume_step c.args.self.now.functions c.args.self.now.most c.args.self.now.level in
     let spot = spot_of c.args.frame.now c.args.line in
-    subst (λ os. Operates run g.H.Host.Fits spot c.args.others.now c.args.operand os c.loop-other.v c.args.m.now (g.H.Host.state c.args.host.now) c.loop-other.m (g.H.Host.state c.loop-other.host))
-    (nil_from_length c.loop-other.others.now c.in_default.ensures.cases) c.loop-other.invariant.rest (Ok c.loop-other.v) c.loop-other.m (g.H.Host.state c.loop-other.host) (gives c.loop-other.v c.loop-other.m (g.H.Host.state c.loop-other.host) c.loop-other.invariant.fits)
+    subst (λ os. Operates run g.H.Host.Fits spot c.args.others.now c.args.operand os c.loop-other.v c.args.m.now (g.H.Host.state c.args.host.now) c.loop-other.m
+    (g.H.Host.state c.loop-other.host))
+    (nil_from_length c.loop-other.others.now c.in_default.ensures.cases) c.loop-other.invariant.rest (Ok c.loop-other.v) c.loop-other.m (g.H.Host.state c.loop-other.host)
+    (gives c.loop-other.v c.loop-other.m (g.H.Host.state c.loop-other.host) c.loop-other.invariant.fits)
 
 pub prefix_values-returns-in_err-v-clause-runs : goal.prefix_values-returns-in_err-v-clause-runs
 prefix_values-returns-in_err-v-clause-runs g t c =
@@ -265,31 +297,36 @@ pub prefix_values-returns-in_err-v-in-Some-clause-runs : goal.prefix_values-retu
 prefix_values-returns-in_err-v-in-Some-clause-runs g t c =
     let run = run_of g.H.Host.begin_step g.H.Host.resume_step c.args.self.now.functions c.args.self.now.most c.args.self.now.level in
     let spot = spot_of c.args.frame.now c.args.line in
-    failed_before g.H.Host.Fits run spot c.args.prefix.now c.in-Some.others.now c.in-Some.last.now (sym c.as_slice.ensures ∙ c.in-Some.ensures.cases.0) c.in_ok-v.ensures.runs c.from_residual-in_err-v-in-Some.ensures.1 c.in_err-v-in-Some.ensures.runs
+    failed_before g.H.Host.Fits run spot c.args.prefix.now c.in-Some.others.now c.in-Some.last.now
+    (sym c.as_slice.ensures ∙ c.in-Some.ensures.cases.0) c.in_ok-v.ensures.runs c.from_residual-in_err-v-in-Some.ensures.1 c.in_err-v-in-Some.ensures.runs
 
 pub prefix_values-returns-in_ok-v-in-Some-clause-runs : goal.prefix_values-returns-in_ok-v-in-Some-clause-runs
 prefix_values-returns-in_ok-v-in-Some-clause-runs g t c =
     let run = run_of g.H.Host.begin_step g.H.Host.resume_step c.args.self.now.functions c.args.self.now.most c.args.self.now.level in
     let spot = spot_of c.args.frame.now c.args.line in
-    ends_in g.H.Host.Fits run spot c.args.prefix.now c.in-Some.others.now c.in-Some.last.now (sym c.as_slice.ensures ∙ c.in-Some.ensures.cases.0) c.in_ok-v.ensures.runs c.in_ok-v-in-Some.ensures.runs c.suffix_values.ensures.runs
+    ends_in g.H.Host.Fits run spot c.args.prefix.now c.in-Some.others.now c.in-Some.last.now
+    (sym c.as_slice.ensures ∙ c.in-Some.ensures.cases.0) c.in_ok-v.ensures.runs c.in_ok-v-in-Some.ensures.runs c.suffix_values.ensures.runs
 
 pub prefix_values-suffix_values-requires : goal.prefix_values-suffix_values-requires
 prefix_values-suffix_values-requires g t c κs within =
     let small : size-Suffix c.in-Some.last.now < size-Prefix c.args.prefix.now = search (rules, the_lemmas) in
     let before = c.in_ok-v-in-Some.ensures.runs (c.in_ok-v.v ∷ []) refl in
-    (omega (arith, c.decreases, small), (within.0, (within.1, (c.requires.enters, (before.fits, (omega (arith, c.requires.most, c.in_ok-v.ensures.runs.falls, before.falls), c.in_ok-v-in-Some.ensures.of))))))
+    (omega (arith, c.decreases, small), (within.0, (within.1, (c.requires.enters,
+    (before.fits, (omega (arith, c.requires.most, c.in_ok-v.ensures.runs.falls, before.falls), c.in_ok-v-in-Some.ensures.of))))))
 
 pub suffix_values-returns-in_err-values-in-Call-clause-runs : goal.suffix_values-returns-in_err-values-in-Call-clause-runs
 suffix_values-returns-in_err-values-in-Call-clause-runs g t c =
     let run = run_of g.H.Host.begin_step g.H.Host.resume_step c.args.self.now.functions c.args.self.now.most c.args.self.now.level in
     let spot = spot_of c.args.frame.now c.args.line in
-    call_runs g.H.Host.Fits run spot c.args.suffix.now c.as_slice.result.now c.args.v (c.in-Call.is ∙ ap suffix.Call (sym c.as_slice.ensures)) (stops (λ args. call run c.args.v args c.args.line) c.from_residual.ensures.1 c.in_err-values-in-Call.ensures.runs)
+    call_runs g.H.Host.Fits run spot c.args.suffix.now c.as_slice.result.now c.args.v (c.in-Call.is ∙ ap suffix.Call (sym c.as_slice.ensures)) (stops
+    (λ args. call run c.args.v args c.args.line) c.from_residual.ensures.1 c.in_err-values-in-Call.ensures.runs)
 
 pub suffix_values-returns-in_ok-values-in-Call-clause-runs : goal.suffix_values-returns-in_ok-values-in-Call-clause-runs
 suffix_values-returns-in_ok-values-in-Call-clause-runs g t c =
     let run = run_of g.H.Host.begin_step g.H.Host.resume_step c.args.self.now.functions c.args.self.now.most c.args.self.now.level in
     let spot = spot_of c.args.frame.now c.args.line in
-    call_runs g.H.Host.Fits run spot c.args.suffix.now c.as_slice.result.now c.args.v (c.in-Call.is ∙ ap suffix.Call (sym c.as_slice.ensures)) (goes_on (λ args. call run c.args.v args c.args.line) c.in_ok-values-in-Call.ensures.runs
+    call_runs g.H.Host.Fits run spot c.args.suffix.now c.as_slice.result.now c.args.v (c.in-Call.is ∙ ap suffix.Call (sym c.as_slice.ensures)) (goes_on
+    (λ args. call run c.args.v args c.args.line) c.in_ok-values-in-Call.ensures.runs
     (alike (λ args. call run c.args.v args c.args.line) (sym c.as_slice-in-Call.ensures) c.call.ensures.runs))
 
 pub suffix_values-returns-in_err-v-in_default-clause-runs : goal.suffix_values-returns-in_err-v-in_default-clause-runs
@@ -308,50 +345,58 @@ pub suffix_values-returns-in_ok-single-in_default-clause-runs : goal.suffix_valu
 suffix_values-returns-in_ok-single-in_default-clause-runs g t c =
     let run = run_of g.H.Host.begin_step g.H.Host.resume_step c.args.self.now.functions c.args.self.now.most c.args.self.now.level in
     let spot = spot_of c.args.frame.now c.args.line in
-    single_runs (suffix_code run c.args.suffix.now c.args.v spot) (suffix_single run spot c.args.suffix.now c.args.v c.in_default.not-Call) c.in_ok-single-in_default.ensures c.in_ok-v-in_default.ensures.runs
+    single_runs (suffix_code run c.args.suffix.now c.args.v spot)
+    (suffix_single run spot c.args.suffix.now c.args.v c.in_default.not-Call) c.in_ok-single-in_default.ensures c.in_ok-v-in_default.ensures.runs
 
 pub suffix-returns-in_err-key-in-Index-clause-runs : goal.suffix-returns-in_err-key-in-Index-clause-runs
 suffix-returns-in_err-key-in-Index-clause-runs g t c =
     let run = run_of g.H.Host.begin_step g.H.Host.resume_step c.args.self.now.functions c.args.self.now.most c.args.self.now.level in
     let spot = spot_of c.args.frame.now c.args.line in
-    of_suffix run spot c.args.v (c.in-Index.is ∙ ap suffix.Index (sym c.get.ensures)) (index_runs run spot c.args.v c.get.result.now (prefixes.no_key run spot c.args.v (first_of (exp_code run c.get.result.now spot)) c.from_residual.ensures.1 c.in_err-key-in-Index.ensures.runs))
+    of_suffix run spot c.args.v (c.in-Index.is ∙ ap suffix.Index (sym c.get.ensures)) (index_runs run spot c.args.v c.get.result.now
+    (prefixes.no_key run spot c.args.v (first_of (exp_code run c.get.result.now spot)) c.from_residual.ensures.1 c.in_err-key-in-Index.ensures.runs))
 
 pub suffix-returns-in_err-key-in-Field-clause-runs : goal.suffix-returns-in_err-key-in-Field-clause-runs
 suffix-returns-in_err-key-in-Field-clause-runs g t c =
     let run = run_of g.H.Host.begin_step g.H.Host.resume_step c.args.self.now.functions c.args.self.now.most c.args.self.now.level in
     let spot = spot_of c.args.frame.now c.args.line in
-    of_suffix run spot c.args.v (c.in-Field.is ∙ ap suffix.Field (sym c.as_slice.ensures)) (prefixes.named_runs run spot c.args.v c.as_slice.result.now (prefixes.no_key run spot c.args.v (text c.as_slice.result.now c.args.line) c.from_residual-in_err-key-in-Field.ensures.1 c.in_err-key-in-Field.ensures.runs))
+    of_suffix run spot c.args.v (c.in-Field.is ∙ ap suffix.Field (sym c.as_slice.ensures)) (prefixes.named_runs run spot c.args.v c.as_slice.result.now
+    (prefixes.no_key run spot c.args.v (text c.as_slice.result.now c.args.line) c.from_residual-in_err-key-in-Field.ensures.1 c.in_err-key-in-Field.ensures.runs))
 
 pub suffix-returns-in_ok-key-in-Index-clause-runs : goal.suffix-returns-in_ok-key-in-Index-clause-runs
 suffix-returns-in_ok-key-in-Index-clause-runs g t c =
     let run = run_of g.H.Host.begin_step g.H.Host.resume_step c.args.self.now.functions c.args.self.now.most c.args.self.now.level in
     let spot = spot_of c.args.frame.now c.args.line in
-    of_suffix run spot c.args.v (c.in-Index.is ∙ ap suffix.Index (sym c.get.ensures)) (index_runs run spot c.args.v c.get.result.now (with_key run spot c.args.v (first_of (exp_code run c.get.result.now spot)) c.in_ok-key-in-Index.ensures.runs c.read_field.ensures.runs))
+    of_suffix run spot c.args.v (c.in-Index.is ∙ ap suffix.Index (sym c.get.ensures)) (index_runs run spot c.args.v c.get.result.now
+    (with_key run spot c.args.v (first_of (exp_code run c.get.result.now spot)) c.in_ok-key-in-Index.ensures.runs c.read_field.ensures.runs))
 
 pub suffix-returns-in_ok-key-in-Field-clause-runs : goal.suffix-returns-in_ok-key-in-Field-clause-runs
 suffix-returns-in_ok-key-in-Field-clause-runs g t c =
     let run = run_of g.H.Host.begin_step g.H.Host.resume_step c.args.self.now.functions c.args.self.now.most c.args.self.now.level in
     let spot = spot_of c.args.frame.now c.args.line in
-    of_suffix run spot c.args.v (c.in-Field.is ∙ ap suffix.Field (sym c.as_slice.ensures)) (prefixes.named_runs run spot c.args.v c.as_slice.result.now (with_key run spot c.args.v (text c.as_slice.result.now c.args.line) c.in_ok-key-in-Field.ensures.runs c.read_field-in-Field.ensures.runs))
+    of_suffix run spot c.args.v (c.in-Field.is ∙ ap suffix.Field (sym c.as_slice.ensures)) (prefixes.named_runs run spot c.args.v c.as_slice.result.now
+    (with_key run spot c.args.v (text c.as_slice.result.now c.args.line) c.in_ok-key-in-Field.ensures.runs c.read_field-in-Field.ensures.runs))
 
 pub suffix-returns-in_err-values-in-Call-clause-runs : goal.suffix-returns-in_err-values-in-Call-clause-runs
 suffix-returns-in_err-values-in-Call-clause-runs g t c =
     let run = run_of g.H.Host.begin_step g.H.Host.resume_step c.args.self.now.functions c.args.self.now.most c.args.self.now.level in
     let spot = spot_of c.args.frame.now c.args.line in
-    of_suffix run spot c.args.v (c.in-Call.is ∙ ap suffix.Call (sym c.as_slice-in-Call.ensures)) (called_runs run spot c.args.v c.as_slice-in-Call.result.now (no_arguments run spot c.args.v c.as_slice-in-Call.result.now c.from_residual-in_err-values-in-Call.ensures.1 c.in_err-values-in-Call.ensures.runs))
+    of_suffix run spot c.args.v (c.in-Call.is ∙ ap suffix.Call (sym c.as_slice-in-Call.ensures)) (called_runs run spot c.args.v c.as_slice-in-Call.result.now
+    (no_arguments run spot c.args.v c.as_slice-in-Call.result.now c.from_residual-in_err-values-in-Call.ensures.1 c.in_err-values-in-Call.ensures.runs))
 
 pub suffix-returns-in_err-results-in-Call-clause-runs : goal.suffix-returns-in_err-results-in-Call-clause-runs
 suffix-returns-in_err-results-in-Call-clause-runs g t c =
     let run = run_of g.H.Host.begin_step g.H.Host.resume_step c.args.self.now.functions c.args.self.now.most c.args.self.now.level in
     let spot = spot_of c.args.frame.now c.args.line in
-    of_suffix run spot c.args.v (c.in-Call.is ∙ ap suffix.Call (sym c.as_slice-in-Call.ensures)) (called_runs run spot c.args.v c.as_slice-in-Call.result.now (not_called run spot c.args.v c.as_slice-in-Call.result.now c.in_ok-values-in-Call.ensures.runs
+    of_suffix run spot c.args.v (c.in-Call.is ∙ ap suffix.Call (sym c.as_slice-in-Call.ensures)) (called_runs run spot c.args.v c.as_slice-in-Call.result.now
+    (not_called run spot c.args.v c.as_slice-in-Call.result.now c.in_ok-values-in-Call.ensures.runs
     c.from_residual-in_err-results-in-Call.ensures.1 (alike (λ args. call run c.args.v args c.args.line) (sym c.as_slice-in-Call-2.ensures) c.in_err-results-in-Call.ensures.runs)))
 
 pub suffix-returns-in_ok-results-in-Call-clause-runs : goal.suffix-returns-in_ok-results-in-Call-clause-runs
 suffix-returns-in_ok-results-in-Call-clause-runs g t c =
     let run = run_of g.H.Host.begin_step g.H.Host.resume_step c.args.self.now.functions c.args.self.now.most c.args.self.now.level in
     let spot = spot_of c.args.frame.now c.args.line in
-    of_suffix run spot c.args.v (c.in-Call.is ∙ ap suffix.Call (sym c.as_slice-in-Call.ensures)) (called_runs run spot c.args.v c.as_slice-in-Call.result.now (was_called run spot c.args.v c.as_slice-in-Call.result.now c.in_ok-values-in-Call.ensures.runs
+    of_suffix run spot c.args.v (c.in-Call.is ∙ ap suffix.Call (sym c.as_slice-in-Call.ensures)) (called_runs run spot c.args.v c.as_slice-in-Call.result.now
+    (was_called run spot c.args.v c.as_slice-in-Call.result.now c.in_ok-values-in-Call.ensures.runs
     c.first.ensures (alike (λ args. call run c.args.v args c.args.line) (sym c.as_slice-in-Call-2.ensures) c.in_ok-results-in-Call.ensures.runs)))
 
 pub suffix-returns-in_ok-results-in-Call-clause-of : goal.suffix-returns-in_ok-results-in-Call-clause-of
@@ -375,14 +420,16 @@ suffixes-loop-suffix-preserved g t c =
       falls = omega (arith, c.in_ok-v.ensures.runs.falls, c.loop-suffix.invariant.falls);
       fits = c.in_ok-v.ensures.runs.fits;
       of = c.in_ok-v.ensures.of;
-      smaller = rest_smaller size-Suffix c.loop-suffix.suffixes.now c.in-Some.others.now c.in-Some.suffix.now (most size-Suffix c.args.suffixes.now) c.in-Some.ensures.cases.0 c.loop-suffix.invariant.smaller;
+      smaller = rest_smaller size-Suffix c.loop-suffix.suffixes.now c.in-Some.others.now c.in-Some.suffix.now
+      (most size-Suffix c.args.suffixes.now) c.in-Some.ensures.cases.0 c.loop-suffix.invariant.smaller;
     }
 
 pub suffixes-returns-clause-runs : goal.suffixes-returns-clause-runs
 suffixes-returns-clause-runs g t c =
     let run = run_of g.H.Host.begin_step g.H.Host.resume_step c.args.self.now.functions c.args.self.now.most c.args.self.now.level in
     let spot = spot_of c.args.frame.now c.args.line in
-    suffixing.ended run g.H.Host.Fits spot c.args.suffixes.now c.loop-suffix.suffixes.now c.args.v c.loop-suffix.v c.args.m.now c.loop-suffix.m (g.H.Host.state c.args.host.now) (g.H.Host.state c.loop-suffix.host) c.loop-suffix.invariant.rest c.in_default.ensures.cases c.loop-suffix.invariant.fits
+    suffixing.ended run g.H.Host.Fits spot c.args.suffixes.now c.loop-suffix.suffixes.now c.args.v c.loop-suffix.v c.args.m.now c.loop-suffix.m (g.H.Host.state c.args.host.now)
+    (g.H.Host.state c.loop-suffix.host) c.loop-suffix.invariant.rest c.in_default.ensures.cases c.loop-suffix.invariant.fits
 
 pub table-returns-in_err-t-clause-runs : goal.table-returns-in_err-t-clause-runs
 table-returns-in_err-t-clause-runs g t c =
@@ -408,7 +455,8 @@ table-returns-in_err-number-clause-runs g t c =
     let spot = spot_of c.args.frame.now c.args.line in
     filling.failed_field run g.H.Host.Fits spot (made run g.H.Host.Fits spot c.args.fields.now) c.in-Some.field.now c.in-Some.others.now c.in_ok-t.t c.loop-field.number c.is_empty.result c.from_residual-in_err-number.result c.args.m.now c.loop-field.m c.field.new.m (g.H.Host.state c.args.host.now) (g.H.Host.state c.loop-field.host) (g.H.Host.state c.field.new.host)
     c.is_empty.ensures
-    (subst (λ fs. Fills run g.H.Host.Fits spot (made run g.H.Host.Fits spot c.args.fields.now) fs c.in_ok-t.t c.loop-field.number c.args.m.now (g.H.Host.state c.args.host.now) c.loop-field.m (g.H.Host.state c.loop-field.host)) c.in-Some.ensures.cases.0 c.loop-field.invariant.rest)
+    (subst (λ fs. Fills run g.H.Host.Fits spot (made run g.H.Host.Fits spot c.args.fields.now) fs c.in_ok-t.t c.loop-field.number c.args.m.now
+    (g.H.Host.state c.args.host.now) c.loop-field.m (g.H.Host.state c.loop-field.host)) c.in-Some.ensures.cases.0 c.loop-field.invariant.rest)
     c.from_residual-in_err-number.ensures.1 c.in_err-number.ensures.runs
 
 pub table-loop-field-preserved : goal.table-loop-field-preserved
@@ -418,20 +466,24 @@ table-loop-field-preserved g t c =
     record {
       rest = filling.field_filled run g.H.Host.Fits spot (made run g.H.Host.Fits spot c.args.fields.now) c.in-Some.field.now c.in-Some.others.now c.in_ok-t.t c.loop-field.number c.in_ok-number.number c.is_empty.result c.args.m.now c.loop-field.m c.field.new.m (g.H.Host.state c.args.host.now) (g.H.Host.state c.loop-field.host) (g.H.Host.state c.field.new.host)
           c.is_empty.ensures
-          (subst (λ fs. Fills run g.H.Host.Fits spot (made run g.H.Host.Fits spot c.args.fields.now) fs c.in_ok-t.t c.loop-field.number c.args.m.now (g.H.Host.state c.args.host.now) c.loop-field.m (g.H.Host.state c.loop-field.host)) c.in-Some.ensures.cases.0 c.loop-field.invariant.rest)
+          (subst (λ fs. Fills run g.H.Host.Fits spot (made run g.H.Host.Fits spot c.args.fields.now) fs c.in_ok-t.t c.loop-field.number c.args.m.now
+          (g.H.Host.state c.args.host.now) c.loop-field.m (g.H.Host.state c.loop-field.host)) c.in-Some.ensures.cases.0 c.loop-field.invariant.rest)
           c.in_ok-number.ensures.runs;
       falls = omega (arith, c.in_ok-number.ensures.runs.falls, c.loop-field.invariant.falls);
       fits = c.in_ok-number.ensures.runs.fits;
       of = omega (arith, c.in_ok-number.ensures.runs.grows.tables, c.loop-field.invariant.of);
-      smaller = rest_smaller size-Field c.loop-field.fields.now c.in-Some.others.now c.in-Some.field.now (most size-Field c.args.fields.now) c.in-Some.ensures.cases.0 c.loop-field.invariant.smaller;
+      smaller = rest_smaller size-Field c.loop-field.fields.now c.in-Some.others.now c.in-Some.field.now
+      (most size-Field c.args.fields.now) c.in-Some.ensures.cases.0 c.loop-field.invariant.smaller;
     }
 
 pub table-returns-clause-runs : goal.table-returns-clause-runs
 table-returns-clause-runs g t c =
     let run = run_of g.H.Host.begin_step g.H.Host.resume_step c.args.self.now.functions c.args.self.now.most c.args.self.now.level in
     let spot = spot_of c.args.frame.now c.args.line in
-    filling.all_filled run g.H.Host.Fits spot (made run g.H.Host.Fits spot c.args.fields.now) c.in_ok-t.t c.loop-field.number c.args.m.now c.loop-field.m (g.H.Host.state c.args.host.now) (g.H.Host.state c.loop-field.host)
-    (subst (λ fs. Fills run g.H.Host.Fits spot (made run g.H.Host.Fits spot c.args.fields.now) fs c.in_ok-t.t c.loop-field.number c.args.m.now (g.H.Host.state c.args.host.now) c.loop-field.m (g.H.Host.state c.loop-field.host))
+    filling.all_filled run g.H.Host.Fits spot (made run g.H.Host.Fits spot c.args.fields.now) c.in_ok-t.t c.loop-field.number c.args.m.now c.loop-field.m (g.H.Host.state c.args.host.now)
+    (g.H.Host.state c.loop-field.host)
+    (subst (λ fs. Fills run g.H.Host.Fits spot (made run g.H.Host.Fits spot c.args.fields.now) fs c.in_ok-t.t c.loop-field.number c.args.m.now
+    (g.H.Host.state c.args.host.now) c.loop-field.m (g.H.Host.state c.loop-field.host))
     (nil_from_length c.loop-field.fields.now c.in_default.ensures.cases) c.loop-field.invariant.rest) c.loop-field.invariant.fits
 
 pub values-returns-in_err-more-clause-runs : goal.values-returns-in_err-more-clause-runs
@@ -490,4 +542,5 @@ pub values-returns-clause-runs : goal.values-returns-clause-runs
 values-returns-clause-runs g t c =
     let run = run_of g.H.Host.begin_step g.H.Host.resume_step c.args.self.now.functions c.args.self.now.most c.args.self.now.level in
     let spot = spot_of c.args.frame.now c.args.line in
-    many-values.all_there run g.H.Host.Fits spot c.args.exps.now c.loop-exp.exps.now c.loop-exp.values c.args.m.now c.loop-exp.m (g.H.Host.state c.args.host.now) (g.H.Host.state c.loop-exp.host) c.loop-exp.invariant.rest c.in_default.ensures.cases c.loop-exp.invariant.fits
+    many-values.all_there run g.H.Host.Fits spot c.args.exps.now c.loop-exp.exps.now c.loop-exp.values c.args.m.now c.loop-exp.m (g.H.Host.state c.args.host.now)
+    (g.H.Host.state c.loop-exp.host) c.loop-exp.invariant.rest c.in_default.ensures.cases c.loop-exp.invariant.fits
