@@ -51,3 +51,4 @@ pub mod TurnsLeft
 pub mod Beyond
 pub mod Stepping
 pub mod Followed
+pub mod StatRuns
