@@ -37,11 +37,22 @@ fn file_of(alloc: Global, first: [u8; 4]) -> Result<Vec<u8>, AllocError> {
     for code in 45..123u8 {
         file.extend_from_slice(&char_word(code))?;
     }
-    put_words(&mut file, [0u32, 0x0008_0000, 0, 0x0007_0000, 0, 0].as_slice())?;
-    for step in [first, [128, 102, 0, 48], [128, 105, 0, 50], [128, 118, 128, 0]] {
+    put_words(
+        &mut file,
+        [0u32, 0x0008_0000, 0, 0x0007_0000, 0, 0].as_slice(),
+    )?;
+    for step in [
+        first,
+        [128, 102, 0, 48],
+        [128, 105, 0, 50],
+        [128, 118, 128, 0],
+    ] {
         file.extend_from_slice(&step)?;
     }
-    put_words(&mut file, [0xffff_0000u32, 0, 0x0004_0000, 0x0002_0000, 0x0001_0000].as_slice())?;
+    put_words(
+        &mut file,
+        [0xffff_0000u32, 0, 0x0004_0000, 0x0002_0000, 0x0001_0000].as_slice(),
+    )?;
     Ok(file)
 }
 

@@ -2,9 +2,10 @@
 
 use super::compare::{Line, Wanted, line_is, nodes_are};
 use super::matter::{FILL, FONT_SPACE, ZERO, broken, list_of, params_of, set, small_font};
-use ntx_item::GlueSpec;
-use ntx_nodes::{Field, FieldValue, PlainHeap};
+use ntx_item::{GlueSpec, Param};
+use ntx_nodes::{Field, FieldValue, ListKind, PlainHeap};
 use ntx_tfm::read_font;
+use ntx_view::items;
 use std::test;
 
 #[test]
@@ -13,7 +14,10 @@ fn eight_letters_in_two_lines(rt: HostRuntime) -> Result<(), test::Fail> {
     let fonts = [read_font(rt.alloc(), &bytes, "T", None)?];
     let mut heap = PlainHeap::new(rt.alloc(), 1)?;
     let head = list_of(&mut heap, "aawaawaawaaPf")?;
-    let params = params_of(1_474_560, ZERO, ZERO);
+    let matter = items(rt.alloc(), &mut heap, &fonts, Some(head), ListKind::H)?;
+    assert!(rt; matter.len() == 13);
+    let mut params = params_of(1_474_560, ZERO, ZERO);
+    let _set = params.put(Param::Interlinepenalty, 7);
     let (head, count) = broken(rt.alloc(), &mut heap, &fonts, head, &params)?;
     assert!(rt; count == 2);
     let a = Wanted::Letter;
@@ -32,7 +36,7 @@ fn eight_letters_in_two_lines(rt: HostRuntime) -> Result<(), test::Fail> {
             ..ZERO
         },
     );
-    let at = nodes_are(&rt, &heap, at, &[Wanted::Penalty(300), between])?;
+    let at = nodes_are(&rt, &heap, at, &[Wanted::Penalty(307), between])?;
     let fill = Wanted::Glue(15, FILL);
     let last = Line {
         list: &[a, a, space, a, a, Wanted::Penalty(10_000), fill, end],
