@@ -33,6 +33,10 @@ pub mod ManyValues
 pub mod Suffixing
 pub mod Operating
 pub mod Filling
+pub mod OneValued
+pub mod PartLists
+pub mod FieldRuns
+pub mod PrefixRuns
 pub mod Assigning
 pub mod Reaching
 pub mod Turning

@@ -22,6 +22,13 @@ use ntx_values::Value;
 use sqlite_items::Items;
 use std::alloc::Global;
 
+/// An integer as a value.
+fn integer(n: &i64) -> Value
+    ensures { result ≡ value.Int n.now }
+{
+    Value::Int(*n)
+}
+
 impl<
     'a,
     H: Host,
@@ -57,7 +64,7 @@ impl<
             Exp::Nil => Ok(Value::Nil),
             Exp::False => Ok(Value::Bool(false)),
             Exp::True => Ok(Value::Bool(true)),
-            Exp::Numeral(n) => Ok(Value::Int(*n)),
+            Exp::Numeral(n) => Ok(integer(n)),
             Exp::Text(bytes) => self.text(m, host, bytes.as_slice(), line),
             Exp::Function(body) => self.function(m, host, frame, line, *body),
             Exp::Prefix(prefix) => {

@@ -119,7 +119,7 @@ impl<
         }
     }
 
-    /// All values of a prefix: those of a call, if it ends in one.
+    /// All values of a prefix: those of its last part, if it has one after its head.
     #[cycle(exps)]
     pub fn prefix_values(
         &self,
@@ -136,14 +136,40 @@ impl<
         ensures of { IfOk result (AreOf m.new.store) }
     {
         let v = self.head(m, host, frame, line, &prefix.head)?;
-        match prefix.suffixes.as_slice() {
-            [others @ .., Suffix::Call(arguments)] => {
-                let f = self.suffixes(m, host, frame, line, v, others)?;
-                let values = self.values(m, host, frame, line, arguments.as_slice())?;
-                self.call(m, host, f, values.as_slice(), line)
+        match prefix.suffixes.as_slice().split_last() {
+            None => Ok(self.single(v)?),
+            Some((last, others)) => {
+                let v = self.suffixes(m, host, frame, line, v, others)?;
+                self.suffix_values(m, host, frame, line, v, last)
             }
-            suffixes => {
-                let v = self.suffixes(m, host, frame, line, v, suffixes)?;
+        }
+    }
+
+    /// All values of what stands after a value.
+    #[cycle(exps)]
+    fn suffix_values(
+        &self,
+        m: &mut Machine,
+        host: &mut H,
+        frame: &Frame,
+        line: u64,
+        v: Value,
+        suffix: &Suffix,
+    ) -> Result<Items<Value>, Fail<ScriptStop>>
+        requires enters { Enters H.state H.Fits (world_of H.begin_step H.resume_step) self.now.functions self.now.most self.now.level (C.pre self.now.enter) (C.post self.now.enter) }
+        requires fits { H.Fits (H.state host.old) m.old.store }
+        requires most { m.old.charges ≤ self.now.most }
+        requires value { IsOf m.old.store v }
+        ensures runs { Runs H.Fits result m.old (H.state host.old) m.new (H.state host.new) (code.suffix_code (run_of H.begin_step H.resume_step self.now.functions self.now.most self.now.level) suffix.now v (spot_of frame.now line)) }
+        ensures of { IfOk result (AreOf m.new.store) }
+    {
+        match suffix {
+            Suffix::Call(arguments) => {
+                let values = self.values(m, host, frame, line, arguments.as_slice())?;
+                self.call(m, host, v, values.as_slice(), line)
+            }
+            _ => {
+                let v = self.suffix(m, host, frame, line, v, suffix)?;
                 Ok(self.single(v)?)
             }
         }

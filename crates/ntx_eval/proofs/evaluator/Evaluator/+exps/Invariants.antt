@@ -41,6 +41,9 @@ decreases-suffixes g l = 3 * most size-Suffix l.suffixes.now + 1
 abbrev pub decreases-suffix : goal.decreases-suffix
 decreases-suffix g l = 3 * size-Suffix l.suffix.now
 
+abbrev pub decreases-suffix_values : goal.decreases-suffix_values
+decreases-suffix_values g l = 3 * size-Suffix l.suffix.now + 1
+
 abbrev pub decreases-prefix_values : goal.decreases-prefix_values
 decreases-prefix_values g l = 3 * size-Prefix l.prefix.now
 
