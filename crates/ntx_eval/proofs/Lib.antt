@@ -52,3 +52,4 @@ pub mod Beyond
 pub mod Stepping
 pub mod Followed
 pub mod StatRuns
+pub mod PlacesOf
