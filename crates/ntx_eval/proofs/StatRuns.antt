@@ -1,6 +1,7 @@
 -- What a call has run of a statement that runs no other, from what it has run of its parts.
 use Rattle.std.proofs.Common.{◌≡◌, ℕ, List, [], ◌∷◌, ◌++◌, length, slice_set, Result, Ok, Err, refl, sym, ap, arith}
 use Rattle.std.specs.Result.{IsErrAnd}
+use Rattle.ntx_num.specs.Answer.{result_map}
 use Rattle.ntx_num.specs.declared.answer.Fail.{Fail}
 use Rattle.ntx_syntax.specs.declared.tree.LocalName.{LocalName}
 use Rattle.ntx_resolve.specs.declared.code.Exp.{Exp}
@@ -23,6 +24,7 @@ use Rattle.ntx_eval.specs.inner.Turns.{with_locals}
 use Rattle.ntx_eval.specs.inner.Runs.{Runs}
 use Rattle.ntx_eval.specs.declared.stop.ScriptStop.{ScriptStop}
 use Rattle.ntx_eval.proofs.Running.{after-give, goes_on, stops, gives, said, alike}
+use Rattle.ntx_eval.proofs.Binding.{err_mapped}
 use Rattle.ntx_eval.proofs.FirstValues.{goes_on_first, stops_first}
 
 after-unit : {S : Type 0} (e : Ending S (Unit {0})) → after e (λ _. give tt) ≡ e
@@ -96,9 +98,9 @@ module _ {S : Type 0} (fits : S → StoreState → Type 0) (run : Setting (Kept 
       (goes_on (λ f. write_cell cell f >>= λ _. give (spot.locals ++ cell ∷ [])) (alike (λ z. new_function k (with_locals spot z)) (sym longer_is) part)
       (goes_on (λ _. give (spot.locals ++ cell ∷ [])) written (alike (λ z. give z) (sym longer_is) (gives longer new h1 written.fits)))))
 
-  pub no_local_function : (k cell : ℕ) (longer : List ℕ) {f : Fail ScriptStop} (r : Result (List ℕ) (Fail ScriptStop)) {old begun new : MachineState} {h h1 : S}
+  pub no_local_function : (k cell : ℕ) (longer : List ℕ) {f : Fail ScriptStop} (r : Result (Unit {0}) (Fail ScriptStop)) {old begun new : MachineState} {h h1 : S}
       → cell ≡ length old.cells → begun ≡ with_cells old (old.cells ++ Nil ∷ []) → fits h old.store → longer ≡ spot.locals ++ cell ∷ [] → IsErrAnd r (λ y. y ≡ f)
-      → Runs {A = Value} fits (Err f) begun h new h1 (new_function k (with_locals spot longer)) → Runs fits r old h new h1 (local_function k spot)
-  no_local_function k cell longer r {old = old} {begun = begun} {h = h} at is fit longer_is fails part =
+      → Runs {A = Value} fits (Err f) begun h new h1 (new_function k (with_locals spot longer)) → Runs fits (result_map (λ u. longer) r) old h new h1 (local_function k spot)
+  no_local_function k cell longer {f = e} r {old = old} {begun = begun} {h = h} at is fit longer_is fails part =
       said (new_cell Nil >>= with_function k) refl (goes_on (with_function k) (new_cell_runs Nil cell old begun h at is fit)
-      (stops (λ f. write_cell cell f >>= λ _. give (spot.locals ++ cell ∷ [])) fails (alike (λ z. new_function k (with_locals spot z)) (sym longer_is) part)))
+      (stops (λ f. write_cell cell f >>= λ _. give (spot.locals ++ cell ∷ [])) (err_mapped (λ y. y ≡ e) (λ u. longer) r fails) (alike (λ z. new_function k (with_locals spot z)) (sym longer_is) part)))
