@@ -45,3 +45,4 @@ pub mod Within
 pub mod Choosing
 pub mod TurnsLeft
 pub mod Beyond
+pub mod Entered
