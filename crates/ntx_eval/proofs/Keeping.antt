@@ -1,5 +1,5 @@
 -- The variables that are in scope stay there, in front of new ones, and a place whose variables are dropped again is the place that it was.
-use Rattle.std.proofs.Common.{◌≡◌, ◌∙◌, ℕ, List, [], ◌∷◌, ◌++◌, length, take, Result, Ok, Err, refl, sym, ap, subst}
+use Rattle.std.proofs.Common.{◌≡◌, ◌∙◌, ℕ, List, [], ◌∷◌, ◌++◌, length, take, Result, Ok, Err, refl, ap, subst, arith}
 use Rattle.std.specs.Prelude.{OnOk}
 use Rattle.std.proofs.lemmas.List.{append_assoc}
 use Rattle.std.proofs.Math.Seq.{take-append_seam, take-length}
@@ -62,20 +62,30 @@ local_keeps run names exps spot s = then_keeps spot.locals (exps_code run exps s
 
 pub local_function_keeps : {S : Type 0} (k : ℕ) (spot : Spot) (s : State (Kept S)) → Keeps spot.locals (local_function k spot s)
 local_function_keeps k spot s =
-    then_keeps spot.locals (new_cell Nil s) _ (λ cell t. then_keeps spot.locals (new_function k (with_locals spot (spot.locals ++ cell ∷ [])) t) _
-    (λ f u. then_keeps spot.locals (write_cell cell f u) _ (λ _ w. one_longer spot.locals spot.locals cell (itself spot.locals))))
+    then_keeps spot.locals (new_cell Nil s) (λ cell. new_function k (with_locals spot (spot.locals ++ cell ∷ [])) >>= λ f. write_cell cell f >>= λ _. give (spot.locals ++ cell ∷ []))
+    (λ cell t. then_keeps spot.locals (new_function k (with_locals spot (spot.locals ++ cell ∷ [])) t) (λ f. write_cell cell f >>= λ _. give (spot.locals ++ cell ∷ []))
+    (λ f u. then_keeps spot.locals (write_cell cell f u) (λ _. give (spot.locals ++ cell ∷ [])) (λ _ w. one_longer spot.locals spot.locals cell (itself spot.locals))))
 
 pub kept_in : {S : Type 0} {fits : S → StoreState → Type 0} (base locals : List ℕ) (action : Action (Kept S) (List ℕ)) {old new : MachineState} {h h' : S}
     → Runs fits (Ok locals) old h new h' action → Keeps base (action (state_of old h)) → take (length base) locals ≡ base
 kept_in base locals action {new = new} {h' = h'} runs keeps =
     let longer : Longer base locals = subst (λ e. Keeps base e) runs.meets keeps in ap (λ z. take (length base) z) longer.is ∙ take-append_seam base longer.more
 
+abbrev tail_of : List ℕ → List ℕ
+tail_of [] = []
+tail_of (x ∷ xs) = xs
+
+abbrev head_of : List ℕ → ℕ
+head_of [] = 0
+head_of (x ∷ xs) = x
+
 -- what is in front of the longer of two is in front of the other too
 pub kept_again : (xs ys zs : List ℕ) → take (length xs) ys ≡ xs → take (length ys) zs ≡ ys → take (length xs) zs ≡ xs
-kept_again [] ys zs first second = refl
-kept_again (x ∷ xs) [] zs first second = first
-kept_again (x ∷ xs) (y ∷ ys) [] first second = absurd second
-kept_again (x ∷ xs) (y ∷ ys) (z ∷ zs) first second = grind
+kept_again [] ys zs in_front longer = refl
+kept_again (x ∷ xs) [] zs in_front longer = let none : 0 ≡ length (x ∷ xs) = ap (λ z. length z) in_front in absurd (omega (arith, none))
+kept_again (x ∷ xs) (y ∷ ys) [] in_front longer = let none : 0 ≡ length (y ∷ ys) = ap (λ z. length z) longer in absurd (omega (arith, none))
+kept_again (x ∷ xs) (y ∷ ys) (z ∷ zs) in_front longer =
+    ap (λ v. v ∷ take (length xs) zs) (ap head_of longer ∙ ap head_of in_front) ∙ ap (λ v. x ∷ v) (kept_again xs ys zs (ap tail_of in_front) (ap tail_of longer))
 
 -- ---- places
 
