@@ -11,6 +11,7 @@
 //! | `hyphens-500`, `hyphens-5000` | N words are hyphenated by so many patterns |
 //! | `documents` | a document of N bytes is read |
 //! | `paragraphs` | a paragraph of N items is broken into lines |
+//! | `ligatures` | a list of N glyphs gets its ligatures |
 //!
 //! `ntx_bench hyphens-of N FILE` hyphenates N words by the patterns of a file.
 //!
@@ -20,6 +21,7 @@
 mod documents;
 mod fault;
 mod hyphens;
+mod ligatures;
 mod paragraphs;
 mod scripts;
 mod store;
@@ -47,6 +49,7 @@ fn work(alloc: Global, workload: &str, n: u64) -> Result<(), Fault> {
         "hyphens-5000" => hyphens::hyphenate_by(alloc, 5000, n),
         "documents" => documents::read(alloc, n),
         "paragraphs" => paragraphs::break_into_lines(alloc, n),
+        "ligatures" => ligatures::put_into(alloc, n),
         _ => Err(Fault::Words),
     }
 }

@@ -1,5 +1,6 @@
-//! Lists with their kerns, by hand from the rules.
+//! Lists with their kerns and ligatures, by hand from the rules.
 
 mod fonts;
 mod kerns;
+mod ligatures;
 mod lists;

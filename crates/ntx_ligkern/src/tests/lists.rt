@@ -4,9 +4,9 @@ use ntx_nodes::{Contents, DiscFields, Field, FieldValue, Fields, Kind, Nodes, Pl
 use ntx_num::Fail;
 use std::alloc::Global;
 
-/// A list as it is made. A letter is a glyph of font 0, of font 1 after `^` and of font 2 after `~`; `.` is a rule; and
-/// `[pre|post|replace]` is a discretionary with these lists. The nodes take one name after another from `first` on, in the
-/// order in which they are written.
+/// A list as it is made. A letter is a glyph of font 0, of font 1 after `^` and of font 2 after `~`; a digit is a
+/// font's kern of 10 times that; `.` is a rule; and `[pre|post|replace]` is a discretionary with these lists. The nodes take one
+/// name after another from `first` on, in the order in which they are written.
 #[derive(Drop)]
 struct Making {
     /// The node and the link that is to lead to what comes next.
@@ -81,6 +81,14 @@ impl Making {
         Ok(())
     }
 
+    fn put_kern(&mut self, heap: &mut PlainHeap, digit: u8) -> Result<(), Fail<Trouble>> {
+        let n = made(heap, Kind::Kern, 0, self.at)?;
+        let width = i64::from(digit.wrapping_sub(b'0')) * 10;
+        set(heap, n, Field::Kern, FieldValue::Number(width))?;
+        self.at = Some((n, Field::Next));
+        Ok(())
+    }
+
     fn put_rule(&mut self, heap: &mut PlainHeap) -> Result<(), Fail<Trouble>> {
         let n = made(heap, Kind::Rule, 0, self.at)?;
         self.at = Some((n, Field::Next));
@@ -95,6 +103,7 @@ impl Making {
             b'^' => self.font = 1,
             b'~' => self.font = 2,
             b'.' => self.put_rule(heap)?,
+            b'1'..=b'9' => self.put_kern(heap, byte)?,
             _ => self.put_glyph(heap, byte)?,
         }
         Ok(())

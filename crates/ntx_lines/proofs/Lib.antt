@@ -1,0 +1,12 @@
+pub mod Endings
+pub mod Begins
+pub mod Makings
+pub mod Disc
+pub mod Found
+pub mod BeginsLines
+pub mod Boxes
+pub mod Stacking
+pub mod OneLine
+pub mod AllLines
+pub mod Whole
+pub mod Words

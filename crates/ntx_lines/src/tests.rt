@@ -1,0 +1,6 @@
+mod breaks;
+mod compare;
+mod matter;
+mod refusals;
+mod rows;
+mod skips;
