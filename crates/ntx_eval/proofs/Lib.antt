@@ -53,3 +53,4 @@ pub mod Stepping
 pub mod Followed
 pub mod StatRuns
 pub mod PlacesOf
+pub mod Keeping
