@@ -54,3 +54,4 @@ pub mod Followed
 pub mod StatRuns
 pub mod PlacesOf
 pub mod Keeping
+pub mod Entered

@@ -8,9 +8,10 @@ use Rattle.ntx_values.specs.declared.why.LuaWhy.TheVariants.{Levels}
 use Rattle.ntx_eval.specs.State.{Function}
 use Rattle.ntx_eval.specs.Host.{World}
 use Rattle.ntx_eval.specs.Ending.{Action, give, fault, ◌>>=◌, ◌>>◌}
-use Rattle.ntx_eval.specs.Setting.{Setting, call}
+use Rattle.ntx_eval.specs.Setting.{Setting, call, follow}
 use Rattle.ntx_eval.specs.Meaning.{body_meaning}
 use Rattle.ntx_eval.specs.Calls.{max_levels, function_at, run_function, enter_value, enter_at, body_of}
+use Rattle.ntx_eval.specs.declared.host.HostStep.{HostStep}
 use Rattle.ntx_eval.proofs.Related.{Kept}
 use Rattle.ntx_eval.proofs.RelatedParts as parts
 use Rattle.ntx_eval.proofs.RelatedParts.{given}
@@ -57,3 +58,6 @@ module _ {S : Type 0} (R : (A : Type 0) → Action S A → Action S A → Type 0
 
   pub outer_calls : (n n' : ℕ) → n ≤ n' → (f : Value) (args : List Value) → R _ (call (at_level_0 n) f args 0) (call (at_level_0 n') f args 0)
   outer_calls n n' most f args = parts.calls R kept world n n' most (enters_of n 0) (enters_of n' 0) (enters n n' most 0) f args 0
+
+  pub drives : (n n' : ℕ) → n ≤ n' → (first : HostStep) → R _ (follow (at_level_0 n) first 0) (follow (at_level_0 n') first 0)
+  drives n n' most first = parts.follows R kept world n n' most (enters_of n 0) (enters_of n' 0) (enters n n' most 0) first 0

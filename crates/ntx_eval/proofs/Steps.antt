@@ -12,7 +12,7 @@ use Rattle.ntx_eval.specs.Variables.{on_store}
 use Rattle.ntx_eval.specs.Setting.{library_call}
 use Rattle.ntx_eval.specs.Laws.{Falls, StepsNeverRise, with_more, RanOut, MoreStepsAreTheSame}
 use Rattle.ntx_eval.proofs.Related.{Kept}
-use Rattle.ntx_eval.proofs.RelatedCalls.{chunks, outer_calls}
+use Rattle.ntx_eval.proofs.RelatedCalls.{chunks, outer_calls, drives}
 use Rattle.ntx_eval.specs.declared.stop.ScriptStop.TheVariants.{Budget, Fault, Host}
 
 -- ---- no step comes back
@@ -58,6 +58,7 @@ pub steps_never_rise : {S : Type 0} (world : World S) → StepsNeverRise world
 steps_never_rise world = (
   (λ chunk s. chunks Fall falls world s.charges s.charges (le_refl _) chunk s),
   (λ f args s. outer_calls Fall falls world s.charges s.charges (le_refl _) f args s),
+  (λ first s. drives Fall falls world s.charges s.charges (le_refl _) first s),
 )
 
 -- ---- more steps
@@ -114,4 +115,5 @@ pub more_steps_are_the_same : {S : Type 0} (world : World S) → MoreStepsAreThe
 more_steps_are_the_same world more = (
   (λ chunk s. chunks (Same more) (same more) world s.charges (s.charges + more) (le-add_right s.charges more) chunk s),
   (λ f args s. outer_calls (Same more) (same more) world s.charges (s.charges + more) (le-add_right s.charges more) f args s),
+  (λ first s. drives (Same more) (same more) world s.charges (s.charges + more) (le-add_right s.charges more) first s),
 )

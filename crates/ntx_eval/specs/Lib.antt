@@ -24,6 +24,9 @@ pub mod Calls
 pub mod inner
 pub mod Seen
 pub mod Agreement
+-- what a script has before its first step
+pub mod CodeTexts
+pub mod Opening
 -- laws and examples
 pub mod Script
 pub mod Laws

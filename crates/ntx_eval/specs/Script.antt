@@ -9,7 +9,7 @@ use Rattle.ntx_syntax.specs.declared.tree.Exp.TheOpen.{Exp-F, Field-F, Head-F, S
 use Rattle.ntx_eval.specs.Setting.{Setting}
 use Rattle.ntx_eval.specs.Parts.{ExpMeaning, KindMeaning, StatMeaning, BlockMeaning, BodyMeaning}
 use Rattle.ntx_eval.specs.Expressions.{exp_layer, field_layer, head_layer, suffix_layer, prefix_layer, call_layer}
-use Rattle.ntx_eval.specs.Statements.{kind_layer, var_layer, arm_layer, operation_layer}
+use Rattle.ntx_eval.specs.Statements.{kind_layer, var_layer, operation_layer}
 use Rattle.ntx_eval.specs.Blocks.{block_layer, body_layer, return_layer, stat_layer}
 
 -- settings of hosts without a state
@@ -110,11 +110,5 @@ repeat_ stats e run = kind_layer run (StatKind-F.Repeat (block stats run) (e run
 abbrev pub break_ : Kind
 break_ run = kind_layer run StatKind-F.Break
 
-abbrev pub if_ : Expression → List Statement → Kind
-if_ e stats run = kind_layer run (StatKind-F.If (arm_layer (record { condition = e run; block = block stats run }) ∷ []) None)
-
 abbrev pub for_ : List ℕ → Expression → Expression → Option Expression → List Statement → Kind
 for_ name start limit step stats run = kind_layer run (StatKind-F.NumericFor (declared name) (start run) (limit run) (option_map (λ e. e run) step) (block stats run))
-
-abbrev pub for_in : List (List ℕ) → List Expression → List Statement → Kind
-for_in names es stats run = kind_layer run (StatKind-F.GenericFor (map declared names) (in_run run es) (block stats run))

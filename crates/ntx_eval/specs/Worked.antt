@@ -127,7 +127,9 @@ CallsOfNil = gives 9 empty (block (at_line 1 (local_ a nil) ∷ at_line 2 (call_
 
 -- local a = {}
 -- for i = 1, 2 do a[i] = function() return i end end
--- return a[1], a[2]: two functions, each with a variable of its own
+-- local f = a[1]
+-- a = a[2]
+-- return f(), a(): each turn has a variable of its own
 abbrev pub TurnsHaveTheirOwnVariables : Type 0
 TurnsHaveTheirOwnVariables = gives 20 (body [] (block_with [] 2 (var i ∷ [])))
     (block_with (at_line 1 (local_ a (list_of [])) ∷ at_line 2 (for_ i (num (pos 1)) (num (pos 2)) None (at_line 2 (assign_item a (var i) (function_ empty)) ∷ [])) ∷ at_line 3 (local_ f (item a (num (pos 1)))) ∷ at_line 4 (assign a (item a (num (pos 2)))) ∷ [])

@@ -42,7 +42,7 @@ pub trait Host {
     /// What `resume` answers, with the state and the store after.
     ghost resume_step: { List Value → State → StoreState → Answered State };
 
-    /// Begins a primitive with these arguments. It is not one of the library.
+    /// Begins a primitive with these arguments. A script's call of a function of the library does not come here.
     fn begin(
         &mut self,
         store: &mut Store,

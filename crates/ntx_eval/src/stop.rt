@@ -17,7 +17,7 @@ pub struct ScriptFault {
 pub enum ScriptStop {
     /// It met a fault.
     Fault(ScriptFault),
-    /// Its steps ran out at a statement of this line.
+    /// Its steps ran out at a line: that of the statement that ran or was about to begin, and 0 if there was none.
     Budget(u64),
     /// The host failed outside the chunk and any function of the script.
     Host(LuaWhy),

@@ -3,7 +3,7 @@
 ghost use Rattle.std.specs.Prelude.{◌≡◌, [], IfOk};
 ghost use Rattle.ntx_syntax.specs.declared.tree.Chunk.{Chunk};
 ghost use Rattle.ntx_resolve.specs.HasCode.{HasCode};
-ghost use Rattle.ntx_values.specs.State.{IsOf, AreOf};
+ghost use Rattle.ntx_values.specs.State.{IsOf, AreOf, Grows};
 ghost use Rattle.ntx_lualib.specs.Library.{called};
 ghost use Rattle.ntx_eval.specs.State.{State};
 ghost use Rattle.ntx_eval.specs.Host.{StepIsOf};
@@ -70,6 +70,7 @@ impl Vm {
         requires fits { H.Fits (H.state host.old) self.old.machine.store }
         ensures ends { (chunk : Chunk) → HasCode chunk self.old.code → (s : State H.State) → Shows self.old.code self.old.machine (H.state host.old) s → Ends self.old.code result self.new.machine (H.state host.new) (meaning.run_chunk (world H.begin_step H.resume_step) chunk s) }
         ensures code { self.new.code ≡ self.old.code }
+        ensures grows { Grows self.old.machine.store self.new.machine.store }
         ensures fits { H.Fits (H.state host.new) self.new.machine.store }
     {
         let mut frame = Frame {
@@ -106,8 +107,9 @@ impl Vm {
         requires fits { H.Fits (H.state host.old) self.old.machine.store }
         requires function { IsOf self.old.machine.store f }
         requires args { AreOf self.old.machine.store args.now }
-        ensures ends { (chunk : Chunk) → HasCode chunk self.old.code → (s : State H.State) → Shows self.old.code self.old.machine (H.state host.old) s → Ends self.old.code result self.new.machine (H.state host.new) (meaning.call_function (world H.begin_step H.resume_step) f args.now s) }
+        ensures ends { (s : State H.State) → Shows self.old.code self.old.machine (H.state host.old) s → Ends self.old.code result self.new.machine (H.state host.new) (meaning.call_function (world H.begin_step H.resume_step) f args.now s) }
         ensures code { self.new.code ≡ self.old.code }
+        ensures grows { Grows self.old.machine.store self.new.machine.store }
         ensures fits { H.Fits (H.state host.new) self.new.machine.store }
         ensures of { IfOk result (AreOf self.new.machine.store) }
     {
@@ -136,8 +138,9 @@ impl Vm {
     ) -> Result<Items<Value>, Fail<ScriptStop>>
         requires fits { H.Fits (H.state host.old) self.old.machine.store }
         requires step { StepIsOf self.old.machine.store first }
-        ensures ends { (chunk : Chunk) → HasCode chunk self.old.code → (s : State H.State) → Shows self.old.code self.old.machine (H.state host.old) s → Ends self.old.code result self.new.machine (H.state host.new) (meaning.drive (world H.begin_step H.resume_step) first s) }
+        ensures ends { (s : State H.State) → Shows self.old.code self.old.machine (H.state host.old) s → Ends self.old.code result self.new.machine (H.state host.new) (meaning.drive (world H.begin_step H.resume_step) first s) }
         ensures code { self.new.code ≡ self.old.code }
+        ensures grows { Grows self.old.machine.store self.new.machine.store }
         ensures fits { H.Fits (H.state host.new) self.new.machine.store }
         ensures of { IfOk result (AreOf self.new.machine.store) }
     {
