@@ -4,6 +4,7 @@ ghost use Rattle.std.specs.Prelude.{◌≡◌, [], IfOk};
 ghost use Rattle.ntx_syntax.specs.declared.tree.Chunk.{Chunk};
 ghost use Rattle.ntx_resolve.specs.HasCode.{HasCode};
 ghost use Rattle.ntx_values.specs.State.{IsOf, AreOf, Grows};
+ghost use Rattle.ntx_values.specs.declared.value.Value.TheVariants as value;
 ghost use Rattle.ntx_lualib.specs.Library.{called};
 ghost use Rattle.ntx_eval.specs.State.{State};
 ghost use Rattle.ntx_eval.specs.Host.{StepIsOf};
@@ -18,7 +19,7 @@ use crate::opening::opened;
 use crate::{Host, HostStep, ScriptStop};
 use ntx_num::Fail;
 use ntx_resolve::Code;
-use ntx_values::{LuaWhy, Store, Value};
+use ntx_values::{LuaWhy, Store, TableId, Value};
 use sqlite_items::Items;
 use std::alloc::Global;
 use std::marker::{Model, PhantomData};
@@ -170,5 +171,13 @@ impl Vm {
         ensures { result.now ≡ self.now.machine.store }
     {
         self.machine.store()
+    }
+
+    /// The table of globals.
+    pub fn globals(&self) -> TableId
+        ensures value { result ≡ self.now.machine.globals }
+        ensures of { IsOf self.now.machine.store (value.Table result) }
+    {
+        self.machine.globals()
     }
 }
