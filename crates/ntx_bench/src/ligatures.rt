@@ -7,7 +7,7 @@ use ntx_tfm::{Font, read_font};
 use std::alloc::{AllocError, Global};
 
 /// The letters of a list, over and over.
-const LETTERS: &[u8] = b"difficult/offices/find/little/flowers/";
+static LETTERS: [u8; 38] = *b"difficult/offices/find/little/flowers/";
 
 /// The lengths of the parts of the file: lf, lh, bc, ec, nw, nh, nd, ni, nl, nk, ne, np.
 const LENGTHS: [u16; 12] = [113, 2, 32, 126, 2, 2, 1, 1, 4, 0, 0, 0];
@@ -70,17 +70,17 @@ fn put(heap: &mut PlainHeap, last: Option<u64>, code: u8) -> Result<u64, Fault> 
     Ok(n)
 }
 
+/// The letter at a place of the list, counted from 0.
+fn letter(place: u64) -> u8 {
+    let at = (place % 38) as usize;
+    LETTERS.get(at).copied().unwrap_or(b'/')
+}
+
 /// Makes a list of `n` glyphs, at most 2^18, the first of which has the name 1.
 fn put_all(heap: &mut PlainHeap, n: u64) -> Result<(), Fault> {
     let mut last = None;
-    let mut made = 0;
-    while made < n {
-        for code in LETTERS {
-            if made < n {
-                last = Some(put(heap, last, *code)?);
-                made += 1;
-            }
-        }
+    for place in 0..n {
+        last = Some(put(heap, last, letter(place))?);
     }
     Ok(())
 }
