@@ -1,5 +1,5 @@
 -- What a call has run of a field of a table, from what it has run of its parts.
-use Rattle.std.proofs.Common.{◌≡◌, ◌∙◌, ℕ, ◌+◌, Bool, true, false, List, [], ◌∷◌, drop, length, get_or, ◌<◌, ◌≤◌, pos, Result, Ok, Err, refl, sym, ap, subst}
+use Rattle.std.proofs.Common.{◌≡◌, ℕ, ◌+◌, Bool, true, false, List, ◌∷◌, drop, length, get_or, ◌<◌, ◌≤◌, Result, Ok, Err, ap, subst}
 use Rattle.std.proofs.lemmas.List.{drop_more, drop_all}
 use Rattle.std.specs.Result.{IsErrAnd}
 use Rattle.ntx_num.specs.declared.answer.Fail.{Fail}
@@ -7,13 +7,11 @@ use Rattle.ntx_resolve.specs.declared.code.Exp.{Exp}
 use Rattle.ntx_resolve.specs.declared.code.Field.{Field}
 use Rattle.ntx_resolve.specs.declared.code.Exp.TheVariants as exp
 use Rattle.ntx_resolve.specs.declared.code.Field.TheVariants as field
-use Rattle.ntx_values.specs.Value.{is_nil}
 use Rattle.ntx_values.specs.State.{StoreState}
 use Rattle.ntx_values.specs.declared.value.Value.{Value}
-use Rattle.ntx_values.specs.declared.value.Value.TheVariants.{Int, Table}
+use Rattle.ntx_values.specs.declared.value.Value.TheVariants.{Table}
 use Rattle.ntx_values.specs.declared.value.TableId.{TableId}
-use Rattle.ntx_eval.specs.State.{State}
-use Rattle.ntx_eval.specs.Ending.{Action, give, after, ◌>>=◌, ◌>>◌}
+use Rattle.ntx_eval.specs.Ending.{Action, give, ◌>>=◌, ◌>>◌}
 use Rattle.ntx_eval.specs.Variables.{text}
 use Rattle.ntx_eval.specs.Setting.{Setting}
 use Rattle.ntx_eval.specs.Fields.{write_field}

@@ -1,5 +1,5 @@
 -- What a call has run of a prefix of which all values are wanted, and of what stands after a value.
-use Rattle.std.proofs.Common.{◌≡◌, ◌∙◌, ℕ, length, List, [], ◌∷◌, ◌++◌, map, Result, Ok, Err, refl, sym, ap}
+use Rattle.std.proofs.Common.{◌≡◌, ◌∙◌, ℕ, length, List, [], ◌∷◌, ◌++◌, map, Result, Ok, Err, sym, ap}
 use Rattle.std.proofs.lemmas.List.{nil_from_length}
 use Rattle.std.specs.Result.{IsErrAnd}
 use Rattle.ntx_num.specs.declared.answer.Fail.{Fail}
@@ -12,7 +12,7 @@ use Rattle.ntx_resolve.specs.declared.code.Suffix.TheVariants as suffix
 use Rattle.ntx_values.specs.State.{StoreState}
 use Rattle.ntx_values.specs.declared.value.Value.{Value}
 use Rattle.ntx_eval.specs.State.{State}
-use Rattle.ntx_eval.specs.Ending.{Action, Ending, give, after, ◌>>=◌}
+use Rattle.ntx_eval.specs.Ending.{Action, give, after, ◌>>=◌}
 use Rattle.ntx_eval.specs.Variables.{text, first}
 use Rattle.ntx_eval.specs.Setting.{Setting, call}
 use Rattle.ntx_eval.specs.Fields.{read_field}

@@ -1,4 +1,4 @@
-use Rattle.std.proofs.Common.{ℕ, ◌+◌, ◌*◌, ◌≤◌, List, length, map}
+use Rattle.std.proofs.Common.{◌+◌, ◌*◌, ◌≤◌, length}
 use denote.Param.Weighed.{most}
 use Rattle.ntx_resolve.specs.declared.code.Exp.{size-Exp}
 use Rattle.ntx_resolve.specs.declared.code.Field.{size-Field}
